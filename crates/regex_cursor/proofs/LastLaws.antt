@@ -1,6 +1,6 @@
 -- Matches that are found back from the slice's end, where all matches end there; and the part that a
 -- match takes.
-use Rattle.std.proofs.Common.{◌≡◌, ℕ, ◌≤◌, ◌⊎◌, Bool, true, false, IsTrue, List, length, min, Option, Some, None, option_map, refl, sym, ap, ap₂, subst, ◌∙◌, arith, inl, inr}
+use Rattle.std.proofs.Common.{◌≡◌, ℕ, ◌<◌, ◌≤◌, true, IsTrue, List, length, min, Option, Some, None, option_map, refl, sym, ap, ap₂, subst, ◌∙◌, arith, inl, inr}
 use Rattle.std.proofs.lemmas.Option.{same_Some}
 use Rattle.std.specs.Str.{IsCharBoundary}
 use Rattle.unicode.specs.Perl.{is_word_char}
@@ -8,12 +8,11 @@ use Rattle.rx_sets.specs.Sets.{Range}
 use Rattle.rx_utf8.specs.Automata.{is_in}
 use Rattle.rx_util.specs.declared.search.Span.{Span}
 use Rattle.rx_util.specs.Search.{Found, HalfFound}
-use Rattle.rx_walks.specs.Backward.{CountsBack, IsFindBack, ProgramFindsBack, anchored_as, back_from, least_back, none_back}
-use Rattle.rx_walks.specs.Finds.{Counts, IsFind, PatternMatch, Search, from_place_on, is_anchored, is_found, not_found, unanchored, up_to_place}
+use Rattle.rx_walks.specs.Backward.{CountsBack, IsFindBack, ProgramFindsBack, anchored_as, back_from, least_back}
+use Rattle.rx_walks.specs.Finds.{Counts, IsFind, PatternMatch, Search, from_place_on, is_anchored, is_found, unanchored, up_to_place}
 use Rattle.rx_walks.specs.Laws.{Begins}
 use Rattle.rx_walks.specs.Looks.{Look}
 use Rattle.rx_walks.specs.Machines.{Outcome}
-use Rattle.rx_walks.specs.Paths.{Path}
 use Rattle.rx_walks.specs.Programs.{Notes, Program, fresh_notes, put_note}
 use Rattle.rx_walks.specs.ProgramFinds.{IfStarts, end_of, haystack_of, holds_in, lowest, machine_of, start_node, start_of}
 use Rattle.rx_walks.proofs.AllFindLaws.{path_read}
@@ -101,12 +100,26 @@ back_half a = record { pattern = a.pattern; offset = a.start }
 abbrev own_match : Outcome Notes → PatternMatch
 own_match t = record { start = start_of t; pattern = t.pattern; end = t.end }
 
-module _ (p : ByteProgram) (s : Search) (turned : ReverseByteProgram) (of : IsReverseOf p turned) (ends : EndsWithSlice (characters_of p)) (free : s.anchoring ≡ unanchored) (slice : s.end ≡ s.slice_end) (fits : s.end ≤ length s.content) where
+module _ (p : ByteProgram) (s : Search) (ends : EndsWithSlice (characters_of p)) (free : s.anchoring ≡ unanchored) where
+  ends_last : (t : Outcome Notes) → Finds p s (Some t) → t.end ≡ min s.slice_end (length s.content)
+  ends_last t finds = ends is_word_char s t (ap (start_node (characters_of p)) free) finds
+
+  -- nothing is found in a span that ends before
+  pub none_before : s.end < min s.slice_end (length s.content) → Finds p s None
+  none_before before = let there = exist_law is_in is_word_char (characters_of p) s in by there.0 there.1
+    where
+      by : (out : Option (Outcome Notes)) → Finds p s out → Finds p s None
+      by None finds = finds
+      by (Some t) finds =
+          let lies = inside_law is_in is_word_char (characters_of p) s t finds in
+          absurd (omega (arith, lies.found.inside.3, ends_last t finds, before))
+
+module _ (p : ByteProgram) (s : Search) (turned : ReverseByteProgram) (of : IsReverseOf p turned) (ends : EndsWithSlice (characters_of p)) (free : s.anchoring ≡ unanchored) (last : s.end ≡ min s.slice_end (length s.content)) where
   abbrev P : Program Look (List Range)
   P = characters_of p
 
   ends_there : (t : Outcome Notes) → Finds p s (Some t) → t.end ≡ s.end
-  ends_there t finds = let e = ends is_word_char s t (ap (start_node P) free) finds in omega (arith, e, slice, fits)
+  ends_there t finds = ends_last p s ends free t finds ∙ sym last
 
   -- what is found back from there is what is found
   back_is : (t : Outcome Notes) (out : Option PatternMatch) → Finds p s (Some t) → ProgramFindsBack is_in is_word_char P (back_from s s.end) out → out ≡ Some (own_match t)

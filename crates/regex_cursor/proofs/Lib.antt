@@ -1,3 +1,4 @@
+pub mod AheadLaws
 pub mod AlikeAnswers
 pub mod BackLaws
 pub mod BetweenLaws
@@ -5,10 +6,12 @@ pub mod BuildLaws
 pub mod FewLaws
 pub mod FurtherLaws
 pub mod OrderLaws
+pub mod OtherLaws
 pub mod ShowingLaws
 pub mod PatternLemmas
 pub mod PlaceLaws
 pub mod LeftLaws
+pub mod LinearLaws
 pub mod ListingLaws
 pub mod LiteralLaws
 pub mod StrategyLaws

@@ -47,6 +47,13 @@ as_iterated e s item_of items kind all = record {
   items_are = all.items_are;
 }
 
+pub as_leftmost : {A : Type 0} (e : Engine) (s : Search) (item_of : Outcome Notes → A) (items : List A) → e.match_kind ≡ LeftmostFirst → TellsAll e s item_of items → TellsAll (leftmost_first e) s item_of items
+as_leftmost e s item_of items kind all = record {
+  matches = all.matches;
+  are_all = subst (λ k. Matches (λ i out. FindsOfKind k e.program (from_place_on s i) out) start_of end_of s.start all.matches) kind all.are_all;
+  items_are = all.items_are;
+}
+
 the_match : (x y : Found) → Some x ≡ Some y → x ≡ y
 the_match x y e = cc e
 

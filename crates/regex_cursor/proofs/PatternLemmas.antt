@@ -1,6 +1,6 @@
 -- What a regex of a pattern is, in words of the pattern's tree.
 use Rattle.std.proofs.Common.{◌≡◌, ℕ, ◌≤◌, inl, inr, Bool, false, true, List, [], ◌∷◌, length, Option, Some, refl, sym, ap, subst, ◌∙◌, arith}
-use Rattle.std.specs.Prelude.{option_map}
+use Rattle.std.specs.Prelude.{option_map, unwrap_or}
 use Rattle.std.proofs.lemmas.Bool.{cases_lt}
 use Rattle.std.proofs.lemmas.List.Elements.{All-cons, All-head, All-nil}
 use Rattle.rx_util.specs.Search.{Found}
@@ -8,7 +8,7 @@ use Rattle.rx_util.specs.declared.search.Anchored.TheVariants.{No}
 use Rattle.rx_input.specs.Inputs.{Asked, InputState}
 use Rattle.rx_walks.specs.Finds.{Search}
 use Rattle.rx_walks.specs.Programs.{Program}
-use Rattle.rx_walks.specs.Iterating.{Finding}
+use Rattle.rx_walks.specs.Iterating.{Finding, FindsNext}
 use Rattle.rx_walks.specs.Looks.{Look}
 use Rattle.rx_sets.specs.Sets.{Range}
 use Rattle.rx_program.specs.Code.{program_of}
@@ -18,6 +18,7 @@ use Rattle.rx_program.specs.declared.error.BuildError.{BuildError}
 use Rattle.rx_grammar.specs.Settings.{default_settings}
 use Rattle.rx_grammar.specs.Subtrees.{IsWellFormed}
 use Rattle.rx_steps.specs.Searching.{anchoring_of}
+use Rattle.rx_engine.proofs.GroupLaws.{noted_count}
 use Rattle.rx_engine.specs.Engines.{by_text, by_weight, memory, nesting, no_memory, outside, too_large, too_long}
 use Rattle.unicode.specs.Perl.{is_word_char}
 use Rattle.rx_utf8.specs.Automata.{is_in}
@@ -25,6 +26,7 @@ use Rattle.rx_chunk.specs.Engines.{EngineFinds, Finds}
 use Rattle.rx_chunk.proofs.KindLaws.{finds_first}
 use Rattle.regex_cursor.specs.Patterns.{FoundMatch, ProgramFinds, AsksFrom, TreeFinds, TreeFindsIn, answer_slots, match_of, pattern_weight, program_for, search_from, weight_limit}
 use Rattle.regex_cursor.specs.PatternLaws.{HasNotedGroups, SaysOfText}
+use Rattle.regex_cursor.specs.NextMatches.{TreeFindsNext}
 use Rattle.regex_cursor.specs.Regexes.{RegexView, IsRegexOf, IsRefusedAsRegex, TellsMatch, TellsSlots, search_by}
 
 pub light-of : (text : List ℕ) (re : RegexView) → (built : IsRegexOf text re) → pattern_weight built.tree ≤ weight_limit
@@ -105,6 +107,21 @@ slots-of text re built content from input pattern slots asks tells =
     let earliest : input.asked.earliest ≡ false = ap (λ a. a.earliest) asks.asked_is in
     let is = tells.exact earliest in
     (is.found, tree-finds text re built content from input is.found asks is.finds, is.pattern_is, is.slots_are)
+
+-- what comes next for an input, behind a match that ended where its span starts, comes next of the tree
+pub next-of : (text : List ℕ) (re : RegexView) → (built : IsRegexOf text re) → (content : List ℕ) (last : Option ℕ) (input : InputState) (out : Option FoundMatch)
+    → AsksFrom content (unwrap_or last 0) input → FindsNext (EngineFinds re.engine) (search_by re.engine input) last out → TreeFindsNext built.tree content last out
+next-of text re built content last input out asks comes =
+    let s = search_by re.engine input in
+    let O : Finding → Type 0 = λ finding. FindsNext finding s last out in
+    let P : Program Look (List Range) → Type 0 = λ p. FindsNext (ProgramFinds is_in is_word_char p) s last out in
+    let Q : Search → Type 0 = λ s'. FindsNext (TreeFindsIn built.tree) s' last out in
+    subst Q (search-is re content (unwrap_or last 0) input built.built.engine.utf8_empty asks)
+    (subst P (program-is text re built) (subst O (sym (finds_first re.engine built.built.engine.match_kind)) comes))
+
+-- it has the groups of one pattern
+pub one-of : (text : List ℕ) (re : RegexView) → IsRegexOf text re → length re.engine.groups ≡ 1
+one-of text re built = noted_count (built.tree ∷ []) re.engine.groups re.engine.which_captures built.built.engine.of_trees.groups
 
 -- what is found of a pattern's tree has noted its groups
 pub notes-of : MatchesNoteTheirPlaces → GroupsAreNotedWhole → (text : List ℕ) (re : RegexView) → (built : IsRegexOf text re) → (s : Search) (t : FoundMatch)

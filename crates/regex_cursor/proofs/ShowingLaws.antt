@@ -1,5 +1,5 @@
 -- Chunks one after the other, of which one is shown.
-use Rattle.std.proofs.Common.{◌≡◌, ℕ, ◌+◌, ◌-◌, ◌<◌, ◌≤◌, ◌^◌, List, [], ◌∷◌, ◌++◌, length, take, drop, refl, ap, sym, subst, ◌∙◌, append_assoc, append-nil, arith}
+use Rattle.std.proofs.Common.{◌≡◌, ℕ, ◌+◌, ◌-◌, ◌<◌, ◌≤◌, ◌^◌, true, List, [], ◌∷◌, ◌++◌, length, take, drop, refl, ap, ap₂, sym, subst, ◌∙◌, append_assoc, append-nil, arith}
 use Rattle.std.specs.Prelude.{reverse, Option, Some, None, unwrap_or, encode_utf8_all}
 use Rattle.std.specs.Borrow.{Bor}
 use Rattle.std.specs.Str.{chars, IsUtf8}
@@ -13,7 +13,7 @@ use Rattle.ropey_walk.specs.Chunks as rope
 use Rattle.ropey_walk.specs.Iter.{GivesChunk}
 use Rattle.ropey_walk.specs.TwoWay.{TwoWay, turned, GivesPrev}
 use Rattle.rx_input.specs.Cursors.{IsLawful, IsNext, piece_of}
-use Rattle.regex_cursor.specs.Showing.{all_chunks, showing, AreFilled, IsShowing, MayShowNext, EndsFirst}
+use Rattle.regex_cursor.specs.Showing.{all_chunks, behind_next, behind_shown, showing, AreFilled, IsBeforeLast, IsShowing, IsSomeAhead, MayShowNext, EndsFirst, StandsBy}
 
 abbrev pub bytes : List (List ℕ) → List ℕ
 bytes chunks = encode_utf8_all (text_of chunks)
@@ -156,13 +156,36 @@ given_chunk old new (Some item) other chunk rest gives ahead =
     let same : chars item.now ∷ new.ahead ≡ chunk ∷ rest = sym gives.0.0 ∙ ahead in
     (cc same, gives.1)
 
--- ---- the chunk before: back over the one that is shown, back over that before it, and on over it
+-- ---- the chunk before: from before the one that is shown back over that before it
 some_earlier : (earlier : List (List ℕ)) → 1 ≤ length (bytes (reverse earlier)) → (e : List ℕ) × (es : List (List ℕ)) × (earlier ≡ e ∷ es)
 some_earlier [] some = absurd (omega (arith, some))
 some_earlier (e ∷ es) some = (e, es, refl)
 
-module _ (place one two new : TwoWay (List ℕ)) (first second third : Option (Bor (List ℕ))) (other : Bor (List ℕ)) (shown : List ℕ) (offset len : ℕ) (s : IsShowing place shown offset len) (far : 1 ≤ offset)
-    (back : GivesPrev GivesChunk place first one) (again : GivesPrev GivesChunk one second two) (on : GivesChunk two third new) where
+-- on over the chunk ahead
+pub over_next : (old new : TwoWay (List ℕ)) (given : Option (Bor (List ℕ))) → GivesChunk old given new → new ≡ behind_next old.ahead old.behind
+over_next old new None gives = gives.0.1 ∙ ap (λ a. record { ahead = a; behind = old.behind }) gives.0.0 ∙ sym (ap (λ a. behind_next a old.behind) gives.0.0)
+over_next old new (Some item) gives = ap (λ b. record { ahead = new.ahead; behind = b }) gives.0.1 ∙ sym (ap (λ a. behind_next a old.behind) gives.0.0)
+
+-- and back over the one behind
+pub back_over : (old new : TwoWay (List ℕ)) (given : Option (Bor (List ℕ))) → GivesPrev GivesChunk old given new → IsBeforeLast old new
+back_over old new given gives = λ last earlier is.
+    let step = one_step (turned old) (turned new) given last earlier gives is in
+    ap₂ (λ a b. record { ahead = a; behind = b }) step.1 step.0
+
+-- an iterator that stands before the chunk ahead stands before the last one behind that
+pub stays_before : (place : TwoWay (List ℕ)) → IsSomeAhead place → IsBeforeLast (behind_next place.ahead place.behind) place
+stays_before place some = by place.ahead refl
+  where
+    by : (ahead : List (List ℕ)) → place.ahead ≡ ahead → IsBeforeLast (behind_next ahead place.behind) place
+    by [] none last earlier is = absurd (some none)
+    by (chunk ∷ ahead) there last earlier is =
+        let same : chunk ∷ place.behind ≡ last ∷ earlier = is in
+        let first : chunk ≡ last = cc same in
+        let rest : place.behind ≡ earlier = cc same in
+        ap₂ (λ a b. record { ahead = a; behind = b }) (there ∙ ap (λ x. x ∷ ahead) first) rest
+
+module _ (place one two : TwoWay (List ℕ)) (second : Option (Bor (List ℕ))) (other : Bor (List ℕ)) (shown : List ℕ) (offset len : ℕ) (s : IsShowing place shown offset len) (far : 1 ≤ offset)
+    (back : IsBeforeLast place one) (again : GivesPrev GivesChunk one second two) where
   some : (e : List ℕ) × (es : List (List ℕ)) × (s.earlier ≡ e ∷ es)
   some = some_earlier s.earlier (omega (arith, far, s.offset_is))
 
@@ -172,35 +195,45 @@ module _ (place one two new : TwoWay (List ℕ)) (first second third : Option (B
       ∙ ap (λ p. p ++ s.earlier) (piece_by_itself (chars shown) (λ none. let is : some.0 ∷ some.1 ≡ [] = sym some.2 ∙ (s.some none).0 in absurd (cc is)))
       ∙ ap (λ p. chars shown ∷ p) some.2
 
-  step_back : (one.behind ≡ some.0 ∷ some.1) × (one.ahead ≡ chars shown ∷ place.ahead)
-  step_back = one_step (turned place) (turned one) first (chars shown) (some.0 ∷ some.1) back behind_is_two
+  stands_before : one ≡ record { ahead = chars shown ∷ place.ahead; behind = some.0 ∷ some.1 }
+  stands_before = back (chars shown) (some.0 ∷ some.1) behind_is_two
+
+  behind_one : one.behind ≡ some.0 ∷ some.1
+  behind_one = ap (λ (p : TwoWay (List ℕ)). p.behind) stands_before
+
+  ahead_one : one.ahead ≡ chars shown ∷ place.ahead
+  ahead_one = ap (λ (p : TwoWay (List ℕ)). p.ahead) stands_before
 
   step_again : (two.behind ≡ some.1) × (two.ahead ≡ some.0 ∷ one.ahead)
-  step_again = one_step (turned one) (turned two) second some.0 some.1 again step_back.0
-
-  step_on : (new.ahead ≡ one.ahead) × (new.behind ≡ some.0 ∷ two.behind)
-  step_on = one_step two new third some.0 one.ahead on step_again.1
+  step_again = one_step (turned one) (turned two) second some.0 some.1 again behind_one
 
   abbrev pub before : List ℕ
-  before = (unwrap_or third other).now
+  before = (unwrap_or second other).now
 
   given : (chars before ≡ some.0) × IsUtf8 before
-  given = given_chunk two new third other some.0 one.ahead on step_again.1
+  given = given_chunk (turned one) (turned two) second other some.0 some.1 again behind_one
 
-  behind_new : new.behind ≡ some.0 ∷ some.1
-  behind_new = step_on.1 ∙ ap (λ p. some.0 ∷ p) step_again.0
+  -- where the chunk that is shown then ends
+  abbrev passed : TwoWay (List ℕ)
+  passed = behind_shown true two
 
-  ahead_new : new.ahead ≡ chars shown ∷ place.ahead
-  ahead_new = step_on.0 ∙ step_back.1
+  new_is : passed ≡ record { ahead = one.ahead; behind = some.0 ∷ two.behind }
+  new_is = ap (λ a. behind_next a two.behind) step_again.1
 
-  same_back : all_chunks place ≡ all_chunks new
-  same_back = all_the_same new place (chars shown) ahead_new (behind_is_two ∙ ap (λ p. chars shown ∷ p) (sym behind_new))
+  behind_new : passed.behind ≡ some.0 ∷ some.1
+  behind_new = ap (λ (p : TwoWay (List ℕ)). p.behind) new_is ∙ ap (λ p. some.0 ∷ p) step_again.0
+
+  ahead_new : passed.ahead ≡ chars shown ∷ place.ahead
+  ahead_new = ap (λ (p : TwoWay (List ℕ)). p.ahead) new_is ∙ ahead_one
+
+  same_back : all_chunks place ≡ all_chunks passed
+  same_back = all_the_same passed place (chars shown) ahead_new (behind_is_two ∙ ap (λ p. chars shown ∷ p) (sym behind_new))
 
   before_filled : chars before ≡ [] → ⊥
   before_filled none =
-      let parts : all_chunks new ≡ reverse some.1 ++ (some.0 ∷ new.ahead) =
-      ap (λ p. reverse p ++ new.ahead) behind_new ∙ ap (λ p. p ++ new.ahead) (reverse-cons some.0 some.1) ∙ append_assoc (reverse some.1) (some.0 ∷ []) new.ahead in
-      s.filled (reverse some.1) new.ahead some.0 (same_back ∙ parts) (sym given.0 ∙ none)
+      let parts : all_chunks passed ≡ reverse some.1 ++ (some.0 ∷ passed.ahead) =
+      ap (λ p. reverse p ++ passed.ahead) behind_new ∙ ap (λ p. p ++ passed.ahead) (reverse-cons some.0 some.1) ∙ append_assoc (reverse some.1) (some.0 ∷ []) passed.ahead in
+      s.filled (reverse some.1) passed.ahead some.0 (same_back ∙ parts) (sym given.0 ∙ none)
 
   starts : offset ≡ length (bytes (reverse some.1)) + length before
   starts =
@@ -211,7 +244,7 @@ module _ (place one two new : TwoWay (List ℕ)) (first second third : Option (B
   pub back_fits : length before ≤ offset
   back_fits = omega (arith, starts)
 
-  pub shows_before : IsShowing new before (offset - length before) len
+  shows_before : IsShowing passed before (offset - length before) len
   shows_before = record {
     earlier = some.1;
     stands = behind_new ∙ ap (λ x. x ∷ some.1) (sym given.0) ∙ ap (λ p. p ++ some.1) (sym (piece_by_itself (chars before) before_filled));
@@ -223,7 +256,10 @@ module _ (place one two new : TwoWay (List ℕ)) (first second third : Option (B
     bound = s.bound;
   }
 
-  pub moves_back : IsNext (showing new (offset - length before) before) (showing place offset shown)
+  pub stands_there : StandsBy true two before (offset - length before) len
+  stands_there = record { shows = shows_before; some = λ _ none. let is : some.0 ∷ one.ahead ≡ [] = sym step_again.1 ∙ none in absurd (cc is) }
+
+  pub moves_back : IsNext (showing passed (offset - length before) before) (showing place offset shown)
   moves_back = record { same = record { content = ap bytes same_back; is_sized = refl }; meets = omega (arith, back_fits) }
 
 -- ---- the first chunk that is shown

@@ -1,10 +1,12 @@
 -- The laws of what patterns spell and of what searches for them find, for proofs in the crates above.
-use Rattle.std.proofs.Common.{inl, inr}
+use Rattle.std.proofs.Common.{◌≡◌, ℕ, List, Option, inl, inr, length}
+use Rattle.std.specs.Prelude.{unwrap_or}
 use Rattle.unicode.specs.Perl.{is_word_char}
 use Rattle.rx_walks.proofs.BoundaryLaws.{finds_stand_at_boundaries, matches_stand_at_boundaries}
 use Rattle.rx_walks.proofs.ExistLaws.{program_find_exists}
 use Rattle.rx_walks.proofs.InsideLaws.{finds_lie_inside}
 use Rattle.rx_walks.proofs.MatchLaws.{program_matches_exist, program_matches_found, program_matches_rise, program_first_matches}
+use Rattle.rx_walks.specs.Iterating.{FindsNext}
 use Rattle.rx_walks.proofs.UniqueLaws.{program_find_unique, program_matches_unique}
 use Rattle.rx_utf8.specs.Automata.{is_in}
 use Rattle.rx_grammar.specs.Settings.{default_settings}
@@ -12,9 +14,11 @@ use Rattle.rx_grammar.proofs.GrammarLaws.{Spells-unique}
 use Rattle.rx_grammar.proofs.PatternDecisions.{spells_or_not}
 use Rattle.rx_program.proofs.NoteLaws.{matches_note_their_places}
 use Rattle.rx_program.proofs.GroupLaws.{groups_are_noted_whole}
-use Rattle.regex_cursor.specs.Patterns.{Tree, program_for, search_from}
+use Rattle.regex_cursor.specs.NextMatches.{TreeFindsNext}
+use Rattle.regex_cursor.specs.Patterns.{Tree, AsksFrom, FoundMatch, InputState, program_for, search_from}
 use Rattle.regex_cursor.specs.PatternLaws.{HasFinds, RegexesHaveTrees, SpellsOneTree, SpellsTreeOrNone}
-use Rattle.regex_cursor.proofs.PatternLemmas.{light-of, finds-of, slots-of, notes-of, says-of, tells-of, tells_slots-of}
+use Rattle.regex_cursor.specs.Regexes.{EngineFinds, IsRegexOf, RegexView, search_by}
+use Rattle.regex_cursor.proofs.PatternLemmas.{light-of, finds-of, next-of, notes-of, one-of, slots-of, says-of, tells-of, tells_slots-of}
 
 pub one_tree : SpellsOneTree
 one_tree text tree other one second = Spells-unique text default_settings tree other one second
@@ -53,3 +57,13 @@ regexes_have_trees = record {
   noted = λ text re built content from t finds. notes-of matches_note_their_places groups_are_noted_whole text re built (search_from content from) t finds;
   refused = says-of;
 }
+
+-- what comes next for an input over a content, behind a match that ended where it starts, or first of
+-- all, is what comes next of the tree
+pub next_of_trees : (text : List ℕ) (re : RegexView) → (built : IsRegexOf text re) → (content : List ℕ) (last : Option ℕ) (input : InputState) (out : Option FoundMatch)
+    → AsksFrom content (unwrap_or last 0) input → FindsNext (EngineFinds re.engine) (search_by re.engine input) last out → TreeFindsNext built.tree content last out
+next_of_trees text re built content last input out asks comes = next-of text re built content last input out asks comes
+
+-- a regex of one pattern has its groups alone
+pub one_of_trees : (text : List ℕ) (re : RegexView) → IsRegexOf text re → length re.engine.groups ≡ 1
+one_of_trees text re built = one-of text re built

@@ -5,6 +5,7 @@ pub mod Configs
 pub mod Cores
 pub mod Iterating
 pub mod Lending
+pub mod Linear
 pub mod Listing
 pub mod Literals
 pub mod NextMatches

@@ -1,5 +1,5 @@
 -- A cursor over a slice of a rope: an iterator over its chunks, behind the one that is shown.
-use Rattle.std.specs.Prelude.{◌≡◌, ℕ, ◌+◌, ◌^◌, ◌<◌, true, List, [], ◌∷◌, ◌++◌, length, reverse, encode_utf8_all}
+use Rattle.std.specs.Prelude.{◌≡◌, ℕ, ◌+◌, ◌^◌, ◌<◌, Bool, true, false, List, [], ◌∷◌, ◌++◌, length, reverse, encode_utf8_all}
 use Rattle.std.specs.Str.{chars, IsUtf8}
 -- the words on slices of ropes, for crates that stand on this one
 pub use Rattle.str_indices.specs.Text.{byte_len}
@@ -40,6 +40,32 @@ pub record IsShowing (place : TwoWay (List ℕ)) (shown : List ℕ) (offset len 
   pub offset_is : offset ≡ byte_len (text_of (reverse earlier))
   pub len_is : len ≡ byte_len (text_of (all_chunks place))
   pub bound : len < 2 ^ 63
+
+-- behind the chunk ahead, where there is one
+abbrev pub behind_next : List (List ℕ) → List (List ℕ) → TwoWay (List ℕ)
+behind_next [] behind = record { ahead = []; behind = behind }
+behind_next (chunk ∷ ahead) behind = record { ahead = ahead; behind = chunk ∷ behind }
+
+-- the place behind the chunk that is shown, of an iterator that stands before it or there
+abbrev pub behind_shown : Bool → TwoWay (List ℕ) → TwoWay (List ℕ)
+behind_shown true place = behind_next place.ahead place.behind
+behind_shown false place = place
+
+-- there is a chunk ahead
+abbrev pub IsSomeAhead : TwoWay (List ℕ) → Type 0
+IsSomeAhead place = place.ahead ≡ [] → ⊥
+
+-- it stands before the last chunk behind a place, where there is one
+abbrev pub IsBeforeLast : TwoWay (List ℕ) → TwoWay (List ℕ) → Type 0
+IsBeforeLast place before = (last : List ℕ) (earlier : List (List ℕ))
+    → place.behind ≡ last ∷ earlier
+    → before ≡ record { ahead = last ∷ place.ahead; behind = earlier }
+
+-- The iterator stands before the chunk that is shown, or behind it.
+pub record StandsBy (is_before : Bool) (place : TwoWay (List ℕ)) (shown : List ℕ)
+    (offset len : ℕ) : Type 0 where
+  pub shows : IsShowing (behind_shown is_before place) shown offset len
+  pub some : is_before ≡ true → IsSomeAhead place
 
 -- The iterator stands at that byte, before a chunk that can be shown, or there is no chunk.
 pub record MayShowNext (place : TwoWay (List ℕ)) (offset len : ℕ) : Type 0 where

@@ -2,6 +2,7 @@
 use Rattle.std.specs.Prelude.{◌≡◌, ℕ, ◌≤◌, Bool, false, IsTrue, Option, Some, None, IfSome}
 use Rattle.unicode.specs.Perl.{is_word_char}
 use Rattle.rx_util.specs.declared.search.Span.{Span}
+use Rattle.rx_input.specs.Inputs.{Asked}
 use Rattle.rx_walks.specs.Finds.{Search, from_place_on}
 use Rattle.rx_walks.specs.Machines.{Outcome}
 use Rattle.rx_walks.specs.Programs.{Notes}
@@ -122,3 +123,7 @@ abbrev pub IsStart : ByteProgram → Search → Start → Type 0
 IsStart p s start.Nowhere = Finds p s None
 IsStart p s (start.At span) = FindsLiteral (characters_of p) is_word_char s span
 IsStart p s (start.From place) = BeginsFrom p s place
+
+-- the same is asked, but of a span that may start elsewhere
+abbrev pub HasStart : Asked → Asked → Type 0
+HasStart old new = (start : ℕ) × (new ≡ record old { span = record old.span { start = start } })

@@ -2,6 +2,7 @@
 
 ghost use Rattle.std.specs.Prelude.{◌≡◌, ◌≤◌, ⊤, true, encode_utf8_all};
 ghost use Rattle.rx_input.specs.Cursors.{IsLawful};
+ghost use Rattle.regex_cursor.specs.Showing.{IsBeforeLast, IsSomeAhead, behind_shown};
 ghost use Rattle.regex_cursor.specs.Showing.{byte_len, slice_bytes, slice_text, text_of};
 
 use ropey::RopeSlice;
@@ -11,11 +12,13 @@ use std::alloc::AllocError;
 use std::marker::Model;
 
 /// A cursor over exactly the bytes of a slice, chunk by chunk. It takes no memory, and a clone is
-/// the same cursor. A step goes down from the rope's root to a leaf, in `O(log n)`.
+/// the same cursor. A step goes down from the rope's root to a leaf, in `O(log n)`; the first one
+/// after one the other way does so twice.
 #[derive(Drop)]
 pub struct RopeyCursor<'a> {
-    // Stands behind the chunk that is shown.
+    // Stands behind the chunk that is shown, or before it after a step back.
     chunks: Chunks<'a>,
+    is_before: bool,
     shown: &'a str,
     // Where that chunk starts, and the length of the slice, in bytes.
     offset: usize,
@@ -24,13 +27,34 @@ pub struct RopeyCursor<'a> {
 
 impl<'a> Model for RopeyCursor<'a> {
     ghost use Rattle.rx_input.specs.Cursors.{CursorState};
-    ghost use Rattle.regex_cursor.specs.Showing.{IsShowing, showing};
+    ghost use Rattle.regex_cursor.specs.Showing.{StandsBy, behind_shown, showing};
 
     ghost Value = { CursorState };
 
-    ghost view = { λ c. showing c.chunks c.offset c.shown.now };
+    ghost view = { λ c. showing (behind_shown c.is_before c.chunks) c.offset c.shown.now };
 
-    ghost invariant = { λ c. IsShowing c.chunks c.shown.now c.offset c.len };
+    ghost invariant = { λ c. StandsBy c.is_before c.chunks c.shown.now c.offset c.len };
+}
+
+/// Moves on from the place before the chunk that is shown to the one behind it, or stays there.
+fn stand_behind(chunks: &mut Chunks, is_before: bool)
+    ensures { chunks.new ≡ behind_shown is_before chunks.old }
+{
+    if !is_before {
+        return;
+    }
+    chunks.next();
+}
+
+/// Moves back from the place behind the chunk that is shown to the one before it, or stays there.
+fn stand_before(chunks: &mut Chunks, is_before: bool)
+    requires { is_before ≡ true → IsSomeAhead chunks.old }
+    ensures { IsBeforeLast (behind_shown is_before chunks.old) chunks.new }
+{
+    if is_before {
+        return;
+    }
+    chunks.prev();
 }
 
 impl<'a> RopeyCursor<'a> {
@@ -76,6 +100,7 @@ impl<'a> RopeyCursor<'a> {
         let shown = chunks.next().unwrap_or("");
         RopeyCursor {
             chunks,
+            is_before: false,
             shown,
             offset,
             len,
@@ -91,6 +116,7 @@ impl<'a> Clone for RopeyCursor<'a> {
     fn clone(&self) -> Result<RopeyCursor<'a>, AllocError> {
         Ok(RopeyCursor {
             chunks: self.chunks.clone()?,
+            is_before: self.is_before,
             shown: self.shown,
             offset: self.offset,
             len: self.len,
@@ -106,6 +132,8 @@ impl<'a> Cursor for RopeyCursor<'a> {
     }
 
     fn advance(&mut self) -> bool {
+        stand_behind(&mut self.chunks, self.is_before);
+        self.is_before = false;
         match self.chunks.next() {
             Some(next) => {
                 self.offset += self.shown.len();
@@ -120,10 +148,9 @@ impl<'a> Cursor for RopeyCursor<'a> {
         if self.offset == 0 {
             return false;
         }
-        // Back over the chunk that is shown and the one before it, which is shown then.
-        self.chunks.prev();
-        self.chunks.prev();
-        let shown = self.chunks.next().unwrap_or("");
+        stand_before(&mut self.chunks, self.is_before);
+        self.is_before = true;
+        let shown = self.chunks.prev().unwrap_or("");
         self.offset -= shown.len();
         self.shown = shown;
         true

@@ -1,5 +1,6 @@
 //! The regex that users take: it chooses among the engines.
 
+mod ahead;
 mod all;
 mod back;
 mod builder;
@@ -11,6 +12,7 @@ mod find_matches;
 mod finder;
 mod left;
 mod leftmost;
+mod linear;
 mod literals;
 mod regex;
 mod split;
@@ -23,6 +25,7 @@ pub use cache::Cache;
 pub use captures_matches::CapturesMatches;
 pub use config::Config;
 pub use find_matches::FindMatches;
+pub use linear::LinearMatches;
 pub use regex::Regex;
 pub use rx_program::BuildError;
 pub use split::Split;

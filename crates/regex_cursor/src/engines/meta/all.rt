@@ -1,21 +1,26 @@
 //! Lists of all matches, however far single searches for them would read.
 
 ghost use Rattle.std.specs.Prelude.{◌≡◌, ◌+◌, ◌*◌, ◌≤◌, ◌++◌, ◌∷◌, [], All, IfErr, IfOk, OnOk, Some, length, map};
+ghost use Rattle.std.specs.Option.{ForSome};
 ghost use Rattle.rx_util.specs.declared.search.MatchError.{MatchError};
 ghost use Rattle.rx_util.specs.declared.search.MatchKind.{MatchKind};
 ghost use Rattle.rx_util.specs.Groups.{slot_len};
-ghost use Rattle.rx_chunk.specs.Engines.{match_of};
+ghost use Rattle.rx_util.specs.declared.search.Span.{Span};
+ghost use Rattle.rx_chunk.specs.Engines.{match_of, whole_span};
 ghost use Rattle.rx_chunk.specs.Iterating.{captured_of};
 ghost use Rattle.rx_lists.specs.Lists.{places_in};
 ghost use Rattle.regex_cursor.specs.Listing.{IsWhole, TellsAll, captures_listed, leftmost_first, match_listed};
-ghost use Rattle.regex_cursor.specs.Regexes.{search_by};
+ghost use Rattle.regex_cursor.specs.Linear.{all_places, linear_from};
+ghost use Rattle.regex_cursor.specs.Regexes.{IsCacheOf, search_by};
 
+use super::cache::Cache;
+use super::linear::LinearMatches;
 use super::regex::Regex;
 use counters::Counter;
 use rx_chunk::pikevm::match_in;
 use rx_input::{Cursor, Input};
 use rx_lists::{ListedMatch, list_matches};
-use rx_util::{Captures, GroupInfo, Match, MatchError};
+use rx_util::{Captures, GroupInfo, Match, MatchError, MatchKind, NonMaxUsize, PatternID};
 use std::alloc::{AllocError, Global};
 
 /// Puts a match that was listed behind others.
@@ -93,24 +98,118 @@ fn all_captures_of(
     Ok(found)
 }
 
+/// So many slots that hold no place.
+fn empty_slots(alloc: Global, count: usize) -> Result<Vec<Option<NonMaxUsize>>, AllocError>
+    ensures { IfOk result (λ slots. length slots.items ≡ count) }
+{
+    let mut slots = Vec::new(alloc);
+    slots.resize(count, None)?;
+    Ok(slots)
+}
+
+/// Puts the match whose places slots hold behind others.
+fn push_place(
+    found: &mut Vec<Match>,
+    pattern: PatternID,
+    slots: &[Option<NonMaxUsize>],
+) -> Result<(), AllocError>
+    requires ordered { ForSome (whole_span pattern slots.now) (λ span. span.start ≤ span.end) }
+    ensures { OnOk result ((span : Span) → whole_span pattern slots.now ≡ Some span
+        → found.new.items
+        ≡ found.old.items ++ record { pattern = pattern; span = span } ∷ []) }
+{
+    if let Some(one) = match_in(pattern, slots) {
+        found.push(one)?;
+    }
+    Ok(())
+}
+
+/// Puts all matches into a list, of which none has come yet, one after the other.
+fn collect<C: Cursor>(
+    alloc: Global,
+    re: &Regex,
+    cache: &mut Cache,
+    left: &mut LinearMatches<C>,
+    slots: &mut [Option<NonMaxUsize>],
+    read: &mut Counter,
+) -> Result<Vec<Match>, MatchError>
+    requires first { re.now.engine.match_kind ≡ MatchKind.LeftmostFirst }
+    requires made { IsCacheOf re.now cache.old }
+    requires slots { 2 * length re.now.engine.groups ≤ length slots.old }
+    requires fresh { left.old ≡ linear_from left.old.input }
+    ensures all { IfOk result (λ found. TellsAll re.now.engine
+        (search_by re.now.engine left.old.input) match_of found.items) }
+    ensures refused { IfErr result (λ error. error ≡ MatchError.Memory) }
+    ensures counted { read.new ≤ read.old + 10 * all_places left.old + 10 }
+{
+    let _groups = re.group_info(); // tells of what the regex is
+    let mut found = Vec::new(alloc);
+    loop {
+        match left.next_slots(re, cache, slots, read)? {
+            Some(pattern) => push_place(&mut found, pattern, slots)?,
+            None => return Ok(found),
+        }
+    }
+}
+
 impl Regex {
     /// Lists all matches in an input that `find_iter` gives, also where its `earliest` is set: of
     /// those that start first the one that the pattern prefers, and so on from its end. So it does
     /// under `MatchKind::All` too, where the iterators give others. The one error is `Memory`.
     ///
-    /// However far single searches would read, at most six times as many places are read as there
-    /// are inside span, slice and content. `read` counts them. It takes memory for the matches, and
-    /// as `rx_lists::list_matches` does.
+    /// However far single searches would read, at most ten times as many places are read as there
+    /// are inside span, slice and content, and ten. `read` counts them. It goes by finds, as
+    /// `LinearMatches` does, which takes a cache and memory for the matches; where finds read too
+    /// much, also as `rx_lists::list_matches` does.
     pub fn all_matches<C: Cursor + Drop>(
         &self,
         alloc: Global,
-        mut input: Input<C>,
+        input: Input<C>,
         read: &mut Counter,
     ) -> Result<Vec<Match>, MatchError>
         ensures all { IfOk result (λ found. TellsAll (leftmost_first self.now.engine)
             (search_by self.now.engine input) match_of found.items) }
         ensures iterated { self.now.engine.match_kind ≡ MatchKind.LeftmostFirst
             → IfOk result (λ found. TellsAll self.now.engine
+            (search_by self.now.engine input) match_of found.items) }
+        ensures refused { IfErr result (λ error. error ≡ MatchError.Memory) }
+        ensures counted { read.new
+            ≤ read.old + 10 * places_in (search_by self.now.engine input) + 10 }
+    {
+        match self.vm().match_kind() {
+            MatchKind::LeftmostFirst => self.matches_in_turn(alloc, input, read),
+            MatchKind::All => self.matches_listed(alloc, input, read),
+        }
+    }
+
+    /// The same by one match after the other, where the leftmost one is found.
+    fn matches_in_turn<C: Cursor + Drop>(
+        &self,
+        alloc: Global,
+        input: Input<C>,
+        read: &mut Counter,
+    ) -> Result<Vec<Match>, MatchError>
+        requires first { self.now.engine.match_kind ≡ MatchKind.LeftmostFirst }
+        ensures all { IfOk result (λ found. TellsAll self.now.engine
+            (search_by self.now.engine input) match_of found.items) }
+        ensures refused { IfErr result (λ error. error ≡ MatchError.Memory) }
+        ensures counted { read.new
+            ≤ read.old + 10 * places_in (search_by self.now.engine input) + 10 }
+    {
+        let mut cache = self.create_cache()?;
+        let mut slots = empty_slots(alloc, self.group_info().implicit_slot_len())?;
+        let mut left = LinearMatches::new(input);
+        collect(alloc, self, &mut cache, &mut left, &mut slots, read)
+    }
+
+    /// The same by two passes alone, whichever match is found.
+    fn matches_listed<C: Cursor + Drop>(
+        &self,
+        alloc: Global,
+        mut input: Input<C>,
+        read: &mut Counter,
+    ) -> Result<Vec<Match>, MatchError>
+        ensures all { IfOk result (λ found. TellsAll (leftmost_first self.now.engine)
             (search_by self.now.engine input) match_of found.items) }
         ensures refused { IfErr result (λ error. error ≡ MatchError.Memory) }
         ensures counted { read.new
@@ -123,8 +222,12 @@ impl Regex {
         Ok(matches_of(alloc, &listed)?)
     }
 
-    /// Lists all matches that `captures_iter` gives, as `all_matches` does, each with all its
-    /// groups in captures of its own.
+    /// Lists all matches that `captures_iter` gives, leftmost first as `all_matches` does, each with
+    /// all its groups in captures of its own. The one error is `Memory`.
+    ///
+    /// It goes by two passes alone, so that at most six times as many places are read as there are
+    /// inside span, slice and content; `read` counts them. It takes memory for the captures, and as
+    /// `rx_lists::list_matches` does.
     pub fn all_captures<C: Cursor + Drop>(
         &self,
         alloc: Global,

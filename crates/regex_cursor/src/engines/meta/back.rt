@@ -1,12 +1,14 @@
 //! Searches back from where a match ends to where it starts.
 
-ghost use Rattle.std.specs.Prelude.{◌≡◌, ◌+◌, ◌≤◌, IfErr, IfOk, IfSome};
+ghost use Rattle.std.specs.Prelude.{◌≡◌, ◌+◌, ◌≤◌, IfErr, IfOk, IfSome, None, length, min};
 ghost use Rattle.rx_util.specs.declared.search.Anchored.TheVariants.{No};
 ghost use Rattle.rx_util.specs.declared.search.MatchError.{MatchError};
 ghost use Rattle.rx_input.specs.Cursors.{IsSameContent};
 ghost use Rattle.rx_walks.specs.Backward.{back_from};
 ghost use Rattle.rx_program.specs.Programs.{ByteProgram, characters_of};
 ghost use Rattle.rx_literals.specs.Endings.{EndsWithSlice};
+ghost use Rattle.rx_dfa.specs.Alphabets.{IsAlphabetBack};
+ghost use Rattle.rx_dfa.specs.BackCaches.{IsBackCacheOf};
 ghost use Rattle.rx_steps.specs.Reversed.{IsHalfAnswerBack, IsReverseOf};
 ghost use Rattle.rx_steps.specs.Searching.{search_of};
 ghost use Rattle.regex_cursor.specs.Backs.{EndsLast, IsWhole};
@@ -17,10 +19,9 @@ use super::left::Left;
 use rx_chunk::pikevm::PikeVM;
 use rx_dfa::{Alphabet, BackCache, search_back};
 use rx_input::{Cursor, Input};
-use rx_matches::halves::{starts_first, turn_back, turn_forward, whole};
+use rx_matches::halves::{turn_back, turn_forward, whole};
 use rx_program::ReverseProgram;
 use rx_program::laws::{programs_are_above_patterns, programs_keep_patterns};
-use rx_steps::enter_end;
 use rx_util::{HalfMatch, Match, MatchError, PatternID};
 use std::alloc::AllocError;
 use std::marker::Model;
@@ -43,9 +44,12 @@ pub(super) struct Back {
     reverse: ReverseProgram,
     dfa: Alphabet,
     cache: BackCache,
+    // What those by walks alone keep, once a regex searched back that wants no automaton.
+    walks: Option<BackCache>,
 }
 
 impl Model for Back {
+    ghost use Rattle.std.specs.Prelude.{IfSome};
     ghost use Rattle.rx_program.specs.Reversed.{ReverseByteProgram};
     ghost use Rattle.rx_dfa.specs.Alphabets.{IsAlphabetBack};
     ghost use Rattle.rx_dfa.specs.BackCaches.{IsBackCacheOf};
@@ -55,12 +59,73 @@ impl Model for Back {
     ghost view = { λ b. b.reverse };
 
     ghost invariant = { λ b. IsAlphabetBack b.reverse b.dfa
-        × IsBackCacheOf b.reverse b.dfa b.cache };
+        × IsBackCacheOf b.reverse b.dfa b.cache
+        × IfSome b.walks (IsBackCacheOf b.reverse b.dfa) };
+}
+
+/// Takes what searches by walks alone keep, or makes it. The one refusal is `Memory`.
+fn taken_or_made(
+    walks: &mut Option<BackCache>,
+    reverse: &ReverseProgram,
+    dfa: &Alphabet,
+) -> Result<BackCache, MatchError>
+    requires alphabet { IsAlphabetBack reverse.now dfa.now }
+    requires kept { IfSome walks.old (IsBackCacheOf reverse.now dfa.now) }
+    ensures made { IfOk result (IsBackCacheOf reverse.now dfa.now) }
+    ensures taken { walks.new ≡ None }
+    ensures refused { IfErr result (λ error. error ≡ MatchError.Memory) }
+{
+    if let Some(cache) = walks.take() {
+        return Ok(cache);
+    }
+    let mut cache = BackCache::new(reverse.allocator(), reverse, dfa)?;
+    cache.walk_alone();
+    Ok(cache)
+}
+
+/// Searches back from the end of a match, in an input that isn't anchored, through a program turned
+/// round. The one refusal is `Memory`.
+fn search_from<C: Cursor>(
+    reverse: &ReverseProgram,
+    dfa: &Alphabet,
+    cache: &mut BackCache,
+    input: &mut Input<C>,
+    utf8_empty: bool,
+    end: usize,
+) -> Result<Option<HalfMatch>, MatchError>
+    requires alphabet { IsAlphabetBack reverse.now dfa.now }
+    requires made { IsBackCacheOf reverse.now dfa.now cache.old }
+    requires unanchored { input.old.asked.anchored ≡ No }
+    requires end { input.old.asked.span.start ≤ end + 1 }
+    requires span { input.old.asked.span.start ≤ input.old.asked.span.end + 1 }
+    ensures answer { IfOk result (λ found. (p : ByteProgram) → IsReverseOf p reverse.now
+        → IsHalfAnswerBack p (back_from (search_of utf8_empty input.old) end) found) }
+    ensures made { IsBackCacheOf reverse.now dfa.now cache.new }
+    ensures same { IsSameContent input.old.cursor input.new.cursor }
+    ensures asked { input.new.asked ≡ input.old.asked }
+    ensures refused { IfErr result (λ error. error ≡ MatchError.Memory) }
+{
+    let last = turn_back(input, end);
+    let back = search_back(reverse, dfa, cache, input, utf8_empty);
+    turn_forward(input, last);
+    back
+}
+
+/// Moves an input to the end of its span, and one place on where slice and content go on there.
+fn enter_behind<C: Cursor>(input: &mut Input<C>) -> usize
+    ensures place { result ≡ min (input.old.asked.span.end + 1)
+        (min input.old.asked.slice.end (length input.old.cursor.content)) }
+    ensures same { IsSameContent input.old.cursor input.new.cursor }
+    ensures asked { input.new.asked ≡ input.old.asked }
+{
+    let behind = input.end().saturating_add(1);
+    input.move_to(behind.min(input.get_slice().end));
+    input.position()
 }
 
 impl Back {
     /// The program of a PikeVM turned round. Its automaton has as much room for its states as that
-    /// of the program, and none where no such automaton is wanted. The one refusal is `Memory`.
+    /// of the program. The one refusal is `Memory`.
     pub(super) fn of(vm: &PikeVM, config: &Config) -> Result<Back, MatchError>
         ensures program { IfOk result (IsReverseOf vm.now.program) }
         ensures refused { IfErr result (λ error. error ≡ MatchError.Memory) }
@@ -68,20 +133,43 @@ impl Back {
         let reverse = turned(vm)?;
         let alloc = reverse.allocator();
         let dfa = Alphabet::new_back(alloc, &reverse, config.get_hybrid_cache_capacity())?;
-        let mut cache = BackCache::new(alloc, &reverse, &dfa)?;
-        if !config.get_hybrid() {
-            cache.walk_alone();
-        }
+        let cache = BackCache::new(alloc, &reverse, &dfa)?;
         Ok(Back {
             reverse,
             dfa,
             cache,
+            walks: None,
         })
     }
 
-    /// Searches back from the end of a match, in an input that isn't anchored. The one refusal is
-    /// `Memory`.
+    /// Searches back from the end of a match, in an input that isn't anchored: by the automaton, or
+    /// by walks side by side alone where `hybrid` is off. The one refusal is `Memory`.
     fn search<C: Cursor>(
+        &mut self,
+        input: &mut Input<C>,
+        utf8_empty: bool,
+        end: usize,
+        hybrid: bool,
+    ) -> Result<Option<HalfMatch>, MatchError>
+        requires unanchored { input.old.asked.anchored ≡ No }
+        requires end { input.old.asked.span.start ≤ end + 1 }
+        requires span { input.old.asked.span.start ≤ input.old.asked.span.end + 1 }
+        ensures answer { IfOk result (λ found. (p : ByteProgram) → IsReverseOf p self.old
+            → IsHalfAnswerBack p (back_from (search_of utf8_empty input.old) end) found) }
+        ensures program { self.new ≡ self.old }
+        ensures same { IsSameContent input.old.cursor input.new.cursor }
+        ensures asked { input.new.asked ≡ input.old.asked }
+        ensures refused { IfErr result (λ error. error ≡ MatchError.Memory) }
+    {
+        if hybrid {
+            let cache = &mut self.cache;
+            return search_from(&self.reverse, &self.dfa, cache, input, utf8_empty, end);
+        }
+        self.walk_back(input, utf8_empty, end)
+    }
+
+    // By walks alone: apart, since a function pays for the room of a cache at each call.
+    fn walk_back<C: Cursor>(
         &mut self,
         input: &mut Input<C>,
         utf8_empty: bool,
@@ -97,22 +185,24 @@ impl Back {
         ensures asked { input.new.asked ≡ input.old.asked }
         ensures refused { IfErr result (λ error. error ≡ MatchError.Memory) }
     {
-        let last = turn_back(input, end);
-        let back = search_back(&self.reverse, &self.dfa, &mut self.cache, input, utf8_empty);
-        turn_forward(input, last);
+        let mut walks = taken_or_made(&mut self.walks, &self.reverse, &self.dfa)?;
+        let back = search_from(&self.reverse, &self.dfa, &mut walks, input, utf8_empty, end);
+        self.walks = Some(walks);
         back
     }
 
-    /// The match that is found in an input, of which it is known that it ends where the span does,
-    /// and of which pattern it is. It takes no search where it starts where the span does, since
-    /// the input is anchored, or it is an empty one there. The one refusal is `Memory`.
+    /// The match that is found in an input that isn't anchored, of which it is known that it ends
+    /// where the span does, and of which pattern it is; by the automaton, or by walks alone where
+    /// `hybrid` is off. The one refusal is `Memory`.
     pub(super) fn whole_match<C: Cursor>(
         &mut self,
         input: &mut Input<C>,
         utf8_empty: bool,
         pattern: PatternID,
+        hybrid: bool,
     ) -> Result<Option<Match>, MatchError>
-        requires { input.old.asked.span.start ≤ input.old.asked.span.end }
+        requires ordered { input.old.asked.span.start ≤ input.old.asked.span.end }
+        requires unanchored { input.old.asked.anchored ≡ No }
         ensures whole { IfOk result (λ found. (p : ByteProgram) → IsReverseOf p self.old
             → EndsLast p utf8_empty input.old pattern
             → IfSome found (λ m. IsWhole p utf8_empty input.old m)) }
@@ -124,19 +214,17 @@ impl Back {
     {
         let end = input.end();
         let half = HalfMatch::new(pattern, end);
-        if starts_first(input, end) {
-            return Ok(Some(whole(half, input.start())));
-        }
-        match self.search(input, utf8_empty, end)? {
+        match self.search(input, utf8_empty, end, hybrid)? {
             Some(back) if back.offset() <= end => Ok(Some(whole(half, back.offset()))),
             _ => Ok(None),
         }
     }
 
-    /// What is found in an input that isn't anchored and whose span ends where its slice does, of a
-    /// program whose matches all end there. Nothing is told where the content ends before, nor where
-    /// walks side by side alone serve, since the automaton that goes forward is quicker than they.
-    /// The one refusal is `Memory`.
+    /// What is found in an input that isn't anchored, of a program whose matches all end where the
+    /// slice does, or the content where that comes first: no match where the span ends before, and
+    /// else by the automaton back from there. Nothing is told where the span goes on behind, nor
+    /// where walks side by side alone serve, since the automaton that goes forward is quicker than
+    /// they. The one refusal is `Memory`.
     pub(super) fn search_last<C: Cursor>(
         &mut self,
         input: &mut Input<C>,
@@ -144,7 +232,6 @@ impl Back {
     ) -> Result<Option<Left>, MatchError>
         requires ordered { input.old.asked.span.start ≤ input.old.asked.span.end }
         requires unanchored { input.old.asked.anchored ≡ No }
-        requires slice { input.old.asked.span.end ≡ input.old.asked.slice.end }
         ensures left { IfOk result (λ told. (p : ByteProgram) → IsReverseOf p self.old
             → EndsWithSlice (characters_of p)
             → IfSome told (IsLeft p (search_of utf8_empty input.old))) }
@@ -157,10 +244,14 @@ impl Back {
             return Ok(None);
         }
         let end = input.end();
-        if !enter_end(input) {
+        let place = enter_behind(input);
+        if place > end {
+            return Ok(Some(Left::Nothing));
+        }
+        if place < end {
             return Ok(None);
         }
-        match self.search(input, utf8_empty, end)? {
+        match self.search(input, utf8_empty, end, true)? {
             Some(back) if back.offset() <= end => {
                 let half = HalfMatch::new(back.pattern(), end);
                 Ok(Some(Left::Found(whole(half, back.offset()))))

@@ -33,18 +33,25 @@ const CLEARS: usize = 3;
 /// state that has room, since to make one takes as long as the PikeVM takes for some bytes.
 const BYTES_A_CLEAR: usize = 50_000;
 
-/// In how many bytes for each state of the program the PikeVM may have looked for matches whose ends
-/// are known before the program is turned round, which takes about as long.
-const BYTES_A_STATE: usize = 50;
+/// In how many bytes for each state of the program searches forward may have looked for the starts
+/// of matches whose ends are known before the program is turned round, which takes about as long.
+const BYTES_A_STATE: usize = 35;
 
 /// What searches with a regex keep from one to the next, so that they ask for memory once. It
 /// serves the regex that it was made for or reset for, after each search again, refused or not.
 /// Contracts see the program of that regex, whether it passes over empty matches inside a
 /// character, and how much room it lets the automaton's states take.
-#[derive(Debug, Drop)]
+#[derive(Debug)]
 pub struct Cache {
     // In a box, so that caches and what holds them are small and quickly moved.
     pub(super) kept: Box<Kept>,
+}
+
+// Written out, so that no crate above proves anew how what it holds is let go.
+impl Drop for Cache {
+    fn drop(self) {
+        let Cache { kept: _kept } = self;
+    }
 }
 
 /// What a cache keeps for each engine.
@@ -59,8 +66,10 @@ pub(super) struct Kept {
     passed: usize,
     // The program turned round, once that pays.
     back: Option<Back>,
-    // In how many bytes the PikeVM looked for matches whose ends were known.
+    // In how many bytes searches forward looked for the starts of matches whose ends were known.
     walked: usize,
+    // How many places any search read.
+    read: usize,
 }
 
 impl Kept {
@@ -85,6 +94,55 @@ impl Kept {
         ensures back { self.new.back ≡ self.old.back }
     {
         self.passed = self.passed.saturating_add(bytes);
+        self.read = self.read.saturating_add(bytes);
+    }
+
+    /// Notes that a search read so many places more.
+    pub(super) fn note_read(&mut self, places: usize)
+        ensures core { self.new.core ≡ self.old.core }
+        ensures vm { self.new.vm ≡ self.old.vm }
+        ensures automaton { self.new.automaton ≡ self.old.automaton }
+        ensures back { self.new.back ≡ self.old.back }
+    {
+        self.read = self.read.saturating_add(places);
+    }
+
+    /// Notes that the PikeVM read an input from its span's start to where it stands.
+    pub(super) fn note_walk<C: Cursor>(&mut self, input: &Input<C>)
+        ensures core { self.new.core ≡ self.old.core }
+        ensures vm { self.new.vm ≡ self.old.vm }
+        ensures automaton { self.new.automaton ≡ self.old.automaton }
+        ensures back { self.new.back ≡ self.old.back }
+    {
+        self.note_read(input.position().saturating_sub(input.start()));
+    }
+
+    /// Whether a match's start may be looked for forward, from one place after the other: the
+    /// program isn't turned round, and that wouldn't have paid yet.
+    pub(super) fn may_step(&self) -> bool {
+        self.back.is_none() && !self.pays_to_turn()
+    }
+
+    /// Whether searches forward for starts took about as long as to turn the program round.
+    fn pays_to_turn(&self) -> bool {
+        self.walked >= self.core.states().saturating_mul(BYTES_A_STATE)
+    }
+
+    /// Notes that a match's start was looked for at the start of an input's span, from where it was
+    /// read to where it stands.
+    pub(super) fn note_step<C: Cursor>(&mut self, input: &Input<C>)
+        ensures core { self.new.core ≡ self.old.core }
+        ensures vm { self.new.vm ≡ self.old.vm }
+        ensures automaton { self.new.automaton ≡ self.old.automaton }
+        ensures back { self.new.back ≡ self.old.back }
+    {
+        let bytes = input.position().saturating_sub(input.start()).max(1);
+        self.walked = self.walked.saturating_add(bytes);
+    }
+
+    /// How many places searches read.
+    fn places_read(&self) -> usize {
+        self.read
     }
 
     /// Where the match ends, by the automaton whose states are made as searches come to them.
@@ -120,25 +178,39 @@ impl Kept {
             return Ok(());
         }
         self.walked = self.walked.saturating_add(bytes);
-        if self.walked < self.core.states().saturating_mul(BYTES_A_STATE) {
+        if !self.pays_to_turn() {
             return Ok(());
         }
+        self.turn_now()
+    }
+
+    // Apart, since a function pays for the room of what it makes at each call.
+    fn turn_now(&mut self) -> Result<(), MatchError>
+        requires serve { AreCachesOf self.old.core.value self.old.vm self.old.automaton
+            self.old.back }
+        ensures serve { AreCachesOf self.new.core.value self.new.vm self.new.automaton
+            self.new.back }
+        ensures core { self.new.core ≡ self.old.core }
+        ensures refused { IfErr result (λ error. error ≡ MatchError.Memory) }
+    {
         let back = Back::of(self.core.vm(), self.core.config())?;
         self.back = Some(back);
         Ok(())
     }
 
-    /// The match that is found in an input, of which it is known that it ends where the span does,
-    /// and of which pattern it is, by a search back from there; none where that doesn't pay. The
-    /// one refusal is `Memory`.
+    /// The match that is found in an input that isn't anchored, of which it is known that it ends
+    /// where the span does, and of which pattern it is, by a search back from there; none where
+    /// that doesn't pay. No automaton serves where `hybrid` is off. The one refusal is `Memory`.
     pub(super) fn whole_match<C: Cursor>(
         &mut self,
         input: &mut Input<C>,
         pattern: PatternID,
+        hybrid: bool,
     ) -> Result<Option<Match>, MatchError>
         requires serve { AreCachesOf self.old.core.value self.old.vm self.old.automaton
             self.old.back }
         requires ordered { input.old.asked.span.start ≤ input.old.asked.span.end }
+        requires unanchored { input.old.asked.anchored ≡ No }
         ensures whole { IfOk result (λ found. EndsLast self.old.core.value.vm.program
             self.old.core.value.vm.utf8_empty input.old pattern
             → IfSome found (λ m. IsWhole self.old.core.value.vm.program
@@ -151,19 +223,23 @@ impl Kept {
         ensures same { IsSameContent input.old.cursor input.new.cursor }
         ensures refused { IfErr result (λ error. error ≡ MatchError.Memory) }
     {
-        self.turn(input.end() - input.start())?;
+        let bytes = input.end() - input.start();
+        self.turn(bytes)?;
         let utf8_empty = self.core.vm().utf8_empty();
         match &mut self.back {
-            Some(back) => back.whole_match(input, utf8_empty, pattern),
+            Some(back) => {
+                self.read = self.read.saturating_add(bytes);
+                back.whole_match(input, utf8_empty, pattern, hybrid)
+            }
             None => Ok(None),
         }
     }
 }
 
 impl Kept {
-    /// What is found in an input that isn't anchored, by a search back from the end of its slice,
-    /// where all matches end there; nothing is told where the span doesn't, or before it pays. The
-    /// one refusal is `Memory`.
+    /// What is found in an input that isn't anchored, of a program whose matches all end where the
+    /// slice does, by the automaton back from there; nothing is told where the span goes on behind,
+    /// or before it pays. The one refusal is `Memory`.
     pub(super) fn search_last<C: Cursor>(
         &mut self,
         input: &mut Input<C>,
@@ -183,13 +259,14 @@ impl Kept {
         ensures same { IsSameContent input.old.cursor input.new.cursor }
         ensures refused { IfErr result (λ error. error ≡ MatchError.Memory) }
     {
-        if input.end() != input.get_slice().end {
-            return Ok(None);
-        }
-        self.turn(input.end() - input.start())?;
+        let bytes = input.end() - input.start();
+        self.turn(bytes)?;
         let utf8_empty = self.core.vm().utf8_empty();
         match &mut self.back {
-            Some(back) => back.search_last(input, utf8_empty),
+            Some(back) => {
+                self.read = self.read.saturating_add(bytes);
+                back.search_last(input, utf8_empty)
+            }
             None => Ok(None),
         }
     }
@@ -251,6 +328,7 @@ impl Cache {
             passed: 0,
             back: None,
             walked: 0,
+            read: 0,
         };
         Ok(Cache {
             kept: kept.boxed(alloc)?,
@@ -276,6 +354,11 @@ impl Cache {
         let alloc = self.kept.core.program().allocator();
         *self = Cache::new(alloc, re)?;
         Ok(())
+    }
+
+    /// How many places searches by it read.
+    pub(super) fn places_read(&self) -> usize {
+        self.kept.places_read()
     }
 
     /// Returns about how many bytes its lists take, without the program turned round: a count that

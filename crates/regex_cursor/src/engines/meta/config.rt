@@ -113,9 +113,9 @@ impl Config {
         })
     }
 
-    /// Sets which of all matches a search finds. Under `All` it is searched by the PikeVM alone, all
-    /// of the span unless the search is anchored or any match will do; and of groups the whole match
-    /// alone is noted.
+    /// Sets which of all matches a search finds. Under `All` it is searched by the PikeVM alone,
+    /// all of the span unless the search is anchored or any match will do; and of groups the whole
+    /// match alone is noted.
     pub fn match_kind(mut self, kind: MatchKind) -> Config
         ensures { result ≡ record self { match_kind = Some kind } }
     {
@@ -366,7 +366,7 @@ impl Config {
 
     /// What these settings ask of the engine that serves any search.
     pub(super) fn of_engine(&self) -> pikevm::Config
-        ensures { result ≡ engine_settings self.now }
+        ensures { result.engine ≡ engine_settings self.now }
     {
         pikevm::Config::new()
             .match_kind(self.get_match_kind())

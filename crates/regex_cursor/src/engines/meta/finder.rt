@@ -49,8 +49,8 @@ impl<'r> Finder<'r> {
         self.re
     }
 
-    /// The match that comes next in an input, whose span then starts at its end; or a refusal, which
-    /// is `Memory`. None comes after a refusal.
+    /// The match that comes next in an input, whose span then starts at its end; or a refusal,
+    /// which is `Memory`. None comes after a refusal.
     #[tactic(auto, using(crate::proofs::FewLaws::fewer_behind, crate::proofs::FewLaws::fewer_over))]
     pub(super) fn next<C: Cursor>(
         &mut self,

@@ -118,7 +118,8 @@ pub(super) fn find_half<C: Cursor>(
 }
 
 /// The match that is found in a part, which is an input's span: where its end is known, and its
-/// pattern, by a search back from there, if that pays, and else by the PikeVM.
+/// pattern, by searches for its start, and where these can't tell, or nothing is known, by the
+/// PikeVM.
 fn find_in<C: Cursor>(
     strategy: &Strategy,
     cache: &mut Cache,
@@ -139,12 +140,32 @@ fn find_in<C: Cursor>(
     ensures refused { IfErr result (λ error. error ≡ MatchError.Memory) }
 {
     let Some(pattern) = pattern else {
-        return pikevm::find(strategy.vm(), &mut cache.kept.vm, input);
+        return walk_to_match(strategy, cache, input);
     };
     match strategy.whole_match(&mut cache.kept, input, pattern)? {
         Some(found) => Ok(Some(found)),
-        None => pikevm::find(strategy.vm(), &mut cache.kept.vm, input),
+        None => walk_to_match(strategy, cache, input),
     }
+}
+
+/// The match that is found in an input's span, by the PikeVM.
+fn walk_to_match<C: Cursor>(
+    strategy: &Strategy,
+    cache: &mut Cache,
+    input: &mut Input<C>,
+) -> Result<Option<Match>, MatchError>
+    requires made { IsCacheOf (regex_of strategy.now) cache.old }
+    ensures answer { IfOk result (λ found. TellsMatch strategy.now.vm input.old found) }
+    ensures inside { IfOk result
+        (λ found. ForSome found (λ m. EndsInside input.old m.span.end)) }
+    ensures made { IsCacheOf (regex_of strategy.now) cache.new }
+    ensures asked { input.new.asked ≡ input.old.asked }
+    ensures same { IsSameContent input.old.cursor input.new.cursor }
+    ensures refused { IfErr result (λ error. error ≡ MatchError.Memory) }
+{
+    let found = pikevm::find(strategy.vm(), &mut cache.kept.vm, input);
+    cache.kept.note_walk(input);
+    found
 }
 
 /// The pattern of the match that is found, with its places in slots, as `Strategy::search_slots`
@@ -197,12 +218,15 @@ fn slots_of_found<C: Cursor>(
     ensures same { IsSameContent input.old.cursor input.new.cursor }
     ensures refused { IfErr result (λ error. error ≡ MatchError.Memory) }
 {
-    if !asks_whole(Some(found.pattern()), slots.len()) {
+    if !asks_whole(slots.len()) {
         return slots_of_part(strategy, cache, input, slots, Part::of(found));
     }
     // How long the content may be, and of what the engine is, for the proof alone.
     let _at = input.position();
     let _vm = strategy.vm();
+    if !is_first(found.pattern()) {
+        return Ok(Some(found.pattern()));
+    }
     put_match(slots, found.span());
     Ok(Some(PatternID::ZERO))
 }
@@ -235,20 +259,25 @@ fn slots_of_part<C: Cursor>(
     found
 }
 
-/// Whether the places of this pattern's match are all that is asked for in so many slots: it is the
-/// first one.
-fn asks_whole(pattern: Option<PatternID>, slots: usize) -> bool
-    ensures pattern { result ≡ true → pattern ≡ Some 0 }
-    ensures slots { result ≡ true → slots ≤ 2 }
+/// Whether so many slots are for no place but those of one whole match.
+fn asks_whole(slots: usize) -> bool
+    ensures { result ≡ true → slots ≤ 2 }
 {
-    match pattern {
-        Some(pattern) => pattern == PatternID::ZERO && slots <= 2,
-        None => false,
-    }
+    slots <= 2
+}
+
+/// Whether the first two slots are those of a pattern's whole match: it is the first pattern. Those
+/// of another one stand behind.
+fn is_first(pattern: PatternID) -> bool
+    ensures first { result ≡ true → pattern ≡ 0 }
+    ensures other { result ≡ false → pattern ≡ 0 → ⊥ }
+{
+    pattern == PatternID::ZERO
 }
 
 /// The pattern of the match that is found in a part, which is an input's span, with its places in
-/// slots, which hold none before: as `find_in` finds it where no group besides is asked for.
+/// slots, which hold none before: as `find_in` finds it where no group besides is asked for, and at
+/// once where none of its places is.
 fn slots_in<C: Cursor>(
     strategy: &Strategy,
     cache: &mut Cache,
@@ -270,17 +299,45 @@ fn slots_in<C: Cursor>(
     ensures same { IsSameContent input.old.cursor input.new.cursor }
     ensures refused { IfErr result (λ error. error ≡ MatchError.Memory) }
 {
-    let vm = strategy.vm();
-    if !asks_whole(pattern, slots.len()) {
-        return pikevm::search_slots(vm, &mut cache.kept.vm, input, slots);
+    let _vm = strategy.vm(); // tells of what the engine is
+    let Some(pattern) = pattern else {
+        return walk_to_slots(strategy, cache, input, slots);
+    };
+    if !asks_whole(slots.len()) {
+        return walk_to_slots(strategy, cache, input, slots);
     }
-    match strategy.whole_match(&mut cache.kept, input, PatternID::ZERO)? {
+    if !is_first(pattern) {
+        return Ok(Some(pattern));
+    }
+    match strategy.whole_match(&mut cache.kept, input, pattern)? {
         Some(found) => {
             put_match(slots, found.span());
             Ok(Some(PatternID::ZERO))
         }
-        None => pikevm::search_slots(vm, &mut cache.kept.vm, input, slots),
+        None => walk_to_slots(strategy, cache, input, slots),
     }
+}
+
+/// The pattern of the match that is found in an input's span, with its places in slots, by the
+/// PikeVM.
+fn walk_to_slots<C: Cursor>(
+    strategy: &Strategy,
+    cache: &mut Cache,
+    input: &mut Input<C>,
+    slots: &mut [Option<NonMaxUsize>],
+) -> Result<Option<PatternID>, MatchError>
+    requires made { IsCacheOf (regex_of strategy.now) cache.old }
+    ensures answer { IfOk result
+        (λ pattern. TellsSlots strategy.now.vm input.old pattern slots.new) }
+    ensures none { OnErr result (slots.new ≡ no_slots (length slots.new)) }
+    ensures made { IsCacheOf (regex_of strategy.now) cache.new }
+    ensures asked { input.new.asked ≡ input.old.asked }
+    ensures same { IsSameContent input.old.cursor input.new.cursor }
+    ensures refused { IfErr result (λ error. error ≡ MatchError.Memory) }
+{
+    let found = pikevm::search_slots(strategy.vm(), &mut cache.kept.vm, input, slots);
+    cache.kept.note_walk(input);
+    found
 }
 
 /// How many slots captures have.
@@ -416,6 +473,7 @@ pub(super) fn next_slots<C: Cursor>(
     };
     let whole = part.cut(input);
     let found = pikevm::next_slots(vm, &mut cache.kept.vm, input, slots, last_match_end);
+    cache.kept.note_walk(input);
     put_back(input, whole);
     found
 }
@@ -504,6 +562,7 @@ fn find_next_whole<C: Cursor>(
     };
     let whole = part.cut(input);
     let found = pikevm::find_next(strategy.vm(), &mut cache.kept.vm, input, last_match_end);
+    cache.kept.note_walk(input);
     put_back(input, whole);
     found
 }

@@ -43,9 +43,18 @@ use std::rc::Rc;
 ///
 /// The plain calls make a cache each, which takes memory and time in proportion to the pattern's
 /// program; those named `_with` are handed one, and take none of either for it.
-#[derive(Debug, Drop)]
+#[derive(Debug)]
 pub struct Regex {
     strategy: Rc<Strategy>,
+}
+
+// Written out, so that no crate above proves anew how what it holds is let go.
+impl Drop for Regex {
+    fn drop(self) {
+        let Regex {
+            strategy: _strategy,
+        } = self;
+    }
 }
 
 impl Model for Regex {
@@ -244,8 +253,8 @@ impl Regex {
 
     /// Returns the match that is found: of those that start first the one that the pattern prefers;
     /// or under `MatchKind::All` of those with the greatest end the one that starts first, and of
-    /// these the one of the first pattern. It ends in the span. Where `earliest` is set, only that, and whether there is a match, is
-    /// promised. The one error is `Memory`.
+    /// these the one of the first pattern. It ends in the span. Where `earliest` is set, only that,
+    /// and whether there is a match, is promised. The one error is `Memory`.
     pub fn search<C: Cursor + Drop>(&self, mut input: Input<C>) -> Result<Option<Match>, MatchError>
         ensures answer { IfOk result (λ found. TellsMatch self.now.engine input found) }
         ensures inside { IfOk result (λ found. ForSome found (λ m. EndsInside input m.span.end)) }
@@ -326,9 +335,9 @@ impl Regex {
     }
 
     /// Returns the pattern and the end of the match that `search_with` finds. Where `earliest` is
-    /// set, only whether there is a match, and that this ends in the span, is promised. Span, slice,
-    /// anchoring and `earliest` of the input stay as they are. The one error is `Memory`. Requires
-    /// that the cache is one for this regex, as it is afterwards too.
+    /// set, only whether there is a match, and that this ends in the span, is promised. Span,
+    /// slice, anchoring and `earliest` of the input stay as they are. The one error is `Memory`.
+    /// Requires that the cache is one for this regex, as it is afterwards too.
     pub fn search_half_with<C: Cursor>(
         &self,
         cache: &mut Cache,
@@ -375,11 +384,12 @@ impl Regex {
     }
 
     /// Returns the pattern of the match that is found, if there is one, and puts its places into
-    /// the slots, as many as there are; all others hold none. Those of group k are 2k and 2k + 1.
-    /// Where `earliest` is set, only whether there is a match is promised, and that no slot holds a
-    /// place where there is none. Span, slice, anchoring and `earliest` of the input stay as they
-    /// are. The one error is `Memory`: then no slot holds a place. Requires that the cache is one
-    /// for this regex, as it is afterwards too.
+    /// the slots, as many as there are; all others hold none. Of a single pattern those of group k
+    /// are 2k and 2k + 1; of several those of pattern p's whole match are 2p and 2p + 1, and its
+    /// further groups stand behind these. Where `earliest` is set, only whether there is a match is
+    /// promised, and that no slot holds a place where there is none. Span, slice, anchoring and
+    /// `earliest` of the input stay as they are. The one error is `Memory`: then no slot holds a
+    /// place. Requires that the cache is one for this regex, as it is afterwards too.
     pub fn search_slots_with<C: Cursor>(
         &self,
         cache: &mut Cache,

@@ -56,8 +56,8 @@ impl<'r> Splitter<'r> {
         &mut self,
         input: &mut Input<C>,
     ) -> Option<Result<Span, MatchError>>
-        ensures next { SplitsOff (EngineFinds (regex_in self.old).engine) (left_in self.old input.old)
-            (left_in self.new input.new) result }
+        ensures next { SplitsOff (EngineFinds (regex_in self.old).engine)
+            (left_in self.old input.old) (left_in self.new input.new) result }
         ensures same_regex { regex_in self.new ≡ regex_in self.old }
         ensures fewer { OnSome result (size (parts_left (left_in self.new input.new))
             < size (parts_left (left_in self.old input.old))) }
@@ -85,8 +85,8 @@ impl<'r> Splitter<'r> {
         }
     }
 
-    /// The part from the end of the last match to the end of an input's span, at most to that of its
-    /// content, where it doesn't start behind that. It is the last one.
+    /// The part from the end of the last match to the end of an input's span, at most to that of
+    /// its content, where it doesn't start behind that. It is the last one.
     pub(super) fn rest<C: Cursor>(&mut self, input: &mut Input<C>) -> Option<Span>
         ensures rest { EndsWith (left_in self.old input.old).last
             (end_of_search (left_in self.old input.old).matches.search) result }

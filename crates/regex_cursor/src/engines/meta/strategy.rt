@@ -28,12 +28,13 @@ use super::cache::{Cache, Kept};
 use super::config::Config;
 use super::dense::{bytes_of_states, closed_of, state_count};
 use super::left::{Left, Part, Start, Told, find_literal, half_of, put_back, start_of_literal};
-use super::leftmost;
 use super::literals::Literals;
+use super::{ahead, leftmost};
 use rx_chunk::pikevm::{self, PikeVM};
 use rx_dfa::{Alphabet, DenseTable};
 use rx_input::{Cursor, Input};
 use rx_literals::{Prefilter, ends_with_slice};
+use rx_matches::halves::{starts_first, whole};
 use rx_program::Program;
 use rx_util::{Captures, HalfMatch, Match, MatchError, MatchKind, NonMaxUsize, PatternID};
 use std::alloc::{AllocError, Global};
@@ -317,8 +318,14 @@ impl Strategy {
             return Ok(Left::Nothing);
         }
         match self.first_start(input) {
-            Start::Nowhere => Ok(Left::Nothing),
-            Start::At(span) => Ok(Left::Match(span)),
+            Start::Nowhere => {
+                kept.note_read(input.end().saturating_sub(input.start()));
+                Ok(Left::Nothing)
+            }
+            Start::At(span) => {
+                kept.note_read(span.end.saturating_sub(input.start()));
+                Ok(Left::Match(span))
+            }
             Start::From(place) => self.ask_from(place, kept, input),
         }
     }
@@ -342,6 +349,7 @@ impl Strategy {
         ensures refused { IfErr result (λ error. error ≡ MatchError.Memory) }
     {
         let whole = input.get_span();
+        kept.note_read(place - whole.start);
         input.set_start(place);
         let left = self.ask_rest(kept, input);
         put_back(input, whole);
@@ -371,7 +379,8 @@ impl Strategy {
     }
 
     /// Asks what a search back from the end of the slice tells, where all matches end there, the
-    /// search isn't anchored, and it pays. The one refusal is `Memory`.
+    /// search isn't anchored, and it pays: by the automaton alone, since walks take longer than the
+    /// search forward. The one refusal is `Memory`.
     fn ask_back<C: Cursor>(
         &self,
         kept: &mut Kept,
@@ -387,16 +396,16 @@ impl Strategy {
         ensures same { IsSameContent input.old.cursor input.new.cursor }
         ensures refused { IfErr result (λ error. error ≡ MatchError.Memory) }
     {
-        if !self.ends_last || input.get_anchored().is_anchored() {
+        if !self.ends_last || !self.config().get_hybrid() || input.get_anchored().is_anchored() {
             return Ok(None);
         }
         kept.search_last(input)
     }
 
     /// Asks the automaton what it tells of a search: that there is no match, or where the match
-    /// ends; or nothing, where it can't tell, or where it would come to more than the search
-    /// needs. The one refusal is `Memory`.
-    fn ask_automaton<C: Cursor>(
+    /// ends; or nothing, where it can't tell, or any match will do: it goes on to the end of the
+    /// one that is found, and the PikeVM stops at the first end. The one refusal is `Memory`.
+    pub(super) fn ask_automaton<C: Cursor>(
         &self,
         kept: &mut Kept,
         input: &mut Input<C>,
@@ -409,8 +418,7 @@ impl Strategy {
         ensures same { IsSameContent input.old.cursor input.new.cursor }
         ensures refused { IfErr result (λ error. error ≡ MatchError.Memory) }
     {
-        let wants_less = input.get_earliest() || input.get_anchored().is_anchored();
-        if wants_less || !self.may_ask_automaton(kept) {
+        if input.get_earliest() || !self.may_ask_automaton(kept) {
             return Ok(Told::Unknown);
         }
         let answer = self.search_half(kept, input);
@@ -424,8 +432,9 @@ impl Strategy {
     }
 
     /// The match that is found in an input, of which it is known that it ends where the span does,
-    /// and of which pattern it is, by a search back from there; none where that doesn't pay. The
-    /// one refusal is `Memory`.
+    /// and of which pattern it is. It starts where the span does, since the input is anchored, or
+    /// it is an empty one there; or where the automaton finds one first, or where a search back
+    /// tells; none where neither does. The one refusal is `Memory`.
     pub(super) fn whole_match<C: Cursor>(
         &self,
         kept: &mut Kept,
@@ -446,7 +455,14 @@ impl Strategy {
         ensures refused { IfErr result (λ error. error ≡ MatchError.Memory) }
     {
         let _at = input.position(); // tells how long the content may be
-        kept.whole_match(input, pattern)
+        let end = input.end();
+        if starts_first(input, end) {
+            return Ok(Some(whole(HalfMatch::new(pattern, end), input.start())));
+        }
+        if kept.may_step() {
+            return ahead::whole_match(self, kept, input, pattern);
+        }
+        kept.whole_match(input, pattern, self.config().get_hybrid())
     }
 
     /// Where the match lies, by the literal that each match is, or where it may begin, by those
@@ -629,7 +645,7 @@ impl Strategy {
     }
 
     /// Of a part in which the match lies that is found, what that match takes, where its start is
-    /// found by a search back. The one refusal is `Memory`.
+    /// found without the PikeVM. The one refusal is `Memory`.
     fn shorten<C: Cursor>(
         &self,
         kept: &mut Kept,

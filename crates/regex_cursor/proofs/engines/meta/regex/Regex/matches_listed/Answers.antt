@@ -2,8 +2,8 @@ use Rattle.std.proofs.Common.{◌*◌, ◌≤◌, All, length, map, sym, ap, sub
 use Rattle.rx_chunk.specs.Engines.{match_of}
 use Rattle.regex_cursor.specs.Listing.{IsWhole, TellsAll, leftmost_first, match_listed}
 use Rattle.regex_cursor.specs.Regexes.{search_by}
-use Rattle.regex_cursor.proofs.ListingLaws.{are_whole, as_iterated, list_of, tells_matches}
-use Rattle.regex_cursor.proofs.engines.meta.regex.Regex.all_matches.Goals as goal
+use Rattle.regex_cursor.proofs.ListingLaws.{are_whole, list_of, tells_matches}
+use Rattle.regex_cursor.proofs.engines.meta.regex.Regex.matches_listed.Goals as goal
 
 pub matches_of-requires : goal.matches_of-requires
 matches_of-requires g c =
@@ -24,8 +24,3 @@ returns-clause-all g c =
     let room : 2 * length e.groups ≤ len = omega (arith, c.implicit_slot_len-slots.ensures.len, ap length c.group_info.ensures.groups) in
     subst (λ x. TellsAll (leftmost_first x) (search_by x c.args.input) match_of items) c.vm-vm.ensures
     (tells_matches e c.program.ensures.engine len room (search_by e c.args.input) listed all items (c.in_ok-matches_of.ensures ∙ ap (λ xs. map match_listed xs) c.deref.ensures.value))
-
-pub returns-clause-iterated : goal.returns-clause-iterated
-returns-clause-iterated g c = λ kind.
-    let re = c.args.self.now in
-    as_iterated re.engine (search_by re.engine c.args.input) match_of c.in_ok-matches_of.field-0.items kind (returns-clause-all g c)
