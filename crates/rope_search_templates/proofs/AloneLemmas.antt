@@ -6,12 +6,12 @@ use Rattle.rope_search_changes.specs.Text.{line_count}
 use Rattle.rope_search_changes.specs.Replacement.{Groups, alone, whole, between, expand, replaced, searched, changes_of}
 use Rattle.rope_search_changes.specs.declared.Change.{Change}
 use Rattle.rope_search_templates.specs.Laws.{SpansAreEnough}
-use Rattle.rope_search_templates.specs.Templates.{names_groups}
-use Rattle.rope_search_templates.proofs.ExpandLemmas.{expand-fixed}
+use Rattle.rope_search_templates.specs.Templates.{names_explicit_groups}
+use Rattle.rope_search_templates.proofs.ExpandLemmas.{expand-alone}
 
-module _ (content template : List ℕ) (none : names_groups template ≡ false) where
+module _ (content template : List ℕ) (none : names_explicit_groups template ≡ false) where
   one-text : (match : Groups) → expand content (alone (whole match)) template ≡ expand content match template
-  one-text match = expand-fixed content (alone (whole match)) template none ∙ sym (expand-fixed content match template none)
+  one-text match = expand-alone content match template none
 
   same-text : (at : ℕ) (matches : List Groups) → replaced content template at (map alone (map whole matches)) ≡ replaced content template at matches
   same-text at [] = refl

@@ -1,5 +1,5 @@
 -- A text built from its start on, in which matches are replaced one after the other.
-use Rattle.std.proofs.Common.{◌≡◌, ℕ, ◌-◌, ◌≤◌, List, [], ◌∷◌, ◌++◌, length, get_or, chars, drop, sym, ap, subst, ◌+◌, ◌<◌, ◌∙◌, append_assoc}
+use Rattle.std.proofs.Common.{◌≡◌, ℕ, List, [], ◌∷◌, ◌++◌, length, get_or, drop, subst, ◌+◌, ◌<◌, ◌∙◌, append_assoc}
 use Rattle.std.proofs.lemmas.List.{drop_more}
 use Rattle.rope_search_changes.specs.Replacement.{Groups, whole, between, expand, replaced}
 use Rattle.rope_search_templates.proofs.ContentLemmas.{AreLeft, left-behind}

@@ -1,12 +1,13 @@
 -- What a template stands for, piece by piece.
-use Rattle.std.proofs.Common.{◌≡◌, ℕ, zero, suc, ◌-◌, ◌≤◌, ◌==◌, ◌&&◌, Bool, true, false, List, [], ◌∷◌, ◌++◌, Option, Some, None, is_some, SomeIff, IfSome, nat_le, refl, ap, sym, ◌∙◌, arith, inl, inr}
+use Rattle.std.proofs.Common.{◌≡◌, ℕ, zero, suc, ◌-◌, ◌≤◌, ◌==◌, ◌&&◌, ◌||◌, Bool, true, false, List, [], ◌∷◌, ◌++◌, Option, Some, None, is_some, SomeIff, IfSome, nat_le, nat_lt, refl, ap, ap₂, sym, ◌∙◌, arith, inl, inr}
 use Rattle.std.proofs.lemmas.Bool.{cases_Bool}
 use Rattle.std.proofs.lemmas.Bool.Decides.{nat_tests}
+use Rattle.std.proofs.lemmas.Str.{chars-nil}
 use Rattle.std.specs.Bool.{then_some}
 use Rattle.std.specs.Str.{NonePass}
 use Rattle.str_indices.specs.Text.{byte_len}
-use Rattle.rope_search_changes.specs.Replacement.{Groups, alone, HasSpansIn, expand, group_text, is_digit}
-use Rattle.rope_search_templates.specs.Templates.{IsSame, names_groups}
+use Rattle.rope_search_changes.specs.Replacement.{Groups, alone, whole, HasSpansIn, expand, group_text, is_digit}
+use Rattle.rope_search_templates.specs.Templates.{IsSame, names, names_explicit_groups, names_groups}
 use Rattle.rope_search_templates.specs.Pieces.{StartsPlain}
 
 -- the test that a character is a dollar
@@ -45,20 +46,20 @@ expand-group content groups d cs low high =
 
 -- ---- and whether groups are named
 
-names-other : (c : ℕ) (cs : List ℕ) → is_dollar c ≡ false → names_groups (c ∷ cs) ≡ names_groups cs
-names-other c [] other = refl
-names-other c (d ∷ ds) other = rw other refl
+names-other : (test : ℕ → Bool) (c : ℕ) (cs : List ℕ) → is_dollar c ≡ false → names test (c ∷ cs) ≡ names test cs
+names-other test c [] other = refl
+names-other test c (d ∷ ds) other = rw other refl
 
-pub names-plain : (xs ys : List ℕ) → NonePass is_dollar xs → names_groups (xs ++ ys) ≡ names_groups ys
-names-plain [] ys none = refl
-names-plain (x ∷ xs) ys none = names-other x (xs ++ ys) none.0 ∙ names-plain xs ys none.1
+pub names-plain : (test : ℕ → Bool) (xs ys : List ℕ) → NonePass is_dollar xs → names test (xs ++ ys) ≡ names test ys
+names-plain test [] ys none = refl
+names-plain test (x ∷ xs) ys none = names-other test x (xs ++ ys) none.0 ∙ names-plain test xs ys none.1
 
-pub names-lone : (cs : List ℕ) → StartsPlain cs → names_groups (36 ∷ cs) ≡ names_groups cs
-names-lone [] plain = refl
-names-lone (c ∷ cs) plain = rw (plain.0, plain.1) refl
+pub names-lone : (test : ℕ → Bool) (cs : List ℕ) → StartsPlain cs → names test (36 ∷ cs) ≡ names test cs
+names-lone test [] plain = refl
+names-lone test (c ∷ cs) plain = rw (plain.0, plain.1) refl
 
-pub names-group : (d : ℕ) (cs : List ℕ) → 48 ≤ d → d ≤ 57 → names_groups (36 ∷ d ∷ cs) ≡ true
-names-group d cs low high =
+pub names-group : (test : ℕ → Bool) (d : ℕ) (cs : List ℕ) → 48 ≤ d → d ≤ 57 → names test (36 ∷ d ∷ cs) ≡ (test (d - 48) || names test cs)
+names-group test d cs low high =
     let other : is_dollar d ≡ false = grind (arith, nat_tests) in
     let digit : is_digit d ≡ true = grind (arith, nat_tests) in
     rw (other, digit) refl
@@ -75,6 +76,36 @@ expand-fixed content groups (c ∷ d ∷ rest) none = elim (cases_Bool ((c == 36
     | inr more ↦ rw (other, more) (ap (λ cs. c ∷ cs) (expand-fixed content groups (d ∷ rest) (rw (other, more) at none)))
   ]
 ]
+
+-- where no group but the whole match is named, the match's span is enough
+whole-told : (content : List ℕ) (groups : Groups) (number : ℕ) → number ≡ 0 → group_text content (alone (whole groups)) number ≡ group_text content groups number
+whole-told content [] zero first = chars-nil
+whole-told content (None ∷ others) zero first = chars-nil
+whole-told content (Some span ∷ others) zero first = refl
+whole-told content groups (suc number) first = absurd (omega (arith, first))
+
+pub expand-alone : (content : List ℕ) (groups : Groups) (template : List ℕ) → names_explicit_groups template ≡ false
+    → expand content (alone (whole groups)) template ≡ expand content groups template
+expand-alone content groups [] none = refl
+expand-alone content groups (c ∷ []) none = refl
+expand-alone content groups (c ∷ d ∷ rest) none = elim (cases_Bool ((c == 36) && (d == 36))) [
+  | inl pair ↦ rw pair (ap (λ cs. 36 ∷ cs) (expand-alone content groups rest (rw pair at none)))
+  | inr other ↦ elim (cases_Bool ((c == 36) && is_digit d)) [
+    | inl named ↦
+        let neither : (nat_lt 0 (d - 48) || names_explicit_groups rest) ≡ false = rw (other, named) at none in
+        let first : d - 48 ≡ 0 = grind (arith, nat_tests, or-left (nat_lt 0 (d - 48)) (names_explicit_groups rest) neither) in
+        rw (other, named) (ap₂ (λ told behind. told ++ behind) (whole-told content groups (d - 48) first) (expand-alone content groups rest (or-right (nat_lt 0 (d - 48)) (names_explicit_groups rest) neither)))
+    | inr more ↦ rw (other, more) (ap (λ cs. c ∷ cs) (expand-alone content groups (d ∷ rest) (rw (other, more) at none)))
+  ]
+]
+  where
+    or-left : (a b : Bool) → (a || b) ≡ false → a ≡ false
+    or-left false b is = refl
+    or-left true b is = absurd (cc)
+
+    or-right : (a b : Bool) → (a || b) ≡ false → b ≡ false
+    or-right false b is = is
+    or-right true b is = absurd (cc)
 
 -- ---- a template that stands for one text
 

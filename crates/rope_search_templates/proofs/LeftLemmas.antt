@@ -1,10 +1,10 @@
 -- What is left of a text, chunk by chunk.
-use Rattle.std.proofs.Common.{◌≡◌, ℕ, ◌+◌, ◌-◌, ◌<◌, ◌≤◌, true, List, [], ◌∷◌, ◌++◌, length, take, drop, get_or, chars, refl, sym, ap, subst, ◌∙◌, arith, append_assoc, append-nil, length-append, IsUtf8}
+use Rattle.std.proofs.Common.{◌≡◌, ℕ, ◌+◌, ◌-◌, ◌<◌, ◌≤◌, true, List, [], ◌∷◌, ◌++◌, length, take, drop, get_or, chars, refl, sym, ap, subst, ◌∙◌, arith, append_assoc, length-append, length-take, IsUtf8}
 use Rattle.std.specs.Str.{IsCharBoundary, all_scalars}
 use Rattle.std.proofs.Math.ListN.{get_or-append}
 use Rattle.std.proofs.Math.Seq.{take-append_seam, drop-append_seam}
-use Rattle.std.proofs.lemmas.List.{get_or-append-add}
-use Rattle.std.proofs.lemmas.Str.{IsUtf8-append, chars-append, chars-nil, encodes-append, encodes-chars, IsUtf8-nil}
+use Rattle.std.proofs.lemmas.List.{get_or-append-add, take-append-drop}
+use Rattle.std.proofs.lemmas.Str.{IsUtf8-append, encodes-append, encodes-chars, IsUtf8-nil}
 use Rattle.ropey.specs.Chunks.{text_of}
 use Rattle.rope_search_changes.specs.Text.{bytes_of}
 use Rattle.rope_search_templates.proofs.ContentLemmas.{scalars-parts}
@@ -39,6 +39,13 @@ boundary-behind part rest n here low =
     let is : get_or (part ++ rest) n 0 ≡ get_or rest k 0 = ap (λ i. get_or (part ++ rest) i 0) (sym n_is) ∙ get_or-append-add part rest k 0 in
     let len = length-append part rest in
     (omega (arith, here.0, len), λ inside high. let found = here.1 (omega (arith, inside, len, n_is)) (omega (arith, is, high)) in omega (arith, is, found))
+
+-- of a place behind another one, in what is behind that
+pub boundary-left : (content : List ℕ) (start end : ℕ) → start ≤ end → IsCharBoundary content start → IsCharBoundary content end → IsCharBoundary (drop start content) (end - start)
+boundary-left content start end ordered starts ends =
+    let len : length (take start content) ≡ start = omega (arith, length-take start content, starts.0) in
+    subst (λ n. IsCharBoundary (drop start content) (end - n)) len
+    (boundary-behind (take start content) (drop start content) end (subst (λ bs. IsCharBoundary bs end) (sym (take-append-drop start content)) ends) (omega (arith, len, ordered)))
 
 -- ---- what was taken
 

@@ -93,7 +93,7 @@ first-dollar (a ∷ b ∷ bs) behind text utf8 two a-is b-is text_utf8 one behin
     rw (left-is, rest-is) (record {
       is_one = text_utf8;
       expands = λ content groups. rw one-is refl;
-      names = refl;
+      names_it = λ test. refl;
       shorter = omega arith;
     })
 
@@ -111,7 +111,7 @@ first-group (a ∷ b ∷ bs) behind utf8 two a-is low high behind-is =
     rw (left-is, rest-is) (record {
       is_one = omega arith;
       expands = λ content groups. expand-group content groups b (chars bs) low high;
-      names = names-group b (chars bs) low high;
+      names_it = λ test. names-group test b (chars bs) low high;
       shorter = omega arith;
     })
 
@@ -166,7 +166,7 @@ first-text (a ∷ bs) behind text n utf8 is = elim (cases_Bool (is_dollar a)) [
       rw left-is (record {
         is_one = is.text_utf8;
         expands = λ content groups. expand-lone content groups (front ++ chars behind) parts.3 ∙ ap (λ cs. 36 ∷ cs) (expand-plain content groups front (chars behind) parts.2) ∙ ap (λ cs. cs ++ expand content groups (chars behind)) (sym parts.1);
-        names = names-lone (front ++ chars behind) parts.3 ∙ names-plain front (chars behind) parts.2;
+        names_it = λ test. names-lone test (front ++ chars behind) parts.3 ∙ names-plain test front (chars behind) parts.2;
         shorter = omega (arith, length-append front (chars behind));
       })
   | inr is_not ↦
@@ -176,7 +176,7 @@ first-text (a ∷ bs) behind text n utf8 is = elim (cases_Bool (is_dollar a)) [
       rw left-is (record {
         is_one = is.text_utf8;
         expands = λ content groups. expand-plain content groups (chars text.now) (chars behind) none;
-        names = names-plain (chars text.now) (chars behind) none;
+        names_it = λ test. names-plain test (chars text.now) (chars behind) none;
         shorter = omega (arith, length-append (chars text.now) (chars behind), some);
       })
 ]

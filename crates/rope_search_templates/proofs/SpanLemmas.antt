@@ -1,5 +1,5 @@
 -- The texts of groups.
-use Rattle.std.proofs.Common.{◌≡◌, ℕ, zero, suc, ◌+◌, ◌-◌, ◌<◌, ◌≤◌, List, [], ◌∷◌, refl, length, take, drop, ◌++◌, Option, Some, None, slice_index_or, ap, sym, subst, ◌∙◌, arith, IsUtf8, IfSome}
+use Rattle.std.proofs.Common.{◌≡◌, ℕ, zero, suc, ◌+◌, ◌-◌, ◌<◌, ◌≤◌, List, [], ◌∷◌, refl, length, take, drop, Option, Some, None, slice_index_or, ap, sym, subst, ◌∙◌, arith, IsUtf8, IfSome}
 use Rattle.std.proofs.lemmas.List.{length-take-le, length-drop}
 use Rattle.std.proofs.lemmas.Str.{encodes-chars, IsUtf8-between}
 use Rattle.str_indices.specs.Text.{byte_len}

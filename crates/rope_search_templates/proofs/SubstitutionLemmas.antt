@@ -1,5 +1,5 @@
 -- Texts put in the place of parts of a content: the changes, how long it gets, and each by an edit.
-use Rattle.std.proofs.Common.{◌≡◌, ℕ, zero, suc, ◌+◌, ◌-◌, ◌<◌, ◌≤◌, true, List, [], ◌∷◌, ◌++◌, length, take, drop, map, get_or, chars, refl, sym, ap, subst, ◌∙◌, arith, append_assoc, append-nil, length-drop, All, IsUtf8}
+use Rattle.std.proofs.Common.{◌≡◌, ℕ, zero, suc, ◌+◌, ◌-◌, ◌<◌, ◌≤◌, true, List, [], ◌∷◌, ◌++◌, length, take, drop, map, get_or, chars, refl, sym, ap, subst, ◌∙◌, arith, append_assoc, length-drop, All, IsUtf8}
 use Rattle.std.specs.Str.{IsCharBoundary, all_scalars}
 use Rattle.std.proofs.lemmas.List.{drop_all, drop_more, drop-map, length-map}
 use Rattle.std.proofs.lemmas.List.Elements.{All-head, All-tail}

@@ -1,7 +1,7 @@
 -- Laws of replacing.
 use Rattle.std.specs.Prelude.{◌≡◌, ℕ, false, List, map}
 use Rattle.rope_search_changes.specs.Replacement.{Groups, alone, whole, replaced, searched, changes_of}
-use Rattle.rope_search_templates.specs.Templates.{names_groups}
+use Rattle.rope_search_templates.specs.Templates.{names_explicit_groups}
 
 -- with these matches a template leaves the same text as with those, by the same changes, which may
 -- have as many lines searched
@@ -10,7 +10,8 @@ pub record ReplaceAlike (content template : List ℕ) (matches others : List Gro
   pub changes : changes_of content template 0 0 matches ≡ changes_of content template 0 0 others
   pub lines : searched content template matches ≡ searched content template others
 
--- a template that names no group needs the spans alone
+-- a template that names no group but the whole match needs the spans alone
 abbrev pub SpansAreEnough : Type 0
-SpansAreEnough = (content template : List ℕ) (matches : List Groups) → names_groups template ≡ false
+SpansAreEnough = (content template : List ℕ) (matches : List Groups)
+    → names_explicit_groups template ≡ false
     → ReplaceAlike content template (map alone (map whole matches)) matches

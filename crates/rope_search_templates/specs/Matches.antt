@@ -1,5 +1,5 @@
 -- The matches that a template replaces, by their groups.
-use Rattle.std.specs.Prelude.{ℕ, List, map}
+use Rattle.std.specs.Prelude.{List, map}
 use Rattle.rope_search_changes.specs.Replacement.{Groups, alone}
 use Rattle.rope_search_templates.specs.declared.matches.Match.{Match}
 use Rattle.rope_search_templates.specs.declared.matches.Match.TheVariants as match

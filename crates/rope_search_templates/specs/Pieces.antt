@@ -1,7 +1,7 @@
 -- The pieces of a template, one after the other.
-use Rattle.std.specs.Prelude.{◌≡◌, ℕ, ◌+◌, ◌<◌, ◌≤◌, ◌==◌, Bool, true, false, ◌||◌, List, [], ◌∷◌, ◌++◌, length, slice_index, Option, chars, MatchOption, IsUtf8}
+use Rattle.std.specs.Prelude.{◌≡◌, ℕ, ◌+◌, ◌<◌, ◌≤◌, ◌==◌, Bool, false, ◌||◌, List, [], ◌∷◌, ◌++◌, length, slice_index, Option, chars, MatchOption, IsUtf8}
 use Rattle.rope_search_changes.specs.Replacement.{Groups, expand, group_text, is_digit}
-use Rattle.rope_search_templates.specs.Templates.{names_groups}
+use Rattle.rope_search_templates.specs.Templates.{names}
 use Rattle.rope_search_templates.specs.declared.pieces.Piece.{Piece}
 use Rattle.rope_search_templates.specs.declared.pieces.Piece.TheVariants.{Text, Group}
 
@@ -10,10 +10,10 @@ abbrev pub shown : List ℕ → Groups → Piece → List ℕ
 shown content groups (Text text) = chars text.now
 shown content groups (Group number) = group_text content groups number
 
--- whether it names a group
-abbrev pub is_group : Piece → Bool
-is_group (Text text) = false
-is_group (Group number) = true
+-- whether it names a group that passes a test
+abbrev pub is_group : (ℕ → Bool) → Piece → Bool
+is_group test (Text text) = false
+is_group test (Group number) = test number
 
 -- a text is UTF-8, and a group has one digit
 abbrev pub IsPiece : Piece → Type 0
@@ -25,7 +25,7 @@ pub record IsFirstPiece (left : List ℕ) (piece : Piece) (behind : List ℕ) : 
   pub is_one : IsPiece piece
   pub expands : (content : List ℕ) (groups : Groups)
       → expand content groups left ≡ shown content groups piece ++ expand content groups behind
-  pub names : names_groups left ≡ (is_group piece || names_groups behind)
+  pub names_it : (test : ℕ → Bool) → names test left ≡ (is_group test piece || names test behind)
   pub shorter : length behind < length left
 
 -- A step gives the first piece of what is left. Where nothing is left it gives none.

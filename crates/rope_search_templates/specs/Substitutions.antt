@@ -1,5 +1,5 @@
 -- Texts in the place of parts of a content, all told by places of the content before any of them.
-use Rattle.std.specs.Prelude.{◌≡◌, ℕ, ◌+◌, ◌-◌, ◌≤◌, List, [], ◌∷◌, ◌++◌, drop, sum_by, chars, All, IsUtf8}
+use Rattle.std.specs.Prelude.{ℕ, ◌+◌, ◌-◌, ◌≤◌, List, [], ◌∷◌, ◌++◌, drop, sum_by, chars, All, IsUtf8}
 use Rattle.std.specs.Str.{IsCharBoundary}
 use Rattle.str_indices.specs.Text.{byte_len}
 use Rattle.rope_search_changes.specs.Text.{IsText, bytes_of, line_count}

@@ -2,8 +2,8 @@
 ghost use Rattle.rope_search_templates.specs.Laws.{SpansAreEnough};
 ghost use Rattle.rope_search_templates.specs.Substitutions.{SubstitutedIsText, SubstitutionsAreChanges};
 
-/// A template that names no group needs the spans of matches alone: with these the same text is
-/// left by the same changes.
+/// A template that names no group but the whole match needs the spans of matches alone: with these
+/// the same text is left by the same changes.
 pub fn spans_are_enough()
     ensures { SpansAreEnough }
 {}

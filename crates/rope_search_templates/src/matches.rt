@@ -5,8 +5,8 @@ ghost use Rattle.rope_search_templates.specs.Matches.{groups_in, matched};
 
 use rope_search_changes::Groups;
 
-/// The matches of a text, from the first on. A template that names no group needs their spans
-/// alone, which take a fifteenth of the memory.
+/// The matches of a text, from the first on. A template that names no group but the whole match
+/// needs their spans alone, which take a fifteenth of the memory.
 #[derive(Drop)]
 pub enum Matches {
     /// Where each starts and where it ends.

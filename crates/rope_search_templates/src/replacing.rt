@@ -55,105 +55,75 @@ pub fn is_over(limit: usize, text: &Rope, template: &Template<'_>, matches: &Mat
     room < text_len - at
 }
 
-/// The changes that replace these matches.
-fn changes_of(
-    alloc: Global,
-    text: &Rope,
-    template: &Template<'_>,
-    matches: &Matches,
-) -> Result<Vec<Change>, Fault>
-    requires matches { AreMatchesIn (bytes_of (text_of text.now)) (matched matches.now) }
-    requires fits { byte_len (replaced (bytes_of (text_of text.now)) template.now 0
-        (matched matches.now)) < 2 ^ 63 }
-    ensures changes { IfOk result (λ changes. changes.items ≡
-        changes_of (bytes_of (text_of text.now)) template.now 0 0 (matched matches.now)) }
-    ensures fault { IfErr result (λ fault. fault ≡ Fault.Memory) }
-{
-    // For its facts alone.
-    let _ = text.len_bytes();
-    let mut changes = Vec::with_capacity(alloc, matches.len())?;
-    // Where the last match ends, in the old text and in the new one.
-    let (mut at, mut at_new) = (0, 0);
-    for index in 0..matches.len() {
-        let found = matches.at(index);
-        let (start, end) = found.span();
-        let new_start = at_new + (start - at);
-        let Some(len) = template.len_within(usize::MAX, found) else {
-            unreachable!();
-        };
-        at = end;
-        at_new = new_start + len;
-        changes.push_reserved(Change {
-            old_end: end,
-            new_start,
-            new_end: at_new,
-        });
-    }
-    Ok(changes)
-}
-
 /// The text with these matches replaced by edits, which shares what lies between them with the old
-/// text. The last match comes first, so that the places of those before it stay.
+/// text, and the changes.
 fn edited(
     alloc: Global,
     text: &Rope,
     template: &Template<'_>,
     matches: &Matches,
-) -> Result<Rope, Fault>
-    requires { AreMatchesIn (bytes_of (text_of text.now)) (matched matches.now) }
-    ensures text { IfOk result (λ new. text_of new ≡
+) -> Result<Replacement, Fault>
+    requires matches { AreMatchesIn (bytes_of (text_of text.now)) (matched matches.now) }
+    requires fits { byte_len (replaced (bytes_of (text_of text.now)) template.now 0
+        (matched matches.now)) < 2 ^ 63 }
+    ensures text { IfOk result (λ new. text_of new.text ≡
         replaced (bytes_of (text_of text.now)) template.now 0 (matched matches.now)) }
+    ensures changes { IfOk result (λ new. new.changes.items ≡
+        changes_of (bytes_of (text_of text.now)) template.now 0 0 (matched matches.now)) }
     ensures fault { IfErr result (λ fault. fault ≡ Fault.Memory) }
 {
     // For its facts alone.
     let _ = text.len_bytes();
     let mut new = text.clone()?;
-    let mut told = Told::new(alloc);
-    let mut left = matches.len();
-    while left > 0 {
-        left -= 1;
-        let found = matches.at(left);
+    let mut told = Told::new(alloc, matches.len())?;
+    for index in 0..matches.len() {
+        let found = matches.at(index);
         let (start, end) = found.span();
-        told.tell(template, text, found)?;
-        let Ok(()) = new.byte_replace(start..end, told.text.as_str()) else {
+        let change = told.tell(template, text, found)?;
+        let range = change.new_start..change.new_start + (end - start);
+        let Ok(()) = new.byte_replace(range, told.text.as_str()) else {
             return Err(Fault::Memory);
         };
     }
-    Ok(new)
+    let Told { changes, .. } = told;
+    Ok(Replacement { text: new, changes })
 }
 
-/// The text with these matches replaced, built anew from its start to its end.
+/// The text with these matches replaced, built anew from its start to its end, and the changes.
 fn rebuilt(
     alloc: Global,
     text: &Rope,
     template: &Template<'_>,
     matches: &Matches,
-) -> Result<Rope, Fault>
-    requires { AreMatchesIn (bytes_of (text_of text.now)) (matched matches.now) }
-    ensures text { IfOk result (λ new. text_of new ≡
+) -> Result<Replacement, Fault>
+    requires matches { AreMatchesIn (bytes_of (text_of text.now)) (matched matches.now) }
+    requires fits { byte_len (replaced (bytes_of (text_of text.now)) template.now 0
+        (matched matches.now)) < 2 ^ 63 }
+    ensures text { IfOk result (λ new. text_of new.text ≡
         replaced (bytes_of (text_of text.now)) template.now 0 (matched matches.now)) }
+    ensures changes { IfOk result (λ new. new.changes.items ≡
+        changes_of (bytes_of (text_of text.now)) template.now 0 0 (matched matches.now)) }
     ensures fault { IfErr result (λ fault. fault ≡ Fault.Memory) }
 {
     // For its facts alone.
     let _ = text.len_bytes();
     let mut left = Left::of(text);
     let mut builder = RopeBuilder::new(alloc);
-    let mut told = Told::new(alloc);
-    let mut at = 0;
+    let mut told = Told::new(alloc, matches.len())?;
     for index in 0..matches.len() {
         let found = matches.at(index);
         let (start, end) = found.span();
-        left.copy(start - at, &mut builder)?;
+        left.copy(start - told.at, &mut builder)?;
         told.tell(template, text, found)?;
         let Ok(()) = builder.append(told.text.as_str()) else {
             return Err(Fault::Memory);
         };
         left.skip(end - start);
-        at = end;
     }
-    left.copy(text.len_bytes() - at, &mut builder)?;
+    left.copy(text.len_bytes() - told.at, &mut builder)?;
+    let Told { changes, .. } = told;
     match builder.finish() {
-        Ok(new) => Ok(new),
+        Ok(text) => Ok(Replacement { text, changes }),
         Err(_) => Err(Fault::Memory),
     }
 }
@@ -175,11 +145,8 @@ pub fn replace_all(
         changes_of (bytes_of (text_of text.now)) template.now 0 0 (matched matches.now)) }
     ensures fault { IfErr result (λ fault. fault ≡ Fault.Memory) }
 {
-    let changes = changes_of(alloc, text, template, matches)?;
-    let text = if matches.len() <= text.len_bytes() / BYTES_PER_EDIT {
-        edited(alloc, text, template, matches)?
-    } else {
-        rebuilt(alloc, text, template, matches)?
-    };
-    Ok(Replacement { text, changes })
+    if matches.len() <= text.len_bytes() / BYTES_PER_EDIT {
+        return edited(alloc, text, template, matches);
+    }
+    rebuilt(alloc, text, template, matches)
 }

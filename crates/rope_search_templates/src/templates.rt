@@ -6,7 +6,7 @@ ghost use Rattle.ropey.specs.Chunks.{text_of};
 ghost use Rattle.ropey_walk.specs.Slices.{slice_text};
 ghost use Rattle.rope_search_changes.specs.Text.{IsText, bytes_of};
 ghost use Rattle.rope_search_changes.specs.Replacement.{Groups, HasSpansIn, IsSpanIn, between, expand};
-ghost use Rattle.rope_search_templates.specs.Templates.{names_groups};
+ghost use Rattle.rope_search_templates.specs.Templates.{names_explicit_groups, names_groups};
 ghost use Rattle.rope_search_templates.specs.Matches.{groups_in};
 ghost use Rattle.rope_search_templates.specs.Pieces.{IsPiece, shown};
 
@@ -135,7 +135,7 @@ impl<'a> Template<'a> {
 
     /// Whether it names a group. Where it names none, it stands for one text, the same at every
     /// match. `O(m)` for a template of m bytes.
-    pub fn names_groups(&self) -> bool
+    fn names_groups(&self) -> bool
         ensures named { result ≡ names_groups self.now }
         ensures fixed { result ≡ false → (content : List ℕ) (groups : Groups)
             → expand content groups self.now ≡ expand [] [] self.now }
@@ -143,6 +143,20 @@ impl<'a> Template<'a> {
         for piece in self.pieces() {
             if let Piece::Group(_) = piece {
                 return true;
+            }
+        }
+        false
+    }
+
+    /// Returns whether it names a group but the whole match, which is group 0. Where it names none,
+    /// the spans of matches are enough to replace them. `O(m)` for a template of m bytes.
+    pub fn names_explicit_groups(&self) -> bool
+        ensures { result ≡ names_explicit_groups self.now }
+    {
+        for piece in self.pieces() {
+            match piece {
+                Piece::Group(number) if number > 0 => return true,
+                _ => {}
             }
         }
         false

@@ -1,11 +1,11 @@
-use Rattle.std.proofs.Common.{◌≡◌, ℕ, ◌+◌, ◌-◌, ◌<◌, ◌≤◌, List, [], ◌∷◌, length, drop, slice_index_or, refl, ap, sym, subst, ◌∙◌, arith}
+use Rattle.std.proofs.Common.{ℕ, ◌+◌, ◌-◌, ◌<◌, [], drop, slice_index_or, refl, ap, sym, subst, ◌∙◌, arith}
 use Rattle.std.proofs.lemmas.Bool.Decides.{nat_tests}
 use Rattle.std.proofs.lemmas.List.{drop_all}
 use Rattle.std.proofs.lemmas.List.Elements.{All-get_or}
 use Rattle.str_indices.specs.Text.{byte_len}
 use Rattle.ropey.specs.Chunks.{text_of}
 use Rattle.rope_search_changes.specs.Text.{bytes_of}
-use Rattle.rope_search_templates.specs.Matches.{matched, groups_in}
+use Rattle.rope_search_templates.specs.Matches.{matched}
 use Rattle.rope_search_changes.specs.Replacement.{replaced, whole, expand, HasSpansIn}
 use Rattle.rope_search_templates.proofs.ContentLemmas.{text-scalars, text-utf8, all-left}
 use Rattle.rope_search_templates.proofs.LengthLemmas.{HasRoom, room-next, room-more, room-gap, room-told, room-end}

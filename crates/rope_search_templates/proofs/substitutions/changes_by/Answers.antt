@@ -1,4 +1,4 @@
-use Rattle.std.proofs.Common.{◌≡◌, ℕ, ◌+◌, ◌-◌, ◌<◌, ◌≤◌, List, [], ◌∷◌, ◌++◌, length, drop, map, slice_index_or, refl, ap, sym, subst, ◌∙◌, arith, append-nil}
+use Rattle.std.proofs.Common.{◌+◌, ◌-◌, [], ◌++◌, length, drop, map, slice_index_or, refl, ap, sym, subst, ◌∙◌, arith, append-nil}
 use Rattle.str_indices.specs.Text.{byte_len}
 use Rattle.ropey.specs.Chunks.{text_of}
 use Rattle.rope_search_changes.specs.Text.{bytes_of}

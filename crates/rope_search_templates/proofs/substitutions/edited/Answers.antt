@@ -1,11 +1,11 @@
-use Rattle.std.proofs.Common.{◌≡◌, ℕ, ◌+◌, ◌-◌, ◌<◌, ◌≤◌, true, List, [], ◌∷◌, length, drop, map, slice_index_or, ap, sym, subst, ◌∙◌, arith, IsUtf8}
+use Rattle.std.proofs.Common.{◌≡◌, ℕ, ◌+◌, ◌-◌, ◌<◌, ◌≤◌, true, List, [], ◌∷◌, length, drop, map, slice_index_or, ap, sym, subst, ◌∙◌, arith}
 use Rattle.std.specs.Str.{all_scalars}
 use Rattle.std.proofs.lemmas.List.{drop_all, length-map}
 use Rattle.std.proofs.lemmas.Str.{IsCharBoundary-start, scalars-chars}
 use Rattle.ropey.specs.Chunks.{text_of}
 use Rattle.rope_search_changes.specs.Text.{bytes_of}
 use Rattle.rope_search_templates.specs.declared.substitutions.Substitution.{Substitution as Given}
-use Rattle.rope_search_templates.specs.Substitutions.{Substitution, told, SubstitutionsFollow}
+use Rattle.rope_search_templates.specs.Substitutions.{Substitution, told}
 use Rattle.rope_search_templates.proofs.ContentLemmas.{text-scalars, text-utf8}
 use Rattle.rope_search_templates.proofs.SubstitutionLemmas.{AreAhead, all-ahead, ahead-further, given-next, IsEditedBehind, edited-none, edited-all, starts-there, ends-there, edited-one, scalars-one}
 use Rattle.rope_search_templates.proofs.substitutions.edited.Goals as goal

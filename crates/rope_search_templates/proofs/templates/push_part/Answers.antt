@@ -1,4 +1,4 @@
-use Rattle.std.proofs.Common.{◌≡◌, ℕ, ◌+◌, ◌-◌, ◌≤◌, List, ◌++◌, take, drop, OnOk, OnErr, ap, sym, subst, ◌∙◌, arith, chars, string_bytes}
+use Rattle.std.proofs.Common.{◌≡◌, ℕ, ◌-◌, ◌≤◌, List, ◌++◌, take, drop, OnOk, OnErr, ap, subst, ◌∙◌, arith, chars, string_bytes}
 use Rattle.ropey.specs.Chunks.{text_of}
 use Rattle.ropey_walk.specs.Clips as walk
 use Rattle.ropey_walk.specs.Slices.{slice_text}

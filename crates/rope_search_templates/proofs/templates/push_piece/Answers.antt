@@ -1,10 +1,10 @@
-use Rattle.std.proofs.Common.{◌≡◌, ℕ, List, ◌++◌, ◌<◌, length, take, OnOk, OnErr, ap, sym, subst, ◌∙◌, string_bytes}
+use Rattle.std.proofs.Common.{◌≡◌, ℕ, List, ◌++◌, take, OnOk, OnErr, ap, sym, subst, ◌∙◌, string_bytes}
 use Rattle.std.specs.Str.{chars}
 use Rattle.ropey.specs.Chunks.{text_of}
 use Rattle.rope_search_changes.specs.Text.{bytes_of}
 use Rattle.rope_search_changes.specs.Replacement.{between, text_of_span, group_text}
 use Rattle.rope_search_templates.specs.Matches.{groups_in}
-use Rattle.rope_search_templates.specs.Pieces.{IsPiece, shown}
+use Rattle.rope_search_templates.specs.Pieces.{shown}
 use Rattle.rope_search_templates.proofs.PushLemmas.{pushed-ok}
 use Rattle.rope_search_templates.proofs.SpanLemmas.{span-of}
 use Rattle.rope_search_templates.proofs.templates.push_piece.Goals as goal

@@ -1,7 +1,7 @@
-use Rattle.std.proofs.Common.{◌≡◌, ℕ, List, [], ◌∷◌, ◌++◌, length, take, refl, ap, sym, ◌∙◌, arith, append_assoc, append-nil}
+use Rattle.std.proofs.Common.{ℕ, List, [], ◌++◌, ap, sym, ◌∙◌, append_assoc, append-nil}
 use Rattle.std.specs.Str.{chars}
 use Rattle.std.proofs.lemmas.Str.{chars-append, chars-nil}
-use Rattle.rope_search_templates.proofs.LeftLemmas.{taken-none, taken-more, taken-all}
+use Rattle.rope_search_templates.proofs.LeftLemmas.{taken-none, taken-more}
 use Rattle.rope_search_templates.proofs.left.Left.copy.Goals as goal
 
 pub loop-left-init : goal.loop-left-init

@@ -1,7 +1,4 @@
-use Rattle.std.proofs.Common.{◌≡◌, true, ap, subst, sym, ◌∙◌}
-use Rattle.std.specs.Str.{all_scalars}
 use Rattle.std.proofs.lemmas.Str.{IsUtf8-nil}
-use Rattle.ropey.specs.Chunks.{text_of}
 use Rattle.rope_search_templates.proofs.ContentLemmas.{text-scalars}
 use Rattle.rope_search_templates.proofs.left.Left.of.Goals as goal
 

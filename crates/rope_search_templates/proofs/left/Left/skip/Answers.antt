@@ -1,5 +1,5 @@
-use Rattle.std.proofs.Common.{◌++◌, arith}
-use Rattle.rope_search_templates.proofs.LeftLemmas.{taken-none, taken-more, taken-all}
+use Rattle.std.proofs.Common.{◌++◌}
+use Rattle.rope_search_templates.proofs.LeftLemmas.{taken-more}
 use Rattle.rope_search_templates.proofs.left.Left.skip.Goals as goal
 
 pub loop-left-preserved : goal.loop-left-preserved

@@ -1,6 +1,5 @@
-use Rattle.std.proofs.Common.{◌≡◌, ℕ, List, [], ◌∷◌, Some, refl, ap, sym, subst, ◌∙◌, arith}
+use Rattle.std.proofs.Common.{[], refl, sym, ◌∙◌}
 use Rattle.std.specs.Str.{chars}
-use Rattle.rope_search_changes.specs.Replacement.{alone}
 use Rattle.rope_search_templates.proofs.ExpandLemmas.{nothing-spans, same-told}
 use Rattle.rope_search_templates.proofs.templates.Template.new.Goals as goal
 
