@@ -11,7 +11,7 @@ use Rattle.rope_search_changes.specs.declared.Change.{Change}
 use Rattle.rope_search_reports.specs.Replacement.{Groups, AreMatchesIn, ReplacementsAreChanges, alone, whole, changes_of, replaced, searched}
 use Rattle.rope_search_reports.specs.Text.{IsText, bytes_of}
 use Rattle.rope_search_templates.specs.Laws.{ReplaceAlike, SpansAreEnough}
-use Rattle.rope_search_templates.specs.Templates.{names_groups}
+use Rattle.rope_search_templates.specs.Templates.{names_explicit_groups}
 use Rattle.rope_search.specs.Session.{BufferState, current_text, with_edit}
 use Rattle.rope_search.specs.Histories.{AreReplacements}
 use Rattle.rope_search.specs.Replacing.{AreAllMatches, AreEnough, IsReplacement, GetsTooLongWith, RowsOfReplacement, IsReplacementIn, GetsTooLongIn, RowsOfReplacementIn}
@@ -96,7 +96,7 @@ map-whole groups_of span_of same [] = refl
 map-whole groups_of span_of same (m ∷ ms) =
     ap (λ s. s ∷ map whole (map groups_of ms)) (same m) ∙ ap (λ l. span_of m ∷ l) (map-whole groups_of span_of same ms)
 
-pub enough_spans : SpansAreEnough → (text pattern template : List ℕ) (spans : List (ℕ × ℕ)) → names_groups template ≡ false
+pub enough_spans : SpansAreEnough → (text pattern template : List ℕ) (spans : List (ℕ × ℕ)) → names_explicit_groups template ≡ false
     → IsMatches pattern (bytes_of text) spans → AreMatchesIn (bytes_of text) (map alone spans) → AreEnough text pattern template (map alone spans)
 enough_spans law text pattern template spans none are stand =
     let groups = map groups_of are.matches in

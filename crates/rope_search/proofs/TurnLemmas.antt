@@ -25,17 +25,21 @@ use Rattle.rope_search.proofs.TakesLemmas.{Takes-nil, Takes-trans}
 
 -- by no command
 pub SearchesWithin-none : (t : Ticks) → SearchesWithin [] 0 t t
-SearchesWithin-none t = record { rows = omega arith; wholes = omega arith }
+SearchesWithin-none t = record { rows = omega arith; wholes = omega arith; never_fall = record { rows = omega arith; wholes = omega arith } }
 
 -- by one command
 pub SearchesWithin-one : (limit : ℕ) (s : State) (o : Order) (cost : ℕ) (t u : Ticks) → Costs limit s o cost → SearchesFor limit s o t u → SearchesWithin (o ∷ []) cost t u
-SearchesWithin-one limit s o cost t u costs searches = record { rows = searches.rows cost costs; wholes = omega (arith, searches.wholes) }
+SearchesWithin-one limit s o cost t u costs searches = record { rows = searches.rows cost costs; wholes = omega (arith, searches.wholes); never_fall = searches.never_fall }
 
 -- by commands and then by others
 pub SearchesWithin-trans : (os ps : List Order) (m n : ℕ) (t u v : Ticks) → SearchesWithin os m t u → SearchesWithin ps n u v → SearchesWithin (os ++ ps) (m + n) t v
 SearchesWithin-trans os ps m n t u v before after = record {
   rows = omega (arith, before.rows, after.rows);
   wholes = omega (arith, before.wholes, after.wholes, sum_by-append whole_searches os ps);
+  never_fall = record {
+    rows = omega (arith, before.never_fall.rows, after.never_fall.rows);
+    wholes = omega (arith, before.never_fall.wholes, after.never_fall.wholes);
+  };
 }
 
 -- other commands behind them allow more
@@ -43,6 +47,7 @@ pub SearchesWithin-more : (os ps : List Order) (m n : ℕ) (t u : Ticks) → Sea
 SearchesWithin-more os ps m n t u before = record {
   rows = omega (arith, before.rows);
   wholes = omega (arith, before.wholes, sum_by-append whole_searches os ps);
+  never_fall = before.never_fall;
 }
 
 -- ---- one turn

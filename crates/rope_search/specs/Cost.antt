@@ -3,7 +3,7 @@ use Rattle.std.specs.Prelude.{◌≡◌, ℕ, ◌+◌, ◌≤◌, ◌⊎◌, Lis
 use Rattle.rope_search_io.specs.declared.faults.Fault.{Fault}
 use Rattle.rope_search.specs.declared.commands.Reply.{Reply}
 use Rattle.rope_search_reports.specs.Text.{line_count}
-use Rattle.rope_search_reports.specs.Ticks.{Ticks}
+use Rattle.rope_search_reports.specs.Ticks.{Ticks, NeverFall}
 use Rattle.rope_search.specs.Order.{Order, SetText, EditText, UndoEdit, RedoEdit, PrintText, ForkBuffer, SetPattern, DropPattern, ListMatches, FindNext, ReplaceAll, UseBuffer}
 use Rattle.rope_search.specs.Session.{BufferState, State, current_text, chosen_buffer}
 use Rattle.rope_search.specs.Replacing.{RowsOfReplacement}
@@ -65,7 +65,8 @@ whole_searches (ReplaceAll payload) = 1
 whole_searches (UseBuffer k) = 0
 
 -- at most the rows were made that the command costs, and whole texts searched no more often than it
--- may
+-- may; no count fell
 pub record SearchesFor (limit : ℕ) (session : State) (order : Order) (ticks ticks' : Ticks) : Type 0 where
   pub rows : (cost : ℕ) → Costs limit session order cost → ticks'.count ≤ ticks.count + cost
   pub wholes : ticks'.wholes ≤ ticks.wholes + whole_searches order
+  pub never_fall : NeverFall ticks ticks'

@@ -9,7 +9,7 @@ use Rattle.rope_search_io.specs.WriteBuffer.{Writes, WritesFront}
 use Rattle.rope_search.specs.declared.endings.Ended.{Ended}
 use Rattle.rope_search.specs.declared.endings.Ended.TheVariants.{Input, Command, Cut}
 use Rattle.rope_search.specs.Order.{Order}
-use Rattle.rope_search_reports.specs.Ticks.{Ticks}
+use Rattle.rope_search_reports.specs.Ticks.{Ticks, NeverFall}
 use Rattle.rope_search.specs.Session.{State, first}
 use Rattle.rope_search.specs.Step.{Answer, Step}
 use Rattle.rope_search.specs.Reads.{Spells, SpellAll, Reads}
@@ -26,10 +26,11 @@ TellsEnd Input source source' = (source'.ends ≡ source.ends + 1) × IsAtEnd so
 TellsEnd Cut source source' = (source'.ends ≡ source.ends + 1) × IsAtEnd source'.left
 
 -- no more rows were made than this cost, and whole texts were searched no more often than these
--- commands may
+-- commands may; no count fell
 pub record SearchesWithin (orders : List Order) (cost : ℕ) (ticks ticks' : Ticks) : Type 0 where
   pub rows : ticks'.count ≤ ticks.count + cost
   pub wholes : ticks'.wholes ≤ ticks.wholes + sum_by whole_searches orders
+  pub never_fall : NeverFall ticks ticks'
 
 -- the sink was flushed once, and after all that was written
 pub record FlushesAll (sink sink' : SinkState) : Type 0 where

@@ -9,7 +9,7 @@ ghost use Rattle.rope_search.specs.Places.{HasNoneBetween, GetsTooLong, TellsRan
 ghost use Rattle.str_indices.specs.Text.{byte_len};
 ghost use Rattle.rope_search_reports.specs.Pattern.{IsPattern, IsTooHeavy, SpellsNone, pattern_limit};
 ghost use Rattle.rope_search_reports.specs.Position.{IsAt, IsNowhere, position};
-ghost use Rattle.rope_search_reports.specs.Ticks.{MakesAsMany, MakesAtMost, SearchesOneWhole};
+ghost use Rattle.rope_search_reports.specs.Ticks.{MakesAsMany, MakesAtMost, NeverFall, SearchesOneWhole};
 ghost use Rattle.rope_search.specs.Finding.{TellsNext};
 ghost use Rattle.rope_search.specs.GroupsAt.{AnswersGroups, SearchesRow};
 ghost use Rattle.rope_search.specs.Replacing.{IsReplacement, GetsTooLongWith, RowsOfReplacement};
@@ -624,6 +624,7 @@ impl Buffer {
         ensures rows { (n : ℕ) → RowsOfReplacement self.old.state (chars template.now) n
             → tick.new.count ≤ tick.old.count + n }
         ensures wholes { tick.new.wholes ≤ tick.old.wholes + 1 }
+        ensures never_fall { NeverFall tick.old tick.new }
     {
         let Some(search) = &mut self.search else {
             return Err(Fault::Nothing);

@@ -7,7 +7,7 @@ ghost use Rattle.rope_search_reports.specs.Report.{IsReport, match_count};
 ghost use Rattle.rope_search_reports.specs.Changes.{AreChanges};
 ghost use Rattle.rope_search_reports.specs.Patches.{patched, growth_by, shift_count};
 ghost use Rattle.rope_search_reports.specs.Position.{IsNowhere};
-ghost use Rattle.rope_search_reports.specs.Ticks.{MakesAtMost, SearchesOneWhole};
+ghost use Rattle.rope_search_reports.specs.Ticks.{MakesAtMost, NeverFall, SearchesOneWhole};
 ghost use Rattle.rope_search_reports.specs.LineGroups.{SearchesOneLine};
 ghost use Rattle.rope_search_templates.specs.Matches.{matched};
 ghost use Rattle.rope_search.specs.Finding.{TellsIn};
@@ -99,7 +99,8 @@ fn room_for(
 }
 
 /// All matches in a text, as far as a template needs them: their spans alone, where it names no
-/// group. One search of a whole text is counted. It may be refused with `Fault::Memory` alone.
+/// group but the whole match. One search of a whole text is counted. It may be refused with
+/// `Fault::Memory` alone.
 fn matches_for(
     tick: &mut Lines,
     finder: &mut Finder,
@@ -112,10 +113,11 @@ fn matches_for(
     ensures finder { finder.new ≡ finder.old }
     ensures count { tick.new.count ≡ tick.old.count }
     ensures wholes { tick.new.wholes ≤ tick.old.wholes + 1 }
+    ensures grows { tick.old.wholes ≤ tick.new.wholes }
 {
     // A law, for the proof alone.
     rope_search_templates::laws::spans_are_enough();
-    if template.names_groups() {
+    if template.names_explicit_groups() {
         let groups = find_all(tick, finder, text)?;
         return Ok(Matches::Grouped(groups));
     }
@@ -213,6 +215,7 @@ impl Search {
         ensures count { (n : ℕ) → RowsOfReplacementIn (text_of old.now) self.old.finder
             (chars template.now) n → tick.new.count ≤ tick.old.count + n }
         ensures wholes { tick.new.wholes ≤ tick.old.wholes + 1 }
+        ensures never_fall { NeverFall tick.old tick.new }
     {
         // Laws, and the text's facts, for the proof alone.
         rope_search_reports::laws::replacements_are_changes();

@@ -7,7 +7,7 @@ ghost use Rattle.rope_search.specs.Laws.{HasCurrent, AllHoldTexts};
 ghost use Rattle.rope_search.specs.Step.{Step};
 ghost use Rattle.rope_search.specs.Stands.{ForOrders, StandsFor, kept_of};
 ghost use Rattle.rope_search.specs.Cost.{Costs, SearchesFor};
-ghost use Rattle.rope_search_reports.specs.Ticks.{MakesAtMost, SearchesOneWhole};
+ghost use Rattle.rope_search_reports.specs.Ticks.{MakesAtMost, NeverFall, SearchesOneWhole};
 ghost use Rattle.rope_search.specs.Finding as finding;
 ghost use Rattle.rope_search.specs.GroupsAt.{AnswersGroups, SearchesRow};
 ghost use Rattle.rope_search.specs.Stretches as stretches;
@@ -25,10 +25,19 @@ use std::alloc::Global;
 use std::marker::Model;
 
 /// Buffers by number, from 0, and the chosen one. All have the same limits.
-#[derive(Drop)]
 pub struct Session {
     buffers: Vec<Buffer>,
     chosen: usize,
+}
+
+// Written out, so that no crate above proves anew how what it holds is let go.
+impl Drop for Session {
+    fn drop(self) {
+        let Session {
+            buffers: _buffers,
+            chosen: _chosen,
+        } = self;
+    }
 }
 
 impl Model for Session {
@@ -295,6 +304,7 @@ impl Session {
             → Costs self.old.limit self.old.state (SetText bytes) cost
             → tick.new.count ≤ tick.old.count + cost }
         ensures wholes { tick.new.wholes ≡ tick.old.wholes }
+        ensures never_fall { NeverFall tick.old tick.new }
         ensures changed { OnOk result ((bytes : List ℕ)
             → StandsFor self.old.limit payload.entry bytes
             → TellsRows self.old.state (SetText bytes) self.new.state
@@ -334,6 +344,7 @@ impl Session {
             → Costs self.old.limit self.old.state (EditText from to bytes) cost
             → tick.new.count ≤ tick.old.count + cost }
         ensures wholes { tick.new.wholes ≡ tick.old.wholes }
+        ensures never_fall { NeverFall tick.old tick.new }
         ensures changed { OnOk result ((bytes : List ℕ)
             → StandsFor self.old.limit payload.entry bytes
             → TellsRows self.old.state (EditText from to bytes) self.new.state
@@ -361,6 +372,7 @@ impl Session {
         ensures rows { (cost : ℕ) → Costs self.old.limit self.old.state UndoEdit cost
             → tick.new.count ≤ tick.old.count + cost }
         ensures wholes { tick.new.wholes ≡ tick.old.wholes }
+        ensures never_fall { NeverFall tick.old tick.new }
         ensures changed { OnOk result (TellsRows self.old.state UndoEdit self.new.state
             self.old.changed self.new.changed) }
         ensures kept { OnErr result (self.new.changed ≡ self.old.changed) }
@@ -376,6 +388,7 @@ impl Session {
         ensures rows { (cost : ℕ) → Costs self.old.limit self.old.state RedoEdit cost
             → tick.new.count ≤ tick.old.count + cost }
         ensures wholes { tick.new.wholes ≡ tick.old.wholes }
+        ensures never_fall { NeverFall tick.old tick.new }
         ensures changed { OnOk result (TellsRows self.old.state RedoEdit self.new.state
             self.old.changed self.new.changed) }
         ensures kept { OnErr result (self.new.changed ≡ self.old.changed) }
@@ -396,6 +409,7 @@ impl Session {
             → Costs self.old.limit self.old.state (SetPattern bytes) cost
             → tick.new.count ≤ tick.old.count + cost }
         ensures wholes { tick.new.wholes ≡ tick.old.wholes }
+        ensures never_fall { NeverFall tick.old tick.new }
         ensures changed { OnOk result ((bytes : List ℕ)
             → StandsFor pattern_limit payload.entry bytes
             → TellsRows self.old.state (SetPattern bytes) self.new.state
@@ -464,6 +478,7 @@ impl Session {
             → Costs self.old.limit self.old.state (ReplaceAll bytes) cost
             → tick.new.count ≤ tick.old.count + cost }
         ensures wholes { tick.new.wholes ≤ tick.old.wholes + 1 }
+        ensures never_fall { NeverFall tick.old tick.new }
         ensures changed { OnOk result ((bytes : List ℕ)
             → StandsFor self.old.limit payload.entry bytes
             → TellsRows self.old.state (ReplaceAll bytes) self.new.state

@@ -32,7 +32,7 @@ refused-edits old edits bytes fault status (inr memory) apart told = record {
       (record {
         step = refl;
         limit = refl;
-        rows = record { made = omega arith; no_whole = refl };
+        rows = record { grows = omega arith; made = omega arith; no_whole = refl };
         refused = λ why refuses. refl;
         changed = tt;
         kept = refl;

@@ -146,7 +146,7 @@ pub at-most : (a b n : ℕ) (old mid new : Ticks) → MakesAtMost a old mid → 
 at-most a b n old mid new one other fits =
     let made = one.made in
     let more = other.made in
-    record { made = omega (arith, made, more, fits); no_whole = other.no_whole ∙ one.no_whole }
+    record { grows = omega (arith, one.grows, other.grows); made = omega (arith, made, more, fits); no_whole = other.no_whole ∙ one.no_whole }
 
 -- ---- lines of a chunk
 
@@ -242,13 +242,13 @@ adds-one pattern text at count rows rows' rows'' own row inside adds own_is is m
 
 -- so many more, as far as the count goes
 pub counted-start : (ticks : Ticks) → MakesAsMany 0 ticks ticks
-counted-start ticks = record { least = omega arith; made = omega arith; no_whole = refl }
+counted-start ticks = record { grows = omega arith; least = omega arith; made = omega arith; no_whole = refl }
 
-pub counted-more : (count : ℕ) (old mid new : Ticks) → MakesAsMany count old mid → new.count ≡ min (mid.count + 1) (2 ^ 64 - 1) → new.wholes ≡ mid.wholes → MakesAsMany (count + 1) old new
-counted-more count old mid new sofar one whole =
+pub counted-more : (count : ℕ) (old mid new : Ticks) → MakesAsMany count old mid → new.count ≡ min (mid.count + 1) (2 ^ 64 - 1) → mid.count ≤ new.count → new.wholes ≡ mid.wholes → MakesAsMany (count + 1) old new
+counted-more count old mid new sofar one grows whole =
     let least = sofar.least in
     let made = sofar.made in
-    record { least = omega (arith, least, one); made = omega (arith, made, one); no_whole = whole ∙ sofar.no_whole }
+    record { grows = omega (arith, sofar.grows, grows); least = omega (arith, least, one); made = omega (arith, made, one); no_whole = whole ∙ sofar.no_whole }
 
 pub counted-both : (a b n : ℕ) (old mid new : Ticks) → MakesAsMany a old mid → MakesAsMany b mid new → a + b ≡ n → MakesAsMany n old new
 counted-both a b n old mid new one other sum =
@@ -256,42 +256,42 @@ counted-both a b n old mid new one other sum =
     let made = one.made in
     let least' = other.least in
     let made' = other.made in
-    record { least = omega (arith, least, least', sum); made = omega (arith, made, made', sum); no_whole = other.no_whole ∙ one.no_whole }
+    record { grows = omega (arith, one.grows, other.grows); least = omega (arith, least, least', sum); made = omega (arith, made, made', sum); no_whole = other.no_whole ∙ one.no_whole }
 
 -- and one more at most
-pub counted-most : (count n : ℕ) (old mid new : Ticks) → MakesAsMany count old mid → new.count ≡ min (mid.count + 1) (2 ^ 64 - 1) → new.wholes ≡ mid.wholes → count + 1 ≤ n → MakesAtMost n old new
-counted-most count n old mid new sofar one whole fits =
+pub counted-most : (count n : ℕ) (old mid new : Ticks) → MakesAsMany count old mid → new.count ≡ min (mid.count + 1) (2 ^ 64 - 1) → mid.count ≤ new.count → new.wholes ≡ mid.wholes → count + 1 ≤ n → MakesAtMost n old new
+counted-most count n old mid new sofar one grows whole fits =
     let made = sofar.made in
-    record { made = omega (arith, made, one, fits); no_whole = whole ∙ sofar.no_whole }
+    record { grows = omega (arith, sofar.grows, grows); made = omega (arith, made, one, fits); no_whole = whole ∙ sofar.no_whole }
 
 pub counted-few : (count n : ℕ) (old new : Ticks) → MakesAsMany count old new → count ≤ n → MakesAtMost n old new
 counted-few count n old new sofar fits =
     let made = sofar.made in
-    record { made = omega (arith, made, fits); no_whole = sofar.no_whole }
+    record { grows = sofar.grows; made = omega (arith, made, fits); no_whole = sofar.no_whole }
 
 -- at most so many are at most more
 pub most-grows : (a n : ℕ) (old new : Ticks) → MakesAtMost a old new → a ≤ n → MakesAtMost n old new
 most-grows a n old new most fits =
     let made = most.made in
-    record { made = omega (arith, made, fits); no_whole = most.no_whole }
+    record { grows = most.grows; made = omega (arith, made, fits); no_whole = most.no_whole }
 
 -- what is looked through makes no row
 pub looked-most : (a n : ℕ) (old mid new : Ticks) → mid.count ≡ old.count → mid.wholes ≡ old.wholes → MakesAtMost a mid new → a ≤ n → MakesAtMost n old new
 looked-most a n old mid new count whole most fits =
     let made = most.made in
-    record { made = omega (arith, made, count, fits); no_whole = most.no_whole ∙ whole }
+    record { grows = omega (arith, most.grows, count); made = omega (arith, made, count, fits); no_whole = most.no_whole ∙ whole }
 
 pub looked-many : (a : ℕ) (old mid new : Ticks) → mid.count ≡ old.count → mid.wholes ≡ old.wholes → MakesAsMany a mid new → MakesAsMany a old new
 looked-many a old mid new count whole many =
     let least = many.least in
     let made = many.made in
-    record { least = omega (arith, least, count); made = omega (arith, made, count); no_whole = many.no_whole ∙ whole }
+    record { grows = omega (arith, many.grows, count); least = omega (arith, least, count); made = omega (arith, made, count); no_whole = many.no_whole ∙ whole }
 
 pub most-both : (a b n : ℕ) (old mid new : Ticks) → MakesAsMany a old mid → MakesAtMost b mid new → a + b ≤ n → MakesAtMost n old new
 most-both a b n old mid new one other fits =
     let made = one.made in
     let more = other.made in
-    record { made = omega (arith, made, more, fits); no_whole = other.no_whole ∙ one.no_whole }
+    record { grows = omega (arith, one.grows, other.grows); made = omega (arith, made, more, fits); no_whole = other.no_whole ∙ one.no_whole }
 
 -- so many rows of lines in which nothing matches, from one line on
 pub rows-so : (rows rows' : List (List (ℕ × ℕ))) (line count : ℕ) → rows' ≡ rows ++ replicate count [] → rows' ≡ rows ++ replicate (line + count - line) []

@@ -3,19 +3,17 @@ use Rattle.std.proofs.Common.{◌≡◌, ℕ, ◌+◌, ◌<◌, ◌≤◌, true,
 use Rattle.std.specs.Prelude.{MatchOption, IfSome}
 use Rattle.std.specs.Str.{all_scalars, IsCharBoundary}
 use Rattle.std.proofs.Math.Seq.{take-append_seam}
-use Rattle.std.proofs.lemmas.List.Sums.{sum_by-append}
 use Rattle.std.proofs.lemmas.Str.{encodes-chars}
-use Rattle.str_indices.specs.Text.{byte_len, units, units_of, char_ends, unit_ends, unit_starts, ends_up_to, end_place}
+use Rattle.str_indices.specs.Text.{byte_len, units, char_ends, unit_ends, unit_starts, ends_up_to}
 use Rattle.rope_search_reports.specs.declared.positions.OwnLine.{OwnLine}
 use Rattle.rope_search_reports.specs.declared.positions.Place.{Place}
-use Rattle.rope_search_reports.specs.Text.{bytes_of}
+use Rattle.rope_search_reports.specs.Text.{bytes_of, line_count}
 use Rattle.rope_search_reports.specs.Position.{line_start, line_text, IsAt, IsNowhere, IsPlaceOf}
-use Rattle.rope_search_reports.specs.Drafts.{HasColumn, HasNoColumn, IsOwnLine, own_text}
+use Rattle.rope_search_reports.specs.Drafts.{HasColumn, HasNoColumn, IsOwnLine}
 use Rattle.rope_search_reports.proofs.BoundaryLemmas.{at_column, own_scalars}
 use Rattle.rope_search_reports.proofs.ColumnLemmas.{column-is}
 use Rattle.rope_search_reports.proofs.LineLemmas.{byte_len-append, lines-in-place}
 use Rattle.rope_search_reports.proofs.PlaceLemmas.{front_of, chars_there, split_at}
-use Rattle.rope_search_reports.proofs.SpotLemmas.{led}
 use Rattle.rope_search_reports.proofs.SpotsInLines.{few-chars, in_own}
 use Rattle.rope_search_reports.proofs.TextPlaces.{places}
 
@@ -48,42 +46,6 @@ column-missed own column byte byte_is other front back parts column_is =
 pub length-chars : (bytes : List ℕ) → IsUtf8 bytes → length bytes ≡ byte_len (chars bytes)
 length-chars bytes utf8 = sym (ap length (encodes-chars bytes utf8))
 
--- ---- by the character in between
-
-pub column-by-char : (own : List ℕ) (column : ℕ) (place : Place) → all_scalars own ≡ true
-    → place.char_idx ≡ ends_up_to (slice_index_or (unit_starts own) column (byte_len own)) (char_ends own)
-    → ends_up_to (end_place (char_ends own) place.char_idx (byte_len own)) (unit_ends own) ≡ column
-    → place.byte_idx ≡ end_place (char_ends own) place.char_idx (byte_len own) → HasColumn own column place
-column-by-char own column place scalars char_is unit_is byte_is =
-    let l = led places own scalars column place.char_idx place.byte_idx char_is byte_is in
-    let f = front_of places own l.front l.back l.parts in
-    record {
-      front = l.front;
-      back = l.back;
-      parts = l.parts;
-      byte_is = l.byte_is;
-      char_is = l.char_is;
-      column_is = sym unit_is ∙ ap (λ n. ends_up_to n (unit_ends own)) (sym byte_is ∙ l.byte_is) ∙ f.units_are;
-    }
-
-pub column-by-char-missed : (own : List ℕ) (column char : ℕ)
-    → char ≡ ends_up_to (slice_index_or (unit_starts own) column (byte_len own)) (char_ends own)
-    → (ends_up_to (end_place (char_ends own) char (byte_len own)) (unit_ends own) ≡ column → ⊥) → HasNoColumn own column
-column-by-char-missed own column char char_is other front back parts column_is =
-    let f = front_of places own front back parts in
-    let there : char ≡ length front =
-    char_is ∙ ap (λ n. ends_up_to (slice_index_or (unit_starts own) n (byte_len own)) (char_ends own)) column_is ∙ ap (λ n. ends_up_to n (char_ends own)) f.back_from_units ∙ f.chars_are in
-    other (ap (λ n. ends_up_to (end_place (char_ends own) n (byte_len own)) (unit_ends own)) there ∙ ap (λ n. ends_up_to n (unit_ends own)) f.back_from_chars ∙ f.units_are ∙ sym column_is)
-
--- the character is one of the text, or its end
-pub char-inside : (own : List ℕ) (column char : ℕ) → all_scalars own ≡ true → char ≡ ends_up_to (slice_index_or (unit_starts own) column (byte_len own)) (char_ends own) → char ≤ length own
-char-inside own column char scalars char_is = (led places own scalars column char (end_place (char_ends own) char (byte_len own)) char_is refl).within
-
--- no column is behind the end
-pub column-behind : (own : List ℕ) (column : ℕ) → units own < column → HasNoColumn own column
-column-behind own column far front back parts column_is =
-    absurd (omega (arith, far, column_is, ap units parts, sum_by-append units_of front back))
-
 -- ---- in the text of which it is a line
 
 pub record OnLine (text : List ℕ) (line column : ℕ) (place : Place) : Type 0 where
@@ -91,47 +53,51 @@ pub record OnLine (text : List ℕ) (line column : ℕ) (place : Place) : Type 0
   pub near : place.byte_idx ≤ byte_len text
   pub few : place.char_idx ≤ byte_len text
 
-pub on-line : (text : List ℕ) (line column : ℕ) (line_is : OwnLine) (own place : Place) → IsOwnLine text line line_is → HasColumn (own_text line_is.text) column own
-    → place.byte_idx ≡ line_is.start.byte_idx + own.byte_idx → place.char_idx ≡ line_is.start.char_idx + own.char_idx → OnLine text line column place
-on-line text line column line_is own place is there byte_is char_is =
+pub in-line : (text : List ℕ) (line column : ℕ) → all_scalars text ≡ true → line < line_count text → (front back : List ℕ) → line_text text line ≡ front ++ back → column ≡ units front
+    → (place : Place) → place.byte_idx ≡ line_start text line + byte_len front → place.char_idx ≡ ends_up_to (line_start text line) (char_ends text) + length front → OnLine text line column place
+in-line text line column text_scalars inside front back parts column_is place byte_is char_is =
     let text' = line_text text line in
-    let scalars = own_scalars places text is.scalars line is.inside in
-    let front = there.front in
-    let parts : text' ≡ front ++ there.back = sym is.text_is ∙ there.parts in
-    let f = front_of places text' front there.back parts in
-    let own_byte = there.byte_is in
-    let own_char = there.char_is in
+    let scalars = own_scalars places text text_scalars line inside in
+    let f = front_of places text' front back parts in
     let boundary : IsCharBoundary (bytes_of text') (byte_len front) = subst (IsCharBoundary (bytes_of text')) f.back_from_chars (places.char_boundaries text' (length front) scalars) in
-    let columns = column-is text' (byte_len front) scalars (record { front = front; back = there.back; parts = parts; place_is = refl }) in
-    let h = lines-in-place text line is.inside in
+    let columns = column-is text' (byte_len front) scalars (record { front = front; back = back; parts = parts; place_is = refl }) in
+    let h = lines-in-place text line inside in
     let all = h.before ++ front in
-    let whole : text ≡ all ++ (there.back ++ h.behind) =
-    h.parts ∙ ap (λ o. h.before ++ (o ++ h.behind)) parts ∙ ap (λ t. h.before ++ t) (append_assoc front there.back h.behind) ∙ sym (append_assoc h.before front (there.back ++ h.behind)) in
+    let whole : text ≡ all ++ (back ++ h.behind) =
+    h.parts ∙ ap (λ o. h.before ++ (o ++ h.behind)) parts ∙ ap (λ t. h.before ++ t) (append_assoc front back h.behind) ∙ sym (append_assoc h.before front (back ++ h.behind)) in
     let b = front_of places text h.before (text' ++ h.behind) h.parts in
     let starts = h.starts in
-    let start_byte = is.byte_is in
-    let start_char = is.char_is ∙ chars_there places text h.before (line_start text line) b starts in
-    let byte_there : place.byte_idx ≡ line_start text line + byte_len front = omega (arith, byte_is, start_byte, own_byte) in
-    let count : place.char_idx ≡ length all = omega (arith, char_is, start_char, own_char, length-append h.before front) in
-    let bytes : byte_len all ≡ place.byte_idx = omega (arith, byte_there, starts, byte_len-append h.before front) in
-    let at = at_column places text is.scalars line is.inside (byte_len front) boundary in
+    let start_char = chars_there places text h.before (line_start text line) b starts in
+    let count : place.char_idx ≡ length all = omega (arith, char_is, start_char, length-append h.before front) in
+    let bytes : byte_len all ≡ place.byte_idx = omega (arith, byte_is, starts, byte_len-append h.before front) in
+    let at = at_column places text text_scalars line inside (byte_len front) boundary in
     let at' : IsAt text (line, column) place.byte_idx =
-    subst (IsAt text (line, column)) (sym byte_there) (subst (λ n. IsAt text (line, n) (line_start text line + byte_len front)) (columns ∙ sym there.column_is) at) in
-    let within : place.char_idx ≤ length text = omega (arith, count, ap length whole, length-append all (there.back ++ h.behind)) in
+    subst (IsAt text (line, column)) (sym byte_is) (subst (λ n. IsAt text (line, n) (line_start text line + byte_len front)) (columns ∙ sym column_is) at) in
+    let within : place.char_idx ≤ length text = omega (arith, count, ap length whole, length-append all (back ++ h.behind)) in
     record {
       is = record {
         at = at';
         within = within;
-        bytes = ap (λ n. byte_len (take n text)) count ∙ ap (λ t. byte_len (take (length all) t)) whole ∙ ap byte_len (take-append_seam all (there.back ++ h.behind)) ∙ bytes;
+        bytes = ap (λ n. byte_len (take n text)) count ∙ ap (λ t. byte_len (take (length all) t)) whole ∙ ap byte_len (take-append_seam all (back ++ h.behind)) ∙ bytes;
       };
       near = at'.boundary.0;
       few = omega (arith, within, few-chars text);
     }
 
-pub off-line : (text : List ℕ) (line column : ℕ) (line_is : OwnLine) → IsOwnLine text line line_is → HasNoColumn (own_text line_is.text) column → IsNowhere text (line, column)
-off-line text line column line_is is none place at =
+-- told by the line's own text
+pub on-line : (text : List ℕ) (line column : ℕ) (line_is : OwnLine) (told : List ℕ) (own place : Place) → IsOwnLine text line line_is → told ≡ line_text text line → HasColumn told column own
+    → place.byte_idx ≡ line_is.start.byte_idx + own.byte_idx → place.char_idx ≡ line_is.start.char_idx + own.char_idx → OnLine text line column place
+on-line text line column line_is told own place is same there byte_is char_is =
+    let own_byte = there.byte_is in
+    let own_char = there.char_is in
+    let start_byte = is.byte_is in
+    let start_char = is.char_is in
+    in-line text line column is.scalars is.inside there.front there.back (sym same ∙ there.parts) there.column_is place (omega (arith, byte_is, start_byte, own_byte)) (omega (arith, char_is, start_char, own_char))
+
+pub off-line : (text : List ℕ) (line column : ℕ) (line_is : OwnLine) (told : List ℕ) → IsOwnLine text line line_is → told ≡ line_text text line → HasNoColumn told column → IsNowhere text (line, column)
+off-line text line column line_is told is same none place at =
     let h = in_own places text is.scalars line column place at in
-    none h.front h.back (is.text_is ∙ h.parts) h.units_are
+    none h.front h.back (same ∙ h.parts) h.units_are
 
 -- ---- a place or none
 

@@ -2,6 +2,7 @@ pub mod TextPlaces
 pub mod BareLemmas
 pub mod MatchLemmas
 pub mod NextLemmas
+pub mod PassLemmas
 pub mod ColumnLemmas
 pub mod BreakLemmas
 pub mod FinderLemmas
@@ -35,6 +36,8 @@ mod TellerLemmas
 mod StartLemmas
 mod ColumnPlaces
 mod ChunkColumns
+mod UnitLemmas
+mod AcrossLemmas
 mod KeptLemmas
 mod BackLemmas
 mod FurtherLemmas

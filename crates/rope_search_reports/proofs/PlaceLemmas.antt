@@ -213,3 +213,23 @@ reached law text place line start_char start at_char at scalars boundary line_is
       order = omega (arith, units_of_start, units_of_place, sum);
       column = omega (arith, units_of_start, units_of_place, sum, column);
     }
+
+-- the code units before the line's start, and those before the place
+pub record CountsColumn (text : List ℕ) (place : ℕ) : Type 0 where
+  pub order : ends_up_to (line_start text (line_at text place)) (unit_ends text) ≤ ends_up_to place (unit_ends text)
+  pub column : ends_up_to place (unit_ends text) - ends_up_to (line_start text (line_at text place)) (unit_ends text) ≡ column_at text place
+
+pub counts_column : PlaceLaws → (text : List ℕ) (place : ℕ) → all_scalars text ≡ true → IsCharBoundary (bytes_of text) place → CountsColumn text place
+counts_column law text place scalars boundary =
+    let h = in_line law text scalars place boundary in
+    let own = front_of law text h.before (h.mid ++ h.back) (h.parts ∙ append_assoc h.before h.mid h.back) in
+    let all = front_of law text (h.before ++ h.mid) h.back h.parts in
+    let starts : line_start text (line_at text place) ≡ byte_len h.before = h.line.starts ∙ ap byte_len h.same in
+    let units_of_start : ends_up_to (line_start text (line_at text place)) (unit_ends text) ≡ units h.before = ap (λ n. ends_up_to n (unit_ends text)) starts ∙ own.units_are in
+    let units_of_place : ends_up_to place (unit_ends text) ≡ units (h.before ++ h.mid) = ap (λ n. ends_up_to n (unit_ends text)) h.place_is ∙ all.units_are in
+    let sum : units (h.before ++ h.mid) ≡ units h.before + units h.mid = sum_by-append units_of h.before h.mid in
+    let column = h.column in
+    record {
+      order = omega (arith, units_of_start, units_of_place, sum);
+      column = omega (arith, units_of_start, units_of_place, sum, column);
+    }

@@ -1,8 +1,8 @@
 -- Where a line starts, as a chunk tells it.
-use Rattle.std.proofs.Common.{◌≡◌, ℕ, zero, suc, ◌+◌, ◌-◌, ◌^◌, ◌<◌, ◌≤◌, ◌⊎◌, inl, inr, List, [], ◌++◌, length, take, drop, refl, sym, ap, subst, ◌∙◌, arith, append_assoc, length-append, chars, IsUtf8}
-use Rattle.std.specs.Str.{IsCharBoundary}
+use Rattle.std.proofs.Common.{◌≡◌, ℕ, zero, suc, ◌+◌, ◌-◌, ◌^◌, ◌<◌, ◌≤◌, ◌⊎◌, inl, inr, List, [], ◌∷◌, ◌++◌, length, take, drop, refl, sym, ap, subst, ◌∙◌, arith, append-nil, append_assoc, length-append, chars, IsUtf8}
+use Rattle.std.specs.Str.{IsCharBoundary, NonePass}
 use Rattle.std.proofs.lemmas.Bool.{cases_lt}
-use Rattle.std.proofs.lemmas.List.{drop_all}
+use Rattle.std.proofs.lemmas.List.{drop_all, length-drop, nil_from_length}
 use Rattle.std.proofs.lemmas.Str.{IsUtf8-drop, encodes-chars, scalars-chars}
 use Rattle.str_indices.specs.Text.{breaks, break_ends, byte_len, char_ends, end_place, ends_up_to}
 use Rattle.str_indices.specs.FirstBreak.{IsFirstBreak}
@@ -10,23 +10,24 @@ use Rattle.str_indices.proofs.TextLaws.{counts_are_at_most_bytes-lines, places_o
 use Rattle.ropey.specs.Chunks.{IsCutting, ShowsChunkOfBreak, is_break, text_of}
 use Rattle.rope_search_reports.specs.declared.line_start.LineStart.{LineStart}
 use Rattle.rope_search_reports.specs.Text.{bytes_of, line_count}
+use Rattle.rope_search_reports.specs.Report.{line_texts}
 use Rattle.rope_search_reports.specs.Position.{line_start, line_text}
 use Rattle.rope_search_reports.specs.Drafts.{IsRestOf, IsWalk, StartsIn}
-use Rattle.rope_search_reports.proofs.LineLemmas.{byte_len-append}
+use Rattle.rope_search_reports.proofs.LineLemmas.{byte_len-append, cut-lines, first_line, line-last, lines-counted}
 use Rattle.rope_search_reports.proofs.PartLemmas.{past-last}
 use Rattle.rope_search_reports.proofs.PlaceLemmas.{front_of, rope-scalars, split_at}
 use Rattle.rope_search_reports.proofs.SpotsInLines.{few-chars}
 use Rattle.rope_search_reports.proofs.TellerLemmas.{IsShown, is-shown}
 use Rattle.rope_search_reports.proofs.TextPlaces.{places}
-use Rattle.rope_search_reports.proofs.WalkLemmas.{behind-line, line-between, next-line, rest-at, rest-chars, uncut-behind, walk-behind, walk-end}
+use Rattle.rope_search_reports.proofs.WalkLemmas.{behind-line, first-text, line-between, next-line, rest-at, rest-chars, uncut-behind, walk-behind, walk-end}
 
 -- the lines up to a chunk are no more than told, and so many further on the line starts
-record IsTold (pieces : List (List ℕ)) (line : ℕ) (chunk : List ℕ) (byte char first : ℕ) : Type 0 where
-  shown : IsShown (text_of pieces) chunk byte char first
-  low : first ≤ line
-  there : line_start (text_of pieces) line ≡ byte + end_place (break_ends is_break chunk) (line - first) (byte_len chunk)
+pub record IsTold (pieces : List (List ℕ)) (line : ℕ) (chunk : List ℕ) (byte char first : ℕ) : Type 0 where
+  pub shown : IsShown (text_of pieces) chunk byte char first
+  pub low : first ≤ line
+  pub there : line_start (text_of pieces) line ≡ byte + end_place (break_ends is_break chunk) (line - first) (byte_len chunk)
 
-told : (pieces : List (List ℕ)) (line : ℕ) (chunk : List ℕ) (byte char first : ℕ) → IsCutting pieces → ShowsChunkOfBreak pieces line chunk byte char first
+pub told : (pieces : List (List ℕ)) (line : ℕ) (chunk : List ℕ) (byte char first : ℕ) → IsCutting pieces → ShowsChunkOfBreak pieces line chunk byte char first
     → IsTold pieces line chunk byte char first
 told pieces zero chunk byte char first cut s =
     let at = s.first refl in
@@ -133,6 +134,38 @@ pub line-here : (text : List ℕ) (line : ℕ) (start : LineStart) (from end : �
     → chars (take from (drop start.at start.chunk.now)) ≡ line_text text line
 line-here text line start from end s below found =
     (next-line text line (start.byte_idx + start.at) (drop start.at start.chunk.now) from end (walk-from text line start s (omega (arith, below))) below found).own
+
+-- a text without breaks has none of their characters
+pub none-plain : (t : List ℕ) → breaks is_break t ≡ 0 → NonePass is_break t
+none-plain t none = elim (first_line t) [
+  | inl plain ↦ plain
+  | inr cut ↦ absurd (omega (arith, none, lines-counted t, ap length (cut-lines t cut), lines-counted cut.rest))
+]
+
+-- the last line, where the chunk is the last one
+pub last-here : (text : List ℕ) (line : ℕ) (start : LineStart) → StartsIn text line start → line < line_count text → byte_len text ≤ start.byte_idx + length start.chunk.now
+    → breaks is_break (chars (drop start.at start.chunk.now)) ≡ 0 → chars (drop start.at start.chunk.now) ≡ line_text text line
+last-here text line start s below end none =
+    let bytes = drop start.at start.chunk.now in
+    let rest = chars bytes in
+    let walk = walk-from text line start s (omega (arith, below)) in
+    let w = walk.starts below in
+    let after = w.shown.after in
+    let byte_is = w.place in
+    let inside = s.between.0 in
+    let sizes : byte_len text ≡ byte_len w.before + (byte_len rest + byte_len after) =
+    ap byte_len w.parts ∙ byte_len-append w.before w.behind ∙ ap (λ n. byte_len w.before + n) (ap byte_len w.shown.parts ∙ byte_len-append rest after) in
+    let width : byte_len rest ≡ length start.chunk.now - start.at = ap length (encodes-chars bytes walk.utf8) ∙ length-drop start.at start.chunk.now in
+    let gone : after ≡ [] = nil_from_length after (omega (arith, sizes, width, byte_is, inside, end, few-chars after)) in
+    let lines : line_texts w.behind ≡ rest ∷ [] = ap line_texts (w.shown.parts ∙ ap (λ t. rest ++ t) gone ∙ append-nil rest) ∙ line-last rest (none-plain rest none) in
+    sym (first-text text w.behind line rest [] w.lines lines)
+
+-- the chunk lies in the text
+pub chunk-inside : (text : List ℕ) (line : ℕ) (start : LineStart) → StartsIn text line start → start.byte_idx + length start.chunk.now ≤ byte_len text
+chunk-inside text line start s =
+    let chunk = chars start.chunk.now in
+    let byte_is = s.byte_is in
+    omega (arith, byte_is, ap length (encodes-chars start.chunk.now s.utf8), ap byte_len s.parts, byte_len-append s.first (chunk ++ s.others), byte_len-append chunk s.others)
 
 -- ---- the characters before it
 

@@ -91,7 +91,7 @@ module _ (count : List ℕ → ℕ) where
       assoc (b ∷ bs) ps = ap (λ l. b ∷ l) (assoc bs ps)
 
 -- at the start of a text nothing has ended
-none-yet : EndsAddUp NoCrLfBetween (breaks is_break) (break_ends is_break) → (t : List ℕ) → ends_up_to 0 (break_ends is_break t) ≡ 0
+pub none-yet : EndsAddUp NoCrLfBetween (breaks is_break) (break_ends is_break) → (t : List ℕ) → ends_up_to 0 (break_ends is_break t) ≡ 0
 none-yet law t = law [] [] t 0 refl refl (omega arith) (omega arith)
 
 pub is-teller : EndsAddUp NoCrLfBetween (breaks is_break) (break_ends is_break) → (pieces : List (List ℕ)) (bytes : List ℕ) (place start char line : ℕ) → IsCutting pieces → IsUtf8 bytes

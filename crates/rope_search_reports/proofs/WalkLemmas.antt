@@ -416,7 +416,7 @@ walk-end text line byte scalars fits bytes_fit end place =
 -- ---- the next line
 
 -- the first of the lines behind a place
-first-text : (text behind : List ℕ) (line : ℕ) (own : List ℕ) (others : List (List ℕ)) → drop line (line_texts text) ≡ line_texts behind → line_texts behind ≡ own ∷ others
+pub first-text : (text behind : List ℕ) (line : ℕ) (own : List ℕ) (others : List (List ℕ)) → drop line (line_texts text) ≡ line_texts behind → line_texts behind ≡ own ∷ others
     → line_text text line ≡ own
 first-text text behind line own others lines is =
     let here : line ≡ line + 0 = omega arith in

@@ -1,5 +1,5 @@
 -- Words of the code that makes a report line by line, for its own contracts.
-use Rattle.std.specs.Prelude.{◌≡◌, ◌⊎◌, ◌+◌, ◌-◌, ◌^◌, ◌<◌, ◌≤◌, List, ℕ, [], ◌∷◌, ◌++◌, None, length, take, drop}
+use Rattle.std.specs.Prelude.{◌≡◌, ◌⊎◌, ◌+◌, ◌-◌, ◌^◌, ◌<◌, ◌≤◌, List, ℕ, [], ◌∷◌, ◌++◌, None, length, take, drop, IfSome}
 use Rattle.std.specs.Str.{NonePass, IsUtf8, IsCharBoundary, chars}
 use Rattle.ropey.specs.Chunks.{is_break}
 use Rattle.ropey_walk.specs.Slices.{slice_text}
@@ -88,13 +88,15 @@ pub record StartsIn (text : List ℕ) (line : ℕ) (start : LineStart) : Type 0 
   pub scalars : IsText text
   pub fits : byte_len text < 2 ^ 63
 
--- a line of a text, with what stands before it
+-- a line of a text, with what stands before it, and its text where that is told
 pub record IsOwnLine (text : List ℕ) (line : ℕ) (own : OwnLine) : Type 0 where
   pub inside : line < line_count text
+  pub whole_is : slice_text own.whole ≡ text
+  pub line_is : own.line_idx ≡ line
   pub byte_is : own.start.byte_idx ≡ line_start text line
   pub char_is : own.start.char_idx ≡ ends_up_to (line_start text line) (char_ends text)
-  pub text_is : own_text own.text ≡ line_text text line
-  pub holds : HoldsText own.text
+  pub text_is : IfSome own.text (λ told. chars told.now ≡ line_text text line)
+  pub utf8 : IfSome own.text (λ told. IsUtf8 told.now)
   pub scalars : IsText text
   pub fits : byte_len text < 2 ^ 63
 

@@ -34,12 +34,13 @@ pub record IsFinderOf (pattern : List ℕ) (re : RegexView) (is_never_empty : Bo
 abbrev pub start_behind : Option ℕ → ℕ
 start_behind last = unwrap_or last 0
 
--- a search that was begun: what it goes over, where its last match ended, if there was one, and
--- whether no more come
+-- a search that was begun: what it goes over, where its last match ended, if there was one, whether
+-- no more come, and the regex that began it
 pub record PassState : Type 0 where
   pub content : List ℕ
   pub last : Option ℕ
   pub is_over : Bool
+  pub by : RegexView
 
 -- the span of a group, by the places in its two slots
 abbrev pub group_told : List (Option ℕ) → ℕ → Option (ℕ × ℕ)

@@ -1,5 +1,5 @@
 -- The groups of one match in a line.
-use Rattle.std.specs.Prelude.{◌≡◌, ℕ, ◌+◌, ◌-◌, ◌^◌, List, Option, map, min, option_map, slice_get}
+use Rattle.std.specs.Prelude.{◌≡◌, ◌≤◌, ℕ, ◌+◌, ◌-◌, ◌^◌, List, Option, map, min, option_map, slice_get}
 use Rattle.regex_cursor.specs.Patterns.{Tree}
 use Rattle.rope_search_reports.specs.Text.{bytes_of}
 use Rattle.rope_search_reports.specs.Matches.{AreGroups}
@@ -30,6 +30,7 @@ pub record IsAmongGroups (tree : Tree) (content : List ℕ) (number : ℕ) (told
 -- through
 pub record SearchesOneLine (old new : Ticks) : Type 0 where
   pub made : new.count ≡ min (old.count + 1) (2 ^ 64 - 1)
+  pub grows : old.count ≤ new.count
   pub no_whole : new.wholes ≡ old.wholes
   pub no_look : new.looked ≡ old.looked
 

@@ -8,13 +8,20 @@ pub record Ticks : Type 0 where
   pub wholes : ℕ
   pub looked : ℕ
 
+-- no count of what was made and searched fell
+pub record NeverFall (old new : Ticks) : Type 0 where
+  pub rows : old.count ≤ new.count
+  pub wholes : old.wholes ≤ new.wholes
+
 -- at most so many rows were made, and no whole text was searched
 pub record MakesAtMost (rows : ℕ) (old new : Ticks) : Type 0 where
+  pub grows : old.count ≤ new.count
   pub made : new.count ≤ old.count + rows
   pub no_whole : new.wholes ≡ old.wholes
 
 -- so many rows were made, as far as the count goes, and no whole text was searched
 pub record MakesAsMany (rows : ℕ) (old new : Ticks) : Type 0 where
+  pub grows : old.count ≤ new.count
   pub least : min (old.count + rows) (2 ^ 64 - 1) ≤ new.count
   pub made : new.count ≤ old.count + rows
   pub no_whole : new.wholes ≡ old.wholes
@@ -22,6 +29,7 @@ pub record MakesAsMany (rows : ℕ) (old new : Ticks) : Type 0 where
 -- no row was made, and at most one whole text searched
 pub record SearchesOneWhole (old new : Ticks) : Type 0 where
   pub no_row : new.count ≡ old.count
+  pub grows : old.wholes ≤ new.wholes
   pub searched : new.wholes ≤ old.wholes + 1
 
 -- at most so many lines were looked through

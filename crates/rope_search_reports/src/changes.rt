@@ -1,6 +1,6 @@
 //! Changes of a text, the way back from them, and the rows that they make anew.
 ghost use Rattle.std.specs.Prelude.{◌≡◌, ℕ, ◌+◌, ◌-◌, ◌^◌, ◌<◌, ◌≤◌, List, [], true, IfOk, IfErr};
-ghost use Rattle.std.specs.Prelude.{length, take, drop, min, slice_index_or};
+ghost use Rattle.std.specs.Prelude.{length, take, drop, slice_index_or};
 ghost use Rattle.rope_search_reports.specs.Report.{IsReport};
 ghost use Rattle.rope_search_reports.specs.Text.{line_count};
 ghost use Rattle.ropey.specs.Chunks.{text_of};
@@ -9,7 +9,7 @@ ghost use Rattle.rope_search_reports.specs.Position.{line_at};
 ghost use Rattle.rope_search_reports.specs.Drafts.{GoOnAlike};
 ghost use Rattle.str_indices.specs.Text.{byte_len};
 ghost use Rattle.rope_search_reports.specs.Patches.{patched, AreInTurn, made_by};
-ghost use Rattle.rope_search_reports.specs.Ticks.{LooksAtMost, MakesAtMost};
+ghost use Rattle.rope_search_reports.specs.Ticks.{LooksAtMost, MakesAsMany, MakesAtMost};
 ghost use Rattle.rope_search_reports.specs.Turned.{Lead, listed, turned, turned_from};
 
 use crate::line_teller::LineTeller;
@@ -159,7 +159,7 @@ pub fn patches_of(
         → tick.new.count ≤ tick.old.count + n }
     ensures once { MakesAtMost (line_count (text_of new.now)) tick.old tick.new }
     ensures each { IfOk result (λ patches.
-        min (tick.old.count + made_by patches.items) (2 ^ 64 - 1) ≤ tick.new.count) }
+        MakesAsMany (made_by patches.items) tick.old tick.new) }
 
     // Nor does it look through more lines.
     ensures looks { (n : ℕ) → AreChanges changes.now 0 0 (text_of old.now) (text_of new.now) n

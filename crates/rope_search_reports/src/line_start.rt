@@ -1,16 +1,14 @@
 //! Where a line of a text starts, told by one way down the tree.
-ghost use Rattle.std.specs.Prelude.{◌≡◌, ◌+◌, ◌<◌, ◌≤◌, ◌==◌, ◌&&◌, drop, length, slice_index};
-ghost use Rattle.std.specs.Str.{chars};
+ghost use Rattle.std.specs.Prelude.{◌≡◌, ℕ, ◌+◌, ◌<◌, ◌≤◌, ◌==◌, ◌&&◌, drop, length, slice_index, IfSome};
+ghost use Rattle.std.specs.Str.{chars, IsUtf8};
 ghost use Rattle.str_indices.specs.Text.{break_ends, char_ends, end_place, ends_up_to};
 ghost use Rattle.str_indices.specs.Text.{starts_with_lf};
 ghost use Rattle.ropey.specs.Chunks.{is_break};
 ghost use Rattle.ropey_walk.specs.Slices.{slice_text};
 ghost use Rattle.rope_search_reports.specs.Text.{line_count};
 ghost use Rattle.rope_search_reports.specs.Position.{line_start, line_text};
-ghost use Rattle.rope_search_reports.specs.Drafts.{HoldsText, StartsIn, own_text};
+ghost use Rattle.rope_search_reports.specs.Drafts.{StartsIn};
 
-use crate::line::Line;
-use crate::walk::without_break;
 use memchr::memrchr2;
 use ropey::{RopeSlice, breaks};
 use str_indices::chars;
@@ -88,18 +86,23 @@ impl<'a> LineStart<'a> {
         self.char_idx + chars::from_byte_idx(self.chunk, self.at)
     }
 
-    /// The line that starts there, its break left off. Where that stands in the same chunk, this
-    /// takes no look-up.
-    pub(crate) fn line(&self, text: &RopeSlice<'a>, line_idx: usize) -> Line<'a>
-        requires starts { StartsIn (slice_text text.now) line_idx self.now }
-        requires below { line_idx < line_count (slice_text text.now) }
-        ensures own { own_text result ≡ line_text (slice_text text.now) line_idx }
-        ensures holds { HoldsText result }
+    /// The text of the line that starts there, its break left off, where the line ends in the same
+    /// chunk, else `None`. It takes no look-up.
+    pub(crate) fn line(&self, text: &RopeSlice<'a>) -> Option<&'a str>
+        requires { (line : ℕ) × StartsIn (slice_text text.now) line self.now }
+        ensures own { (line : ℕ) → StartsIn (slice_text text.now) line self.now
+            → line < line_count (slice_text text.now)
+            → IfSome result (λ own. chars own.now ≡ line_text (slice_text text.now) line) }
+        ensures utf8 { IfSome result (λ own. IsUtf8 own.now) }
     {
         let rest = &self.chunk[self.at..];
-        match breaks::first_break(rest) {
-            Some(found) => Line::Whole(&rest[..found.start]),
-            None => Line::of(without_break(text.line(line_idx))),
+        if let Some(found) = breaks::first_break(rest) {
+            return Some(&rest[..found.start]);
         }
+        if self.byte_idx + self.chunk.len() < text.len_bytes() {
+            return None;
+        }
+        // It is the last chunk.
+        Some(rest)
     }
 }

@@ -1,18 +1,19 @@
 //! Positions in a rope: a line, and a column in UTF-16 code units, as editors and language servers
 //! have them.
 
-ghost use Rattle.std.specs.Prelude.{◌≡◌, ℕ, ◌≤◌, ◌⊎◌, List, length, take, MatchOption, IfSome, IfNone};
-ghost use Rattle.std.specs.Str.{IsCharBoundary};
-ghost use Rattle.str_indices.specs.Text.{byte_len};
+ghost use Rattle.std.specs.Prelude.{◌≡◌, ℕ, ◌<◌, ◌≤◌, ◌⊎◌, List, length, take, MatchOption, IfSome, IfNone};
+ghost use Rattle.std.specs.Str.{chars, IsCharBoundary};
+ghost use Rattle.str_indices.specs.Text.{byte_len, ends_up_to, unit_ends};
 ghost use Rattle.ropey.specs.Chunks.{text_of};
+ghost use Rattle.ropey_walk.specs.Slices.{slice_text};
 ghost use Rattle.rope_search_reports.specs.Text.{IsText, bytes_of, line_count};
-ghost use Rattle.rope_search_reports.specs.Position.{position, IsAt, IsNowhere, IsPlaceOf};
-ghost use Rattle.rope_search_reports.specs.Drafts.{IsOwnLine};
+ghost use Rattle.rope_search_reports.specs.Position.{line_start, position, IsAt, IsNowhere, IsPlaceOf};
+ghost use Rattle.rope_search_reports.specs.Drafts.{HasColumn, HasNoColumn, IsOwnLine};
 
-use crate::line::Line;
 use crate::line_start::LineStart;
-use ropey::{Rope, breaks};
-use str_indices::utf16;
+use ropey::{Rope, RopeSlice, breaks};
+use ropey_tree::counts::By;
+use str_indices::{chars, utf16};
 
 /// A line, and a column in it: how many UTF-16 code units stand between the line's start and the
 /// place. Both begin at 0.
@@ -25,41 +26,47 @@ pub struct Position {
     pub column: usize,
 }
 
-/// `position_of`, by its line's start, wherever that is.
-fn position_by_line(text: &Rope, byte_idx: usize) -> Position
-    requires { IsCharBoundary (bytes_of (text_of text.now)) byte_idx }
-    ensures { (result.line, result.column) ≡ position (text_of text.now) byte_idx }
+/// How many code units stand before a line. `O(log n)`.
+fn units_before(text: &RopeSlice<'_>, line_idx: usize) -> usize
+    requires { line_idx < line_count (slice_text text.now) }
+    ensures { result ≡ ends_up_to (line_start (slice_text text.now) line_idx)
+        (unit_ends (slice_text text.now)) }
 {
     // The text's facts, for the proof alone.
     let _ = text.len_bytes();
-    let line = text.byte_to_line(byte_idx);
-    let start = text.char_to_utf16_cu(text.line_to_char(line));
-    let at = text.char_to_utf16_cu(text.byte_to_char(byte_idx));
-    Position {
-        line,
-        column: at - start,
+    if line_idx == 0 {
+        return 0;
     }
+    let chunk = text.chunk(By::Breaks, line_idx - 1);
+    let at = breaks::to_byte_idx(chunk.text, line_idx - chunk.start.breaks);
+    chunk.start.units + utf16::from_byte_idx(chunk.text, at)
 }
 
 /// Returns the position of a byte index; between the CR and the LF of a break that is one past the
-/// end of the line's text. Requires a character boundary up to `len_bytes()`. `O(log n)`.
+/// end of the line's text. Requires a character boundary up to `len_bytes()`. `O(log n)`: two ways
+/// down the tree at most, and one where the line starts behind a break of the same chunk.
 pub fn position_of(text: &Rope, byte_idx: usize) -> Position
     requires { IsCharBoundary (bytes_of (text_of text.now)) byte_idx }
     ensures { (result.line, result.column) ≡ position (text_of text.now) byte_idx }
 {
     // The text's facts, for the proof alone.
     let _ = text.len_bytes();
-    let (chunk, start, _, first) = text.slice(..).chunk_at_byte(byte_idx);
-    let end = byte_idx - start;
-    let count = breaks::from_byte_idx(chunk, end);
+    let whole = text.slice(..);
+    let chunk = whole.chunk(By::Bytes, byte_idx);
+    let end = byte_idx - chunk.start.bytes;
+    let count = breaks::from_byte_idx(chunk.text, end);
     if count == 0 {
         // The line starts before the chunk, or with it.
-        return position_by_line(text, byte_idx);
+        let units = chunk.start.units + utf16::from_byte_idx(chunk.text, end);
+        return Position {
+            line: chunk.start.breaks,
+            column: units - units_before(&whole, chunk.start.breaks),
+        };
     }
-    let at = breaks::to_byte_idx(chunk, count);
+    let at = breaks::to_byte_idx(chunk.text, count);
     Position {
-        line: first + count,
-        column: utf16::count(&chunk[at..end]),
+        line: chunk.start.breaks + count,
+        column: utf16::count(&chunk.text[at..end]),
     }
 }
 
@@ -72,17 +79,61 @@ pub struct Place {
     pub char_idx: usize,
 }
 
+/// The place in a text that has so many code units before it, or `None` where the text ends before,
+/// or they end inside a surrogate pair. In time linear in what stands before the place.
+fn place_in_str(text: &str, column: usize) -> Option<Place>
+    ensures { MatchOption result (HasNoColumn (chars text.now) column)
+        (λ place. HasColumn (chars text.now) column place) }
+{
+    let byte_idx = utf16::to_byte_idx(text, column);
+    if utf16::from_byte_idx(text, byte_idx) != column {
+        return None;
+    }
+    Some(Place {
+        byte_idx,
+        char_idx: chars::from_byte_idx(text, byte_idx),
+    })
+}
+
+/// The place of the text at which a column of a line is, wherever the line lies, or `None` where it
+/// is nowhere. `O(log n)`: two ways down the tree at most.
+fn place_across(text: &RopeSlice<'_>, line_idx: usize, column: usize) -> Option<Place>
+    requires { line_idx < line_count (slice_text text.now) }
+    ensures { MatchOption result (IsNowhere (slice_text text.now) (line_idx, column))
+        (IsPlaceOf (slice_text text.now) (line_idx, column)) }
+{
+    if column > text.len_bytes() {
+        return None;
+    }
+    let unit_idx = units_before(text, line_idx) + column;
+    let chunk = text.chunk(By::Units, unit_idx);
+    let own = place_in_str(chunk.text, unit_idx - chunk.start.units)?;
+    let ended = chunk.start.breaks + breaks::count_breaks(&chunk.text[..own.byte_idx]);
+    if ended != line_idx {
+        // The line's break stands before the place, or the CR of it does.
+        return None;
+    }
+    Some(Place {
+        byte_idx: chunk.start.bytes + own.byte_idx,
+        char_idx: chunk.start.chars + own.char_idx,
+    })
+}
+
 /// A line of a text in which positions are looked up.
 #[derive(Clone, Copy)]
 pub(crate) struct OwnLine<'a> {
-    /// Where it starts.
+    /// The text.
+    pub(crate) whole: RopeSlice<'a>,
+    /// The line's index in it.
+    pub(crate) line_idx: usize,
+    /// Where the line starts.
     pub(crate) start: Place,
-    /// Its text, the break left off.
-    pub(crate) text: Line<'a>,
+    /// The line's text, where the line ends in the chunk in which it starts.
+    pub(crate) text: Option<&'a str>,
 }
 
 impl<'a> OwnLine<'a> {
-    /// A line of a text, or `None` past the last one. `O(log n)`.
+    /// A line of a text, or `None` past the last one. `O(log n)`: one way down the tree.
     fn of(text: &'a Rope, line_idx: usize) -> Option<OwnLine<'a>>
         ensures line { IfSome result (λ line. IsOwnLine (text_of text.now) line_idx line) }
         ensures none { IfNone result (line_count (text_of text.now) ≤ line_idx) }
@@ -93,24 +144,31 @@ impl<'a> OwnLine<'a> {
         if line_idx >= text.len_lines() {
             return None;
         }
-        let text = text.slice(..);
-        let start = LineStart::of(&text, line_idx);
+        let whole = text.slice(..);
+        let start = LineStart::of(&whole, line_idx);
         Some(OwnLine {
+            whole,
+            line_idx,
             start: Place {
                 byte_idx: start.byte_idx + start.at,
-                char_idx: start.chars_before(&text, line_idx),
+                char_idx: start.chars_before(&whole, line_idx),
             },
-            text: start.line(&text, line_idx),
+            text: start.line(&whole),
         })
     }
 
-    /// The place of the text at which a column of the line is, or `None` where it is nowhere.
+    /// The place of the text at which a column of the line is, or `None` where it is nowhere. In
+    /// time linear in the column where the line ends in the chunk in which it starts, else
+    /// `O(log n)`: two ways down the tree at most.
     fn place_at(&self, column: usize) -> Option<Place>
         requires { (text : List ℕ) × (line : ℕ) × IsOwnLine text line self.now }
         ensures { (text : List ℕ) (line : ℕ) → IsOwnLine text line self.now
             → MatchOption result (IsNowhere text (line, column)) (IsPlaceOf text (line, column)) }
     {
-        let own = self.text.place_at(column)?;
+        let Some(text) = self.text else {
+            return place_across(&self.whole, self.line_idx, column);
+        };
+        let own = place_in_str(text, column)?;
         Some(Place {
             byte_idx: self.start.byte_idx + own.byte_idx,
             char_idx: self.start.char_idx + own.char_idx,
@@ -120,7 +178,7 @@ impl<'a> OwnLine<'a> {
 
 /// Returns the byte index at which a position is, or `None` where it is nowhere: inside a surrogate
 /// pair, behind its line's text, between the CR and the LF of a break, or past the last line.
-/// `O(log n)`.
+/// `O(log n)`: three ways down the tree at most, and one where the line lies in one chunk.
 pub fn byte_of(text: &Rope, position: Position) -> Option<usize>
     ensures { MatchOption result
         (IsNowhere (text_of text.now) (position.line, position.column))
@@ -131,7 +189,7 @@ pub fn byte_of(text: &Rope, position: Position) -> Option<usize>
 }
 
 /// Returns the place at which a position is, in bytes and in characters, or `None` as `byte_of`
-/// does.
+/// does, by as many ways down the tree.
 pub fn place_of(text: &Rope, position: Position) -> Option<Place>
     ensures at { MatchOption result
         (IsNowhere (text_of text.now) (position.line, position.column))

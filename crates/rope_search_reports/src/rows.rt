@@ -1,6 +1,6 @@
 //! Patterns made ready to search, what their searches find in a line or in a whole text, and the
 //! count of these searches.
-ghost use Rattle.std.specs.Prelude.{◌≡◌, ◌+◌, ◌-◌, ◌^◌, ◌<◌, ℕ, List, map, min, IfOk, IfErr};
+ghost use Rattle.std.specs.Prelude.{◌≡◌, ◌+◌, ◌-◌, ◌^◌, ◌<◌, ◌≤◌, ℕ, List, map, min, IfOk, IfErr};
 ghost use Rattle.std.specs.Str.{IsCharBoundary};
 ghost use Rattle.ropey.specs.Chunks.{text_of};
 ghost use Rattle.ropey_walk.specs.Slices.{slice_text};
@@ -80,6 +80,7 @@ impl Lines {
     /// Counts one row more.
     fn add_row(&mut self)
         ensures count { self.new.count ≡ min (self.old.count + 1) (2 ^ 64 - 1) }
+        ensures grows { self.old.count ≤ self.new.count }
         ensures wholes { self.new.wholes ≡ self.old.wholes }
         ensures looked { self.new.looked ≡ self.old.looked }
     {
@@ -91,6 +92,7 @@ impl Lines {
     fn add_whole(&mut self)
         ensures count { self.new.count ≡ self.old.count }
         ensures wholes { self.new.wholes ≡ min (self.old.wholes + 1) (2 ^ 64 - 1) }
+        ensures grows { self.old.wholes ≤ self.new.wholes }
         ensures looked { self.new.looked ≡ self.old.looked }
     {
         let wholes = &mut self.wholes;
@@ -147,6 +149,7 @@ pub(crate) fn row_of(tick: &mut Lines, finder: &mut Finder, line: Line<'_>) -> R
     ensures fault { IfErr result (λ fault. fault ≡ Fault.Memory) }
     ensures finder { finder.new ≡ finder.old }
     ensures count { tick.new.count ≡ min (tick.old.count + 1) (2 ^ 64 - 1) }
+    ensures grows { tick.old.count ≤ tick.new.count }
     ensures wholes { tick.new.wholes ≡ tick.old.wholes }
     ensures looked { tick.new.looked ≡ tick.old.looked }
 {
@@ -165,6 +168,7 @@ pub fn search_line(tick: &mut Lines, finder: &mut Finder, line: RopeSlice<'_>) -
     ensures fault { IfErr result (λ fault. fault ≡ Fault.Memory) }
     ensures finder { finder.new ≡ finder.old }
     ensures count { tick.new.count ≡ min (tick.old.count + 1) (2 ^ 64 - 1) }
+    ensures grows { tick.old.count ≤ tick.new.count }
     ensures wholes { tick.new.wholes ≡ tick.old.wholes }
     ensures looked { tick.new.looked ≡ tick.old.looked }
 {
@@ -193,6 +197,7 @@ pub fn groups_at(
     ensures fault { IfErr result (λ fault. fault ≡ Fault.Memory) }
     ensures finder { finder.new ≡ finder.old }
     ensures count { tick.new.count ≡ min (tick.old.count + 1) (2 ^ 64 - 1) }
+    ensures grows { tick.old.count ≤ tick.new.count }
     ensures wholes { tick.new.wholes ≡ tick.old.wholes }
     ensures looked { tick.new.looked ≡ tick.old.looked }
 {
@@ -220,6 +225,7 @@ pub fn find_from(
     ensures finder { finder.new ≡ finder.old }
     ensures count { tick.new.count ≡ tick.old.count }
     ensures wholes { tick.new.wholes ≡ min (tick.old.wholes + 1) (2 ^ 64 - 1) }
+    ensures grows { tick.old.wholes ≤ tick.new.wholes }
     ensures looked { tick.new.looked ≡ tick.old.looked }
 {
     finder.first_in(tick, text, from)
@@ -241,6 +247,7 @@ pub fn find_all(tick: &mut Lines, finder: &mut Finder, text: &Rope) -> Result<Ve
     ensures finder { finder.new ≡ finder.old }
     ensures count { tick.new.count ≡ tick.old.count }
     ensures wholes { tick.new.wholes ≡ min (tick.old.wholes + 1) (2 ^ 64 - 1) }
+    ensures grows { tick.old.wholes ≤ tick.new.wholes }
     ensures looked { tick.new.looked ≡ tick.old.looked }
 {
     finder.groups_of(tick, text)
@@ -264,6 +271,7 @@ pub fn find_spans(
     ensures finder { finder.new ≡ finder.old }
     ensures count { tick.new.count ≡ tick.old.count }
     ensures wholes { tick.new.wholes ≡ min (tick.old.wholes + 1) (2 ^ 64 - 1) }
+    ensures grows { tick.old.wholes ≤ tick.new.wholes }
     ensures looked { tick.new.looked ≡ tick.old.looked }
 {
     finder.spans_of(tick, text)

@@ -1,5 +1,6 @@
 //! A regex whose searches are counted as they begin, and go forward alone. Nothing else of the crate
-//! has a regex, an input or a cache: a search that isn't begun here can't be made.
+//! has a regex, an input or a cache: a search that isn't begun here can't be made. What else the
+//! crate takes of `regex_cursor` is handed on from here.
 ghost use Rattle.std.specs.Prelude.{◌≡◌, ℕ, Option, ◌+◌, ◌-◌, ◌*◌, ◌^◌, min, ◌<◌, ◌≤◌, ◌↔◌, List, length, Some, None, true, false, IsTrue, IfOk, IfErr, IfSome, IfNone, OnErr};
 ghost use Rattle.str_indices.specs.Text.{byte_len};
 ghost use Rattle.ropey_walk.specs.Comparing.{slice_bytes};
@@ -12,12 +13,15 @@ ghost use Rattle.rope_search_reports.specs.Text.{IsText};
 ghost use Rattle.rope_search_reports.specs.Finders.{IsTold, group_told, start_behind};
 
 use super::Lines;
-use regex_cursor::engines::meta::{Cache, Regex};
-use regex_cursor::{BuildError, Cursor, Input, NonMaxUsize, RopeyCursor, Span};
+use counters::Counter;
+use regex_cursor::engines::meta::{Cache, LinearMatches, Regex};
+pub use regex_cursor::{BuildError, Cursor, RopeyCursor};
+use regex_cursor::{Input, NonMaxUsize, Span};
 use rope_search_io::Fault;
 use ropey::RopeSlice;
 use std::alloc::Global;
 use std::marker::Model;
+use std::snapshot::Snapshot;
 
 /// The places in the slots of a search, as it notes them.
 pub type Slot = Option<NonMaxUsize>;
@@ -44,30 +48,33 @@ impl Model for CountedRegex {
 }
 
 /// A search that was begun, and goes on behind the last match. Contracts see what it goes over,
-/// where the last match ended, if there was one, and whether no more come.
+/// where the last match ended, if there was one, whether no more come, and the regex that began it.
 #[derive(Drop)]
 pub struct Pass<C: Cursor> {
-    input: Input<C>,
-    last: Option<usize>,
-    is_over: bool,
+    matches: LinearMatches<C>,
+    // For contracts alone.
+    by: Snapshot<Regex>,
 }
 
 impl<C: Cursor> Model for Pass<C> {
     ghost use Rattle.std.specs.Prelude.{◌≡◌, ◌≤◌, false, length};
     ghost use Rattle.regex_cursor.specs.Patterns.{AsksFrom};
+    ghost use Rattle.regex_cursor.specs.Linear.{IsListedFor};
     ghost use Rattle.rope_search_reports.specs.Finders.{PassState, start_behind};
 
     ghost Value = { PassState };
 
     ghost view = { λ p. record {
-      content = p.input.cursor.content;
-      last = p.last;
-      is_over = p.is_over;
+      content = p.matches.input.cursor.content;
+      last = p.matches.last_end;
+      is_over = p.matches.is_over;
+      by = p.by.value;
     } };
 
-    ghost invariant = { λ p. p.is_over ≡ false →
-        AsksFrom p.input.cursor.content (start_behind p.last) p.input ×
-        (start_behind p.last ≤ length p.input.cursor.content) };
+    ghost invariant = { λ p. IsListedFor p.by.value.engine p.matches ×
+        (p.matches.is_over ≡ false →
+        AsksFrom p.matches.input.cursor.content (start_behind p.matches.last_end) p.matches.input ×
+        (start_behind p.matches.last_end ≤ length p.matches.input.cursor.content)) };
 }
 
 /// An input over a content of this length, in which matches are searched from a place on; looks see
@@ -116,46 +123,6 @@ fn find<C: Cursor>(
         Ok(_) => Ok(group_in(slots, 0)),
         Err(_) => Err(Fault::Memory),
     }
-}
-
-/// Whether an empty match was found at a place.
-fn is_empty_at(span: Option<(usize, usize)>, place: usize) -> bool
-    ensures { IsTrue result ↔ (span ≡ Some (place, place)) }
-{
-    span == Some((place, place))
-}
-
-/// What comes next among the matches in an input's content, behind the last one, which ended where
-/// the input's search starts; an empty match there is passed over. Spans and slots as by `find`.
-fn find_next<C: Cursor>(
-    regex: &Regex,
-    cache: &mut Cache,
-    input: &mut Input<C>,
-    slots: &mut [Slot],
-    last: Option<usize>,
-) -> Result<Option<(usize, usize)>, Fault>
-    requires made { IsCacheOf regex.now cache.old }
-    requires slots { 2 ≤ length slots.old }
-    requires asks { AsksFrom input.old.cursor.content (start_behind last) input.old }
-    requires within { start_behind last ≤ length input.old.cursor.content }
-    ensures found { (text : List ℕ) → (built : IsRegexOf text regex.now)
-        → IfOk result (λ span.
-        IsTold (TreeFindsNext built.tree input.old.cursor.content last) span slots.new) }
-    ensures asks { (from : ℕ) × AsksFrom input.old.cursor.content from input.new }
-    ensures made { IsCacheOf regex.now cache.new }
-    ensures fault { IfErr result (λ fault. fault ≡ Fault.Memory) }
-{
-    // How long the content may be, for the proof alone.
-    let _ = input.position();
-    let span = find(regex, cache, input, slots)?;
-    let Some(end) = last else {
-        return Ok(span);
-    };
-    if !is_empty_at(span, end) {
-        return Ok(span);
-    }
-    input.set_start(end + 1);
-    find(regex, cache, input, slots)
 }
 
 impl CountedRegex {
@@ -207,12 +174,29 @@ impl CountedRegex {
         ensures fault { IfErr result (λ fault. fault ≡ Fault.Memory) }
         ensures count { tick.new.count ≡ tick.old.count }
         ensures wholes { tick.new.wholes ≡ min (tick.old.wholes + 1) (2 ^ 64 - 1) }
+        ensures grows { tick.old.wholes ≤ tick.new.wholes }
         ensures looked { tick.new.looked ≡ tick.old.looked }
     {
         tick.add_whole();
         let len = text.len_bytes();
         let mut input = input_over(RopeyCursor::at(text, from), len, from);
         find(&self.regex, &mut self.cache, &mut input, &mut [None; 2])
+    }
+
+    /// The search of an input, of which no match has come yet.
+    fn begun<C: Cursor>(&self, input: Input<C>) -> Pass<C>
+        requires { AsksFrom input.cursor.content 0 input }
+        ensures { result ≡ record {
+          content = input.cursor.content;
+          last = None;
+          is_over = false;
+          by = self.now;
+        } }
+    {
+        Pass {
+            matches: LinearMatches::new(input),
+            by: Snapshot::of(&self.regex),
+        }
     }
 
     /// Begins the search of a line, of so many bytes, which the cursor shows. One row is counted.
@@ -222,17 +206,15 @@ impl CountedRegex {
           content = (C.state cursor).content;
           last = None;
           is_over = false;
+          by = self.now;
         } }
         ensures count { tick.new.count ≡ min (tick.old.count + 1) (2 ^ 64 - 1) }
+        ensures grows { tick.old.count ≤ tick.new.count }
         ensures wholes { tick.new.wholes ≡ tick.old.wholes }
         ensures looked { tick.new.looked ≡ tick.old.looked }
     {
         tick.add_row();
-        Pass {
-            input: input_over(cursor, len, 0),
-            last: None,
-            is_over: false,
-        }
+        self.begun(input_over(cursor, len, 0))
     }
 
     /// Begins the search of a whole text. One such search is counted.
@@ -241,31 +223,31 @@ impl CountedRegex {
           content = slice_bytes text.entry;
           last = None;
           is_over = false;
+          by = self.now;
         } }
         ensures scalars { IsText (slice_text text.entry) }
         ensures count { tick.new.count ≡ tick.old.count }
         ensures wholes { tick.new.wholes ≡ min (tick.old.wholes + 1) (2 ^ 64 - 1) }
+        ensures grows { tick.old.wholes ≤ tick.new.wholes }
         ensures looked { tick.new.looked ≡ tick.old.looked }
     {
         tick.add_whole();
         let len = text.len_bytes();
-        Pass {
-            input: input_over(RopeyCursor::new(text), len, 0),
-            last: None,
-            is_over: false,
-        }
+        self.begun(input_over(RopeyCursor::new(text), len, 0))
     }
 
     /// The span of the match that comes next in a search that was begun: the first, or the one
     /// behind the last, where an empty match right behind that is passed over. The places of its
     /// groups are put into the slots, of which there are two or more. Behind the last match, and
-    /// after an error, no more come. Errors: `Fault::Memory`.
+    /// after an error, no more come. All calls together take time linear in the content, times the
+    /// pattern's weight. Requires the regex that began the search. Errors: `Fault::Memory`.
     pub fn next<C: Cursor>(
         &mut self,
         pass: &mut Pass<C>,
         slots: &mut [Slot],
     ) -> Result<Option<(usize, usize)>, Fault>
-        requires { 2 ≤ length slots.old }
+        requires slots { 2 ≤ length slots.old }
+        requires by { pass.old.by ≡ self.old }
         ensures found { pass.old.is_over ≡ false
             → (text : List ℕ) → (built : IsRegexOf text self.old) → IfOk result (λ span.
             IsTold (TreeFindsNext built.tree pass.old.content pass.old.last) span slots.new) }
@@ -273,6 +255,7 @@ impl CountedRegex {
           content = pass.old.content;
           last = Some span.1;
           is_over = false;
+          by = pass.old.by;
         })) }
         ensures ends { IfOk result (λ span. IfNone span (pass.new.is_over ≡ true)) }
         ensures stops { OnErr result (pass.new.is_over ≡ true) }
@@ -280,17 +263,12 @@ impl CountedRegex {
         ensures same { self.new ≡ self.old }
         ensures fault { IfErr result (λ fault. fault ≡ Fault.Memory) }
     {
-        if pass.is_over {
-            return Ok(None);
+        let matches = &mut pass.matches;
+        let mut read = Counter::new();
+        match matches.next_slots(&self.regex, &mut self.cache, slots, &mut read) {
+            Ok(Some(_)) => Ok(group_in(slots, 0)),
+            Ok(None) => Ok(None),
+            Err(_) => Err(Fault::Memory),
         }
-        pass.is_over = true;
-        let last = pass.last;
-        let span = find_next(&self.regex, &mut self.cache, &mut pass.input, slots, last)?;
-        if let Some((_, end)) = span {
-            pass.input.set_start(end);
-            pass.last = Some(end);
-            pass.is_over = false;
-        }
-        Ok(span)
     }
 }

@@ -16,7 +16,7 @@ ghost use Rattle.rope_search_reports.specs.Finders.{matches_in};
 ghost use Rattle.rope_search_reports.specs.Drafts.{AreBare, FindsNoneBetween, HoldsText, own_text};
 
 use super::Lines;
-use super::counted::CountedRegex;
+use super::counted::{BuildError, CountedRegex, RopeyCursor};
 use super::groups::groups_of_match;
 use super::matches::Found;
 use super::searching::{all_groups, all_spans, columns_in_line};
@@ -24,7 +24,6 @@ use crate::columns::groups_by_columns;
 use crate::line::Line;
 use crate::pattern_text::PatternText;
 use crate::walk::Walk;
-use regex_cursor::{BuildError, RopeyCursor};
 use rope_search_changes::Groups;
 use rope_search_io::Fault;
 use ropey::{Rope, RopeSlice};
@@ -36,7 +35,6 @@ pub const PATTERN_LEN: usize = 65_536;
 
 /// A pattern that is ready to search, with what its searches keep from one to the next: all of it
 /// is made once. It can't be copied.
-#[derive(Drop)]
 pub struct Finder {
     alloc: Global,
     regex: CountedRegex,
@@ -46,6 +44,19 @@ pub struct Finder {
     columns: Vec<(usize, usize)>,
     // For contracts alone.
     pattern: PatternText,
+}
+
+// Written out, so that no crate above proves anew how what it holds is let go.
+impl Drop for Finder {
+    fn drop(self) {
+        let Finder {
+            alloc: _alloc,
+            regex: _regex,
+            is_never_empty: _is_never_empty,
+            columns: _columns,
+            pattern: _pattern,
+        } = self;
+    }
 }
 
 impl Model for Finder {
@@ -197,6 +208,7 @@ impl Finder {
         ensures fault { IfErr result (λ fault. fault ≡ Fault.Memory) }
         ensures finder { self.new ≡ self.old }
         ensures count { tick.new.count ≡ min (tick.old.count + 1) (2 ^ 64 - 1) }
+        ensures grows { tick.old.count ≤ tick.new.count }
         ensures wholes { tick.new.wholes ≡ tick.old.wholes }
         ensures looked { tick.new.looked ≡ tick.old.looked }
     {
@@ -216,6 +228,7 @@ impl Finder {
         ensures fault { IfErr result (λ fault. fault ≡ Fault.Memory) }
         ensures finder { self.new ≡ self.old }
         ensures count { tick.new.count ≡ min (tick.old.count + 1) (2 ^ 64 - 1) }
+        ensures grows { tick.old.count ≤ tick.new.count }
         ensures wholes { tick.new.wholes ≡ tick.old.wholes }
         ensures looked { tick.new.looked ≡ tick.old.looked }
     {
@@ -243,6 +256,7 @@ impl Finder {
         ensures finder { self.new ≡ self.old }
         ensures count { tick.new.count ≡ tick.old.count }
         ensures wholes { tick.new.wholes ≡ min (tick.old.wholes + 1) (2 ^ 64 - 1) }
+        ensures grows { tick.old.wholes ≤ tick.new.wholes }
         ensures looked { tick.new.looked ≡ tick.old.looked }
     {
         self.regex.first_in(tick, text.slice(..), from)
@@ -261,6 +275,7 @@ impl Finder {
         ensures finder { self.new ≡ self.old }
         ensures count { tick.new.count ≡ tick.old.count }
         ensures wholes { tick.new.wholes ≡ min (tick.old.wholes + 1) (2 ^ 64 - 1) }
+        ensures grows { tick.old.wholes ≤ tick.new.wholes }
         ensures looked { tick.new.looked ≡ tick.old.looked }
     {
         all_groups(tick, self.alloc, &mut self.regex, text.slice(..))
@@ -281,6 +296,7 @@ impl Finder {
         ensures fault { IfErr result (λ fault. fault ≡ Fault.Memory) }
         ensures finder { self.new ≡ self.old }
         ensures count { tick.new.count ≡ min (tick.old.count + 1) (2 ^ 64 - 1) }
+        ensures grows { tick.old.count ≤ tick.new.count }
         ensures wholes { tick.new.wholes ≡ tick.old.wholes }
         ensures looked { tick.new.looked ≡ tick.old.looked }
     {
@@ -307,6 +323,7 @@ impl Finder {
         ensures finder { self.new ≡ self.old }
         ensures count { tick.new.count ≡ tick.old.count }
         ensures wholes { tick.new.wholes ≡ min (tick.old.wholes + 1) (2 ^ 64 - 1) }
+        ensures grows { tick.old.wholes ≤ tick.new.wholes }
         ensures looked { tick.new.looked ≡ tick.old.looked }
     {
         all_spans(tick, self.alloc, &mut self.regex, text.slice(..))

@@ -1,14 +1,13 @@
 //! The groups of one match in a line.
-ghost use Rattle.std.specs.Prelude.{◌≡◌, ℕ, ◌+◌, ◌-◌, ◌^◌, min, List, IfOk, IfErr, IfSome};
+ghost use Rattle.std.specs.Prelude.{◌≡◌, ℕ, ◌+◌, ◌-◌, ◌^◌, ◌≤◌, min, List, IfOk, IfErr, IfSome};
 ghost use Rattle.ropey_walk.specs.Comparing.{slice_bytes};
 ghost use Rattle.regex_cursor.specs.Regexes.{IsRegexOf};
 ghost use Rattle.rope_search_reports.specs.Replacement.{HasSpansIn};
 ghost use Rattle.rope_search_reports.specs.LineGroups.{IsAmongGroups};
 
 use super::Lines;
-use super::counted::CountedRegex;
+use super::counted::{CountedRegex, RopeyCursor};
 use super::searching::{SLOT_COUNT, groups_in};
-use regex_cursor::RopeyCursor;
 use rope_search_changes::Groups;
 use rope_search_io::Fault;
 use ropey::RopeSlice;
@@ -28,6 +27,7 @@ pub fn groups_of_match(
     ensures same { regex.new ≡ regex.old }
     ensures fault { IfErr result (λ fault. fault ≡ Fault.Memory) }
     ensures count { tick.new.count ≡ min (tick.old.count + 1) (2 ^ 64 - 1) }
+    ensures grows { tick.old.count ≤ tick.new.count }
     ensures wholes { tick.new.wholes ≡ tick.old.wholes }
     ensures looked { tick.new.looked ≡ tick.old.looked }
 {

@@ -1,6 +1,6 @@
 //! All matches of a content, in the order of a search that was begun: those of a line by their
 //! columns, those of a whole text with their groups or their spans alone.
-ghost use Rattle.std.specs.Prelude.{◌≡◌, ◌+◌, ◌-◌, ◌^◌, min, ℕ, List, [], IfOk, IfErr, OnOk, map};
+ghost use Rattle.std.specs.Prelude.{◌≡◌, ◌+◌, ◌-◌, ◌^◌, ◌≤◌, min, ℕ, List, [], IfOk, IfErr, OnOk, map};
 ghost use Rattle.std.specs.List.{range_with_len};
 ghost use Rattle.ropey_walk.specs.Comparing.{slice_bytes};
 ghost use Rattle.regex_cursor.specs.Regexes.{IsRegexOf};
@@ -10,9 +10,8 @@ ghost use Rattle.rope_search_reports.specs.Drafts.{HoldsText, own_text};
 ghost use Rattle.rope_search_reports.specs.Finders.{AreGroupsOf, AreSpansOf, IsRowOf, group_told};
 
 use super::Lines;
-use super::counted::{CountedRegex, Slot, group_in};
+use super::counted::{CountedRegex, Cursor, RopeyCursor, Slot, group_in};
 use crate::line::Line;
-use regex_cursor::{Cursor, RopeyCursor};
 use rope_search_changes::Groups;
 use rope_search_io::Fault;
 use ropey::RopeSlice;
@@ -47,6 +46,7 @@ pub fn all_groups(
     ensures fault { IfErr result (λ fault. fault ≡ Fault.Memory) }
     ensures count { tick.new.count ≡ tick.old.count }
     ensures wholes { tick.new.wholes ≡ min (tick.old.wholes + 1) (2 ^ 64 - 1) }
+    ensures grows { tick.old.wholes ≤ tick.new.wholes }
     ensures looked { tick.new.looked ≡ tick.old.looked }
 {
     let mut pass = regex.in_text(tick, text);
@@ -74,6 +74,7 @@ pub fn all_spans(
     ensures fault { IfErr result (λ fault. fault ≡ Fault.Memory) }
     ensures count { tick.new.count ≡ tick.old.count }
     ensures wholes { tick.new.wholes ≡ min (tick.old.wholes + 1) (2 ^ 64 - 1) }
+    ensures grows { tick.old.wholes ≤ tick.new.wholes }
     ensures looked { tick.new.looked ≡ tick.old.looked }
 {
     let mut pass = regex.in_text(tick, text);
@@ -100,6 +101,7 @@ pub fn columns_in_line(
     ensures same { regex.new ≡ regex.old }
     ensures fault { IfErr result (λ fault. fault ≡ Fault.Memory) }
     ensures count { tick.new.count ≡ min (tick.old.count + 1) (2 ^ 64 - 1) }
+    ensures grows { tick.old.count ≤ tick.new.count }
     ensures wholes { tick.new.wholes ≡ tick.old.wholes }
     ensures looked { tick.new.looked ≡ tick.old.looked }
 {
@@ -127,6 +129,7 @@ fn columns_in<C: Cursor + Drop>(
     ensures same { regex.new ≡ regex.old }
     ensures fault { IfErr result (λ fault. fault ≡ Fault.Memory) }
     ensures count { tick.new.count ≡ min (tick.old.count + 1) (2 ^ 64 - 1) }
+    ensures grows { tick.old.count ≤ tick.new.count }
     ensures wholes { tick.new.wholes ≡ tick.old.wholes }
     ensures looked { tick.new.looked ≡ tick.old.looked }
 {

@@ -35,6 +35,8 @@ loop-change-init c =
         ap (line_at (text_of c.args.new.now)) (first-is c.args.changes.now c.first_start.result c.first_start.ensures.first c.first_start.ensures.none),
       ),
       omega arith,
+      omega arith,
+      omega arith,
     )
 
 pub at_place-walk-requires : goal.at_place-walk-requires
@@ -157,6 +159,8 @@ loop-change-preserved c =
       c.in_ok-made.ensures.text ∙ so.10,
       omega (arith, c.in_ok-made.ensures.line),
       omega (arith, so.12, c.loop-change-test.true),
+      omega (arith, so.13, c.rows_ahead.ensures.count.grows),
+      omega (arith, so.14, c.in_ok-made.ensures.each.made, brought, own),
     )
 
 pub returns-clause-turn : goal.returns-clause-turn
@@ -178,7 +182,7 @@ returns-in_err-made-clause-once c =
     let next = next-at _ _ _ c.args.changes.now _ _ _ _ _ c.loop-change-test.true (c.loop-change.invariant.0 c.requires.changed.0 c.requires.changed.1).1 in
     let few : c.line-end.result + 1 ≤ line_count (text_of c.args.new.now) = omega (arith, c.line-end.ensures.few, ap line_count (c.line.ensures.text ∙ c.loop-change.invariant.8)) in
     let sum = once-at _ _ _ _ _ _ c.loop-change.invariant.3 next.lines.forward next.lines.ordered (start-is c.loop-change.done _ c.line.result c.max-start.result (c.line.ensures.line ∙ ap (λ t. line_at t (change_at c.args.changes.now c.loop-change.change-index).new_start) c.loop-change.invariant.8) (c.max-start.ensures ∙ max-is c.loop-change.done c.line.result)) (c.line-end.ensures.line ∙ ap (λ t. line_at t (change_at c.args.changes.now c.loop-change.change-index).new_end) (c.line.ensures.text ∙ c.loop-change.invariant.8)) c.rows_ahead.ensures.count.made in
-    record { made = omega (arith, sum, few); no_whole = c.rows_ahead.ensures.count.no_whole ∙ c.loop-change.invariant.2 }
+    record { grows = omega (arith, c.loop-change.invariant.13, c.rows_ahead.ensures.count.grows); made = omega (arith, sum, few); no_whole = c.rows_ahead.ensures.count.no_whole ∙ c.loop-change.invariant.2 }
 
 pub returns-in_err-made-clause-looks_once : goal.returns-in_err-made-clause-looks_once
 returns-in_err-made-clause-looks_once c =
@@ -192,7 +196,7 @@ returns-in_err-add_patch-clause-once c =
     let next = next-at _ _ _ c.args.changes.now _ _ _ _ _ c.loop-change-test.true (c.loop-change.invariant.0 c.requires.changed.0 c.requires.changed.1).1 in
     let few : c.line-end.result + 1 ≤ line_count (text_of c.args.new.now) = omega (arith, c.line-end.ensures.few, ap line_count (c.line.ensures.text ∙ c.loop-change.invariant.8)) in
     let sum = once-at _ _ _ _ _ _ c.loop-change.invariant.3 next.lines.forward next.lines.ordered (start-is c.loop-change.done _ c.line.result c.max-start.result (c.line.ensures.line ∙ ap (λ t. line_at t (change_at c.args.changes.now c.loop-change.change-index).new_start) c.loop-change.invariant.8) (c.max-start.ensures ∙ max-is c.loop-change.done c.line.result)) (c.line-end.ensures.line ∙ ap (λ t. line_at t (change_at c.args.changes.now c.loop-change.change-index).new_end) (c.line.ensures.text ∙ c.loop-change.invariant.8)) c.rows_ahead.ensures.count.made in
-    record { made = omega (arith, sum, few); no_whole = c.rows_ahead.ensures.count.no_whole ∙ c.loop-change.invariant.2 }
+    record { grows = omega (arith, c.loop-change.invariant.13, c.rows_ahead.ensures.count.grows); made = omega (arith, sum, few); no_whole = c.rows_ahead.ensures.count.no_whole ∙ c.loop-change.invariant.2 }
 
 pub returns-in_err-add_patch-clause-looks_once : goal.returns-in_err-add_patch-clause-looks_once
 returns-in_err-add_patch-clause-looks_once c =

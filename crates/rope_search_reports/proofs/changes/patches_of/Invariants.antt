@@ -19,4 +19,5 @@ invariant-loop-change l =
     × (l.tick.looked ≤ l.fn.tick.looked + l.done) × (min (l.fn.tick.count + made_by l.patches.items) (2 ^ 64 - 1) ≤ l.tick.count)
     × (l.tick.looked ≤ l.fn.tick.looked + made_by l.patches.items)
     × (l.new_lines.text ≡ text_of l.new) × (l.old_lines.text ≡ text_of l.old) × (l.walk.text ≡ text_of l.new) × (l.walk.line ≤ max l.done (line_at (text_of l.new) (change_at l.changes l.change-index).new_start))
-    × (l.left + l.change-index ≡ length l.changes)
+    × (l.left + l.change-index ≡ length l.changes) × (l.fn.tick.count ≤ l.tick.count)
+    × (l.tick.count ≤ l.fn.tick.count + made_by l.patches.items)

@@ -12,11 +12,11 @@ loop-done-init c = (sym (append-nil c.args.rows.now.items), refl, counted-start 
 
 pub returns-in_err-row_of-clause-count : goal.returns-in_err-row_of-clause-count
 returns-in_err-row_of-clause-count c =
-    counted-most c.loop-done._done c.args.count c.args.tick.now c.loop-done.tick c.row_of.new.tick c.loop-done.invariant.2 c.row_of.ensures.count c.row_of.ensures.wholes (omega (arith, c.loop-done-test.true))
+    counted-most c.loop-done._done c.args.count c.args.tick.now c.loop-done.tick c.row_of.new.tick c.loop-done.invariant.2 c.row_of.ensures.count c.row_of.ensures.grows c.row_of.ensures.wholes (omega (arith, c.loop-done-test.true))
 
 pub returns-in_err-push-clause-count : goal.returns-in_err-push-clause-count
 returns-in_err-push-clause-count c =
-    counted-most c.loop-done._done c.args.count c.args.tick.now c.loop-done.tick c.row_of.new.tick c.loop-done.invariant.2 c.row_of.ensures.count c.row_of.ensures.wholes (omega (arith, c.loop-done-test.true))
+    counted-most c.loop-done._done c.args.count c.args.tick.now c.loop-done.tick c.row_of.new.tick c.loop-done.invariant.2 c.row_of.ensures.count c.row_of.ensures.grows c.row_of.ensures.wholes (omega (arith, c.loop-done-test.true))
 
 pub loop-done-preserved : goal.loop-done-preserved
 loop-done-preserved c =
@@ -27,7 +27,7 @@ loop-done-preserved c =
     let empty : c.in_ok-row_of.field-0 ≡ [] = IsRow-one (list-one one_tree finds_of_trees) c.args.finder.now [] c.in_ok-row_of.field-0 [] row (c.requires some) in (
       bare-more c.args.rows.now.items c.loop-done.rows.items c.push.new.self.items c.in_ok-row_of.field-0 c.loop-done._done inv.0 empty c.in_ok-push.ensures.items,
       c.row_of.ensures.finder ∙ inv.1,
-      counted-more c.loop-done._done c.args.tick.now c.loop-done.tick c.row_of.new.tick inv.2 c.row_of.ensures.count c.row_of.ensures.wholes,
+      counted-more c.loop-done._done c.args.tick.now c.loop-done.tick c.row_of.new.tick inv.2 c.row_of.ensures.count c.row_of.ensures.grows c.row_of.ensures.wholes,
       c.row_of.ensures.looked ∙ inv.3,
     )
 

@@ -16,11 +16,11 @@ next-requires c =
 
 pub returns-in_err-row_of-clause-count : goal.returns-in_err-row_of-clause-count
 returns-in_err-row_of-clause-count c =
-    counted-most c.loop-done._done c.args.count c.args.tick.now c.loop-done.tick c.row_of.new.tick c.loop-done.invariant.2 c.row_of.ensures.count c.row_of.ensures.wholes (omega (arith, c.loop-done-test.true))
+    counted-most c.loop-done._done c.args.count c.args.tick.now c.loop-done.tick c.row_of.new.tick c.loop-done.invariant.2 c.row_of.ensures.count c.row_of.ensures.grows c.row_of.ensures.wholes (omega (arith, c.loop-done-test.true))
 
 pub returns-in_err-push-clause-count : goal.returns-in_err-push-clause-count
 returns-in_err-push-clause-count c =
-    counted-most c.loop-done._done c.args.count c.args.tick.now c.loop-done.tick c.row_of.new.tick c.loop-done.invariant.2 c.row_of.ensures.count c.row_of.ensures.wholes (omega (arith, c.loop-done-test.true))
+    counted-most c.loop-done._done c.args.count c.args.tick.now c.loop-done.tick c.row_of.new.tick c.loop-done.invariant.2 c.row_of.ensures.count c.row_of.ensures.grows c.row_of.ensures.wholes (omega (arith, c.loop-done-test.true))
 
 pub loop-done-preserved : goal.loop-done-preserved
 loop-done-preserved c =
@@ -35,7 +35,7 @@ loop-done-preserved c =
     let next = c.next.ensures.line in (
       adds-one pattern text at done c.args.rows.now.items c.loop-done.rows.items c.push.new.self.items (own_text c.next.result) c.in_ok-row_of.field-0 inside inv.0 own_is row c.in_ok-push.ensures.items,
       c.row_of.ensures.finder ∙ inv.1,
-      counted-more done c.args.tick.now c.loop-done.tick c.row_of.new.tick inv.2 c.row_of.ensures.count c.row_of.ensures.wholes,
+      counted-more done c.args.tick.now c.loop-done.tick c.row_of.new.tick inv.2 c.row_of.ensures.count c.row_of.ensures.grows c.row_of.ensures.wholes,
       c.next.ensures.text ∙ inv.3,
       omega (arith, next, inv.4),
       c.row_of.ensures.looked ∙ inv.5,

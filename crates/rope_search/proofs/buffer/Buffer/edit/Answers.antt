@@ -33,7 +33,7 @@ returns-in_err-patches-clause-rows c =
     let changed : AreChanges (c.change-change.result ∷ []) 0 0 old (text_of c.in_ok-new.new) (line_count inserted) =
     subst (λ t. AreChanges (c.change-change.result ∷ []) 0 0 old t (line_count inserted)) (sym c.in_ok-new.ensures.text) (c.change-change.ensures.changes old marked) in
     let rows : rows_anew c.args.self.now.state inserted ≡ line_count inserted = ap (λ p. if is_some p then line_count inserted else 0) is in
-    record { made = omega (arith, c.patches.ensures.count (line_count inserted) changed, rows); no_whole = c.patches.ensures.once.no_whole }
+    record { grows = c.patches.ensures.once.grows; made = omega (arith, c.patches.ensures.count (line_count inserted) changed, rows); no_whole = c.patches.ensures.once.no_whole }
 
 pub returns-in_err-add-2-clause-rows : goal.returns-in_err-add-2-clause-rows
 returns-in_err-add-2-clause-rows c =
@@ -52,7 +52,7 @@ returns-in_err-add-2-clause-rows c =
     let changed : AreChanges (c.change-change.result ∷ []) 0 0 old (text_of c.in_ok-new.new) (line_count inserted) =
     subst (λ t. AreChanges (c.change-change.result ∷ []) 0 0 old t (line_count inserted)) (sym c.in_ok-new.ensures.text) (c.change-change.ensures.changes old marked) in
     let rows : rows_anew c.args.self.now.state inserted ≡ line_count inserted = ap (λ p. if is_some p then line_count inserted else 0) is in
-    record { made = omega (arith, c.patches.ensures.count (line_count inserted) changed, rows); no_whole = c.patches.ensures.once.no_whole }
+    record { grows = c.patches.ensures.once.grows; made = omega (arith, c.patches.ensures.count (line_count inserted) changed, rows); no_whole = c.patches.ensures.once.no_whole }
 
 pub returns-clause-rows : goal.returns-clause-rows
 returns-clause-rows c =
@@ -71,7 +71,7 @@ returns-clause-rows c =
     let changed : AreChanges (c.change-change.result ∷ []) 0 0 old (text_of c.in_ok-new.new) (line_count inserted) =
     subst (λ t. AreChanges (c.change-change.result ∷ []) 0 0 old t (line_count inserted)) (sym c.in_ok-new.ensures.text) (c.change-change.ensures.changes old marked) in
     let rows : rows_anew c.args.self.now.state inserted ≡ line_count inserted = ap (λ p. if is_some p then line_count inserted else 0) is in
-    record { made = omega (arith, c.patches.ensures.count (line_count inserted) changed, rows); no_whole = c.patches.ensures.once.no_whole }
+    record { grows = c.patches.ensures.once.grows; made = omega (arith, c.patches.ensures.count (line_count inserted) changed, rows); no_whole = c.patches.ensures.once.no_whole }
 
 pub returns-in_default-clause-kept : goal.returns-in_default-clause-kept
 returns-in_default-clause-kept c =

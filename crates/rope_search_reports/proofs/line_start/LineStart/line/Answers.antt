@@ -1,27 +1,27 @@
-use Rattle.std.proofs.Common.{take, chars, sym, ap, subst, ◌∙◌}
-use Rattle.ropey.specs.Chunks.{is_break, text_of}
-use Rattle.ropey_walk.specs.Slices.{slice_pieces, slice_text}
+use Rattle.std.proofs.Common.{take, chars, refl, ap, subst, sym, ◌∙◌, arith}
+use Rattle.ropey.specs.Chunks.{is_break}
+use Rattle.ropey_walk.specs.Slices.{slice_text}
 use Rattle.str_indices.specs.FirstBreak.{IsFirstBreak}
-use Rattle.rope_search_reports.specs.Drafts.{HasOwnText}
-use Rattle.rope_search_reports.specs.Position.{line_text}
-use Rattle.rope_search_reports.proofs.PartLemmas.{line-is}
-use Rattle.rope_search_reports.proofs.StartLemmas.{line-here}
-use Rattle.rope_search_reports.proofs.TextPlaces.{places}
+use Rattle.str_indices.specs.Text.{breaks}
+use Rattle.rope_search_reports.proofs.StartLemmas.{chunk-inside, last-here, line-here}
 use Rattle.rope_search_reports.proofs.WalkLemmas.{from-start}
 use Rattle.rope_search_reports.proofs.line_start.LineStart.line.Goals as goal
 
 pub returns-in-Some-clause-own : goal.returns-in-Some-clause-own
-returns-in-Some-clause-own c =
+returns-in-Some-clause-own c = λ line starts below.
     let rest = c.range_from-rest.ensures.value in
-    let from = c.in-Some.found.start in
-    ap chars (c.range.ensures.value ∙ from-start c.range_from-rest.result.now from ∙ ap (take from) rest)
-    ∙ line-here (slice_text c.args.text.now) c.args.line_idx c.args.self.now from c.in-Some.found.end c.requires.starts c.requires.below
-    (subst (λ bs. IsFirstBreak is_break bs from c.in-Some.found.end) rest c.in-Some.ensures.first)
+    let found = c.in-Some.found in
+    ap chars (c.range.ensures.value ∙ from-start c.range_from-rest.result.now found.start ∙ ap (take found.start) rest)
+    ∙ line-here (slice_text c.args.text.now) line c.args.self.now found.start found.end starts below (subst (λ bs. IsFirstBreak is_break bs found.start found.end) rest c.in-Some.ensures.first)
 
-pub returns-in-None-clause-own : goal.returns-in-None-clause-own
-returns-in-None-clause-own c =
-    let text = slice_text c.args.text.now in
-    let own = line_text text c.args.line_idx in
-    let is : HasOwnText (slice_text c.line.result) own =
-    subst (λ ps. HasOwnText (text_of ps) own) (sym c.line.ensures) (line-is places (slice_pieces c.args.text.now) c.args.line_idx c.requires.below) in
-    c.of.ensures.text ∙ c.without_break.ensures own is
+pub overflow_add-self : goal.overflow_add-self
+overflow_add-self c =
+    let inside = chunk-inside (slice_text c.args.text.now) c.requires.0 c.args.self.now c.requires.1 in
+    omega (arith, inside, c.requires.1.fits)
+
+pub returns-clause-own : goal.returns-clause-own
+returns-clause-own c = λ line starts below.
+    let rest = c.range_from-rest.ensures.value in
+    ap chars rest
+    ∙ last-here (slice_text c.args.text.now) line c.args.self.now starts below (omega (arith, c.if-self-len_bytes.false, c.len_bytes.ensures.bytes))
+    (ap (λ bs. breaks is_break (chars bs)) (sym rest) ∙ c.in_default.ensures.none.0 refl)

@@ -1,4 +1,4 @@
-use Rattle.std.proofs.Common.{◌+◌, ap, sym, subst, ◌∙◌, arith}
+use Rattle.std.proofs.Common.{◌+◌, ◌<◌, refl, ap, sym, subst, ◌∙◌, arith}
 use Rattle.ropey.specs.Chunks.{text_of}
 use Rattle.ropey_walk.specs.Slices.{slice_text}
 use Rattle.rope_search_reports.specs.declared.positions.OwnLine.{OwnLine}
@@ -11,38 +11,41 @@ use Rattle.rope_search_reports.proofs.positions.OwnLine.of.Goals as goal
 
 pub of-start-requires : goal.of-start-requires
 of-start-requires c =
-    let own = ap text_of c.slice-text.ensures ∙ whole-is c.args.text.now in
+    let own = ap text_of c.slice-whole.ensures ∙ whole-is c.args.text.now in
     omega (arith, c.len_lines.ensures, c.if-line_idx-len_lines.false, ap line_count own)
 
 pub overflow_add-result : goal.overflow_add-result
 overflow_add-result c =
-    let near = (chars-there (slice_text c.slice-text.result) c.args.line_idx c.of-start.result c.of-start.ensures).near in
+    let near = (chars-there (slice_text c.slice-whole.result) c.args.line_idx c.of-start.result c.of-start.ensures).near in
     omega (arith, near, c.of-start.ensures.fits)
 
 pub chars_before-requires-clause-below : goal.chars_before-requires-clause-below
 chars_before-requires-clause-below c =
-    let own = ap text_of c.slice-text.ensures ∙ whole-is c.args.text.now in
+    let own = ap text_of c.slice-whole.ensures ∙ whole-is c.args.text.now in
     omega (arith, c.len_lines.ensures, c.if-line_idx-len_lines.false, ap line_count own)
 
-pub line-requires-clause-below : goal.line-requires-clause-below
-line-requires-clause-below c =
-    let own = ap text_of c.slice-text.ensures ∙ whole-is c.args.text.now in
-    omega (arith, c.len_lines.ensures, c.if-line_idx-len_lines.false, ap line_count own)
+pub line-requires : goal.line-requires
+line-requires c = (c.args.line_idx, c.of-start.ensures)
 
 pub returns-clause-line : goal.returns-clause-line
 returns-clause-line c =
-    let own = ap text_of c.slice-text.ensures ∙ whole-is c.args.text.now in
+    let own = ap text_of c.slice-whole.ensures ∙ whole-is c.args.text.now in
     let starts = c.of-start.ensures in
+    let below : c.args.line_idx < line_count (slice_text c.slice-whole.result) = omega (arith, c.len_lines.ensures, c.if-line_idx-len_lines.false, ap line_count own) in
     let line : OwnLine = record {
+      whole = c.slice-whole.result;
+      line_idx = c.args.line_idx;
       start = record { byte_idx = c.of-start.result.byte_idx + c.of-start.result.at; char_idx = c.chars_before.result };
       text = c.line.result;
     } in
     subst (λ t. IsOwnLine t c.args.line_idx line) own (record {
-      inside = omega (arith, c.len_lines.ensures, c.if-line_idx-len_lines.false, ap line_count own);
+      inside = below;
+      whole_is = refl;
+      line_is = refl;
       byte_is = sym starts.there;
       char_is = c.chars_before.ensures;
-      text_is = c.line.ensures.own;
-      holds = c.line.ensures.holds;
+      text_is = c.line.ensures.own c.args.line_idx starts below;
+      utf8 = c.line.ensures.utf8;
       scalars = starts.scalars;
       fits = starts.fits;
     })

@@ -12,8 +12,8 @@ use Rattle.rope_search_reports.proofs.PlaceLemmas.{rope-scalars}
 use Rattle.rope_search_reports.proofs.RowLemmas.{groups-told, next-told, next-further, none-next}
 use Rattle.rope_search_reports.proofs.rows.groups.groups_of_match.Goals as goal
 
-pub loop-slots-init : goal.loop-slots-init
-loop-slots-init c =
+pub loop-pass-init : goal.loop-pass-init
+loop-pass-init c =
     let begins = c.in_line-pass.ensures.begins in
     let shows = c.new.ensures.content in (
       refl,
@@ -21,67 +21,72 @@ loop-slots-init c =
       ap (λ p. p.content) begins ∙ shows,
       λ text built.
           rw (ap (λ p. p.last) begins) (passed-none built.tree (slice_bytes c.args.line) c.args.number (finds_of_trees built.tree)),
+      ap (λ p. p.by) begins,
     )
 
-pub loop-slots-smaller : goal.loop-slots-smaller
-loop-slots-smaller c =
+pub loop-pass-smaller : goal.loop-pass-smaller
+loop-pass-smaller c =
     let content = slice_bytes c.args.line in
-    let told : (text : List ℕ) → (built : IsRegexOf text c.args.regex.now) → IsTold (TreeFindsNext built.tree c.loop-slots.pass.content c.loop-slots.pass.last) c.in_ok-next.field-0 c.next.new.slots =
-    subst (λ re. (text : List ℕ) → (built : IsRegexOf text re) → IsTold (TreeFindsNext built.tree c.loop-slots.pass.content c.loop-slots.pass.last) c.in_ok-next.field-0 c.next.new.slots) c.loop-slots.invariant.0 (c.in_ok-next.ensures.found c.loop-slots.invariant.1) in
+    let told : (text : List ℕ) → (built : IsRegexOf text c.args.regex.now) → IsTold (TreeFindsNext built.tree c.loop-pass.pass.content c.loop-pass.pass.last) c.in_ok-next.field-0 c.next.new.slots =
+    subst (λ re. (text : List ℕ) → (built : IsRegexOf text re) → IsTold (TreeFindsNext built.tree c.loop-pass.pass.content c.loop-pass.pass.last) c.in_ok-next.field-0 c.next.new.slots) c.loop-pass.invariant.0 (c.in_ok-next.ensures.found c.loop-pass.invariant.1) in
     let tree = c.requires.1.tree in
-    let next = next-told tree content _ c.loop-slots.pass.last c.in_ok-next.field-0 c.in-Some.field-0 _ c.loop-slots.invariant.2 (told c.requires.0 c.requires.1) c.in-Some.is in
+    let next = next-told tree content _ c.loop-pass.pass.last c.in_ok-next.field-0 c.in-Some.field-0 _ c.loop-pass.invariant.2 (told c.requires.0 c.requires.1) c.in-Some.is in
     let gone = rw c.in-Some.is at c.in_ok-next.ensures.goes_on in
-    omega (arith, next-further tree content c.loop-slots.pass.last _ _ (finds_of_trees tree) next, ap (λ p. room_behind (length content) p.last) gone)
+    omega (arith, next-further tree content c.loop-pass.pass.last _ _ (finds_of_trees tree) next, ap (λ p. room_behind (length content) p.last) gone)
 
-pub loop-slots-preserved : goal.loop-slots-preserved
-loop-slots-preserved c =
+pub loop-pass-preserved : goal.loop-pass-preserved
+loop-pass-preserved c =
     let content = slice_bytes c.args.line in
-    let told : (text : List ℕ) → (built : IsRegexOf text c.args.regex.now) → IsTold (TreeFindsNext built.tree c.loop-slots.pass.content c.loop-slots.pass.last) c.in_ok-next.field-0 c.next.new.slots =
-    subst (λ re. (text : List ℕ) → (built : IsRegexOf text re) → IsTold (TreeFindsNext built.tree c.loop-slots.pass.content c.loop-slots.pass.last) c.in_ok-next.field-0 c.next.new.slots) c.loop-slots.invariant.0 (c.in_ok-next.ensures.found c.loop-slots.invariant.1) in
+    let told : (text : List ℕ) → (built : IsRegexOf text c.args.regex.now) → IsTold (TreeFindsNext built.tree c.loop-pass.pass.content c.loop-pass.pass.last) c.in_ok-next.field-0 c.next.new.slots =
+    subst (λ re. (text : List ℕ) → (built : IsRegexOf text re) → IsTold (TreeFindsNext built.tree c.loop-pass.pass.content c.loop-pass.pass.last) c.in_ok-next.field-0 c.next.new.slots) c.loop-pass.invariant.0 (c.in_ok-next.ensures.found c.loop-pass.invariant.1) in
     let gone = rw c.in-Some.is at c.in_ok-next.ensures.goes_on in (
-      c.next.ensures.same ∙ c.loop-slots.invariant.0,
+      c.next.ensures.same ∙ c.loop-pass.invariant.0,
       ap (λ p. p.is_over) gone,
-      ap (λ p. p.content) gone ∙ c.loop-slots.invariant.2,
+      ap (λ p. p.content) gone ∙ c.loop-pass.invariant.2,
       λ text built.
-          let next = next-told built.tree content _ c.loop-slots.pass.last c.in_ok-next.field-0 c.in-Some.field-0 _ c.loop-slots.invariant.2 (told text built) c.in-Some.is in
+          let next = next-told built.tree content _ c.loop-pass.pass.last c.in_ok-next.field-0 c.in-Some.field-0 _ c.loop-pass.invariant.2 (told text built) c.in-Some.is in
           rw (ap (λ p. p.last) gone)
-          (passed-more built.tree content c.loop-slots.pass.last c.in-Some.field-0 _ c.args.number c.loop-slots.left _
-          (finds_of_trees built.tree) next (omega arith) (c.loop-slots.invariant.3 text built)),
+          (passed-more built.tree content c.loop-pass.pass.last c.in-Some.field-0 _ c.args.number c.loop-pass.left _
+          (finds_of_trees built.tree) next (omega arith) (c.loop-pass.invariant.3 text built)),
+      ap (λ p. p.by) gone ∙ c.loop-pass.invariant.4,
     )
 
 pub returns-then-left-eq0-clause-groups : goal.returns-then-left-eq0-clause-groups
 returns-then-left-eq0-clause-groups c = λ text built.
     let content = slice_bytes c.args.line in
-    let told : (text : List ℕ) → (built : IsRegexOf text c.args.regex.now) → IsTold (TreeFindsNext built.tree c.loop-slots.pass.content c.loop-slots.pass.last) c.in_ok-next.field-0 c.next.new.slots =
-    subst (λ re. (text : List ℕ) → (built : IsRegexOf text re) → IsTold (TreeFindsNext built.tree c.loop-slots.pass.content c.loop-slots.pass.last) c.in_ok-next.field-0 c.next.new.slots) c.loop-slots.invariant.0 (c.in_ok-next.ensures.found c.loop-slots.invariant.1) in
+    let told : (text : List ℕ) → (built : IsRegexOf text c.args.regex.now) → IsTold (TreeFindsNext built.tree c.loop-pass.pass.content c.loop-pass.pass.last) c.in_ok-next.field-0 c.next.new.slots =
+    subst (λ re. (text : List ℕ) → (built : IsRegexOf text re) → IsTold (TreeFindsNext built.tree c.loop-pass.pass.content c.loop-pass.pass.last) c.in_ok-next.field-0 c.next.new.slots) c.loop-pass.invariant.0 (c.in_ok-next.ensures.found c.loop-pass.invariant.1) in
     let slots = c.next.new.slots in
-    let next = next-told built.tree content _ c.loop-slots.pass.last c.in_ok-next.field-0 c.in-Some.field-0 slots c.loop-slots.invariant.2 (told text built) c.in-Some.is in
-    let shown = groups-told built.tree content c.loop-slots.pass.last c.in-Some.field-0 slots (omega (arith, c.next.auto.slots))
+    let next = next-told built.tree content _ c.loop-pass.pass.last c.in_ok-next.field-0 c.in-Some.field-0 slots c.loop-pass.invariant.2 (told text built) c.in-Some.is in
+    let shown = groups-told built.tree content c.loop-pass.pass.last c.in-Some.field-0 slots (omega (arith, c.next.auto.slots))
     (regexes_have_trees.noted text c.args.regex.now built content) next in
-    among-here built.tree content c.loop-slots.pass.last c.in-Some.field-0 slots c.args.number c.loop-slots.left c.groups_in.result
-    (finds_of_trees built.tree) next (c.groups_in.ensures ∙ shown) c.if-left-eq0.true (c.loop-slots.invariant.3 text built)
+    among-here built.tree content c.loop-pass.pass.last c.in-Some.field-0 slots c.args.number c.loop-pass.left c.groups_in.result
+    (finds_of_trees built.tree) next (c.groups_in.ensures ∙ shown) c.if-left-eq0.true (c.loop-pass.invariant.3 text built)
 
 pub returns-then-left-eq0-clause-stand : goal.returns-then-left-eq0-clause-stand
 returns-then-left-eq0-clause-stand c =
     let content = slice_bytes c.args.line in
-    let told : (text : List ℕ) → (built : IsRegexOf text c.args.regex.now) → IsTold (TreeFindsNext built.tree c.loop-slots.pass.content c.loop-slots.pass.last) c.in_ok-next.field-0 c.next.new.slots =
-    subst (λ re. (text : List ℕ) → (built : IsRegexOf text re) → IsTold (TreeFindsNext built.tree c.loop-slots.pass.content c.loop-slots.pass.last) c.in_ok-next.field-0 c.next.new.slots) c.loop-slots.invariant.0 (c.in_ok-next.ensures.found c.loop-slots.invariant.1) in
+    let told : (text : List ℕ) → (built : IsRegexOf text c.args.regex.now) → IsTold (TreeFindsNext built.tree c.loop-pass.pass.content c.loop-pass.pass.last) c.in_ok-next.field-0 c.next.new.slots =
+    subst (λ re. (text : List ℕ) → (built : IsRegexOf text re) → IsTold (TreeFindsNext built.tree c.loop-pass.pass.content c.loop-pass.pass.last) c.in_ok-next.field-0 c.next.new.slots) c.loop-pass.invariant.0 (c.in_ok-next.ensures.found c.loop-pass.invariant.1) in
     let utf8 : IsUtf8 content = (slice_text c.args.line, (rope-scalars (slice_pieces c.args.line) c.len_bytes.ensures.cut.cut, refl)) in
     let text = c.requires.0 in
     let built = c.requires.1 in
     let has = finds_of_trees built.tree in
     let notes = regexes_have_trees.noted text c.args.regex.now built content in
     let slots = c.next.new.slots in
-    let next = next-told built.tree content _ c.loop-slots.pass.last c.in_ok-next.field-0 c.in-Some.field-0 slots c.loop-slots.invariant.2 (told text built) c.in-Some.is in
-    let shown = groups-told built.tree content c.loop-slots.pass.last c.in-Some.field-0 slots (omega (arith, c.next.auto.slots)) notes next in
+    let next = next-told built.tree content _ c.loop-pass.pass.last c.in_ok-next.field-0 c.in-Some.field-0 slots c.loop-pass.invariant.2 (told text built) c.in-Some.is in
+    let shown = groups-told built.tree content c.loop-pass.pass.last c.in-Some.field-0 slots (omega (arith, c.next.auto.slots)) notes next in
     subst (HasSpansIn content) (sym (c.groups_in.ensures ∙ shown))
-    (next-spans built.tree content c.loop-slots.pass.last c.in-Some.field-0 slots has notes utf8 next)
+    (next-spans built.tree content c.loop-pass.pass.last c.in-Some.field-0 slots has notes utf8 next)
 
 pub returns-clause-groups : goal.returns-clause-groups
 returns-clause-groups c = λ text built.
     let content = slice_bytes c.args.line in
-    let told : (text : List ℕ) → (built : IsRegexOf text c.args.regex.now) → IsTold (TreeFindsNext built.tree c.loop-slots.pass.content c.loop-slots.pass.last) c.in_ok-next.field-0 c.next.new.slots =
-    subst (λ re. (text : List ℕ) → (built : IsRegexOf text re) → IsTold (TreeFindsNext built.tree c.loop-slots.pass.content c.loop-slots.pass.last) c.in_ok-next.field-0 c.next.new.slots) c.loop-slots.invariant.0 (c.in_ok-next.ensures.found c.loop-slots.invariant.1) in
-    among-none built.tree content c.loop-slots.pass.last c.args.number c.loop-slots.left (finds_of_trees built.tree)
-    (none-next built.tree content _ c.loop-slots.pass.last c.in_ok-next.field-0 _ c.loop-slots.invariant.2 (told text built) c.in_default.is)
-    (c.loop-slots.invariant.3 text built)
+    let told : (text : List ℕ) → (built : IsRegexOf text c.args.regex.now) → IsTold (TreeFindsNext built.tree c.loop-pass.pass.content c.loop-pass.pass.last) c.in_ok-next.field-0 c.next.new.slots =
+    subst (λ re. (text : List ℕ) → (built : IsRegexOf text re) → IsTold (TreeFindsNext built.tree c.loop-pass.pass.content c.loop-pass.pass.last) c.in_ok-next.field-0 c.next.new.slots) c.loop-pass.invariant.0 (c.in_ok-next.ensures.found c.loop-pass.invariant.1) in
+    among-none built.tree content c.loop-pass.pass.last c.args.number c.loop-pass.left (finds_of_trees built.tree)
+    (none-next built.tree content _ c.loop-pass.pass.last c.in_ok-next.field-0 _ c.loop-pass.invariant.2 (told text built) c.in_default.is)
+    (c.loop-pass.invariant.3 text built)
+
+pub next-requires-clause-by : goal.next-requires-clause-by
+next-requires-clause-by c = c.loop-pass.invariant.4 ∙ sym c.loop-pass.invariant.0

@@ -22,6 +22,7 @@ loop-groups-init c =
       λ text built.
           rw (ap (λ p. p.last) begins, c.new-groups.ensures.items)
           (Searched-start groups_of built.tree (slice_bytes c.args.text) (finds_of_trees built.tree)),
+      ap (λ p. p.by) begins,
     )
 
 pub loop-groups-smaller : goal.loop-groups-smaller
@@ -54,6 +55,7 @@ loop-groups-preserved c =
           (groups-told built.tree content c.loop-groups.pass.last c.in-Some.field-0 slots (omega (arith, c.next.auto.slots))
           (regexes_have_trees.noted text c.args.regex.now built content) next)
           (c.loop-groups.invariant.3 text built)),
+      ap (λ p. p.by) gone ∙ c.loop-groups.invariant.4,
     )
 
 pub returns-clause-groups : goal.returns-clause-groups
@@ -79,3 +81,6 @@ returns-clause-stand c =
     (c.loop-groups.invariant.3 text built) in
     subst (AreMatchesIn content) (sym all.shown)
     (matches-in built.tree content all.matches has (regexes_have_trees.noted text c.args.regex.now built content) utf8 all.are)
+
+pub next-requires-clause-by : goal.next-requires-clause-by
+next-requires-clause-by c = c.loop-groups.invariant.4 ∙ sym c.loop-groups.invariant.0

@@ -9,6 +9,7 @@ use Rattle.rope_search_reports.proofs.rows.searching.all_groups.Given as goal
 abbrev pub invariant-loop-groups : goal.invariant-loop-groups
 invariant-loop-groups l = (l.regex ≡ l.fn.regex) × (l.pass.is_over ≡ false) × (l.pass.content ≡ slice_bytes l.fn.text)
     × ((text : List ℕ) → (built : IsRegexOf text l.fn.regex) → Searched groups_of built.tree (slice_bytes l.fn.text) l.pass.last l.groups.items)
+    × (l.pass.by ≡ l.fn.regex)
 
 abbrev pub decreases-loop-groups : goal.decreases-loop-groups
 decreases-loop-groups l = room_behind (length (slice_bytes l.fn.text)) l.pass.last

@@ -21,6 +21,7 @@ loop-spans-init c =
       λ text built.
           rw (ap (λ p. p.last) begins, c.new-spans.ensures.items)
           (Searched-start span_of built.tree (slice_bytes c.args.text) (finds_of_trees built.tree)),
+      ap (λ p. p.by) begins,
     )
 
 pub loop-spans-smaller : goal.loop-spans-smaller
@@ -47,6 +48,7 @@ loop-spans-preserved c =
           rw (ap (λ p. p.last) gone, c.in_ok-push.ensures.items)
           (next-shown span_of built.tree content c.loop-spans.pass.last c.in-Some.span _ c.loop-spans.spans.items c.in-Some.span
           (finds_of_trees built.tree) next next.span_is (c.loop-spans.invariant.3 text built)),
+      ap (λ p. p.by) gone ∙ c.loop-spans.invariant.4,
     )
 
 pub returns-clause-spans : goal.returns-clause-spans
@@ -72,3 +74,6 @@ returns-clause-stand c =
     (c.loop-spans.invariant.3 text built) in
     subst (λ spans. AreMatchesIn content (map alone spans)) (sym all.shown)
     (spans-alone built.tree content all.matches has utf8 all.are)
+
+pub next-requires-clause-by : goal.next-requires-clause-by
+next-requires-clause-by c = c.loop-spans.invariant.4 ∙ sym c.loop-spans.invariant.0

@@ -25,6 +25,7 @@ loop-pass-init g c =
       sym (ap units chars-nil),
       λ text built.
           rw (ap (λ p. p.last) begins, c.requires.empty) (Searched-start (columns_of content) built.tree content (finds_of_trees built.tree)),
+      ap (λ p. p.by) begins,
     )
 
 pub column_from-start_column-requires-clause-ends : goal.column_from-start_column-requires-clause-ends
@@ -118,6 +119,7 @@ loop-pass-preserved g c =
           (finds_of_trees built.tree) next'
           (columns-are built.tree content c.loop-pass.pass.last (c.in-Some.start, c.in-Some.end) _ c.column_from-start_column.result c.column_from-column.result next' c.column_from-start_column.ensures c.column_from-column.ensures)
           (c.loop-pass.invariant.6 text built)),
+      ap (λ p. p.by) gone ∙ c.loop-pass.invariant.7,
     )
 
 pub returns-clause-row : goal.returns-clause-row
@@ -128,3 +130,6 @@ returns-clause-row g c = λ text built.
     last-row built.tree (own_text c.args.line.now) c.loop-pass.pass.last c.loop-pass.columns.items (finds_of_trees built.tree)
     (none-next built.tree content _ c.loop-pass.pass.last c.in_ok-start.field-0 _ c.loop-pass.invariant.2 (told text built) c.in_default.is)
     (c.loop-pass.invariant.6 text built)
+
+pub next-requires-clause-by : goal.next-requires-clause-by
+next-requires-clause-by g c = c.loop-pass.invariant.7 ∙ sym c.loop-pass.invariant.0

@@ -14,6 +14,7 @@ abbrev pub invariant-loop-pass : goal.invariant-loop-pass
 invariant-loop-pass g l = (l.regex ≡ l.fn.regex) × (l.pass.is_over ≡ false) × (l.pass.content ≡ bytes_of (own_text l.line))
     × (l.place ≡ start_behind l.pass.last) × IsCharBoundary (bytes_of (own_text l.line)) l.place × (l.column ≡ column (bytes_of (own_text l.line)) l.place)
     × ((text : List ℕ) → (built : IsRegexOf text l.fn.regex) → Searched (columns_of (bytes_of (own_text l.line))) built.tree (bytes_of (own_text l.line)) l.pass.last l.columns.items)
+    × (l.pass.by ≡ l.fn.regex)
 
 abbrev pub decreases-loop-pass : goal.decreases-loop-pass
 decreases-loop-pass g l = room_behind (length (bytes_of (own_text l.line))) l.pass.last

@@ -3,7 +3,7 @@ use Rattle.std.proofs.lemmas.Str.{scalars-chars}
 use Rattle.str_indices.specs.Text.{unit_starts}
 use Rattle.std.specs.Prelude.{slice_index_or}
 use Rattle.rope_search_reports.proofs.ColumnPlaces.{column-found, column-missed, length-chars}
-use Rattle.rope_search_reports.proofs.line.place_in_str.Goals as goal
+use Rattle.rope_search_reports.proofs.positions.place_in_str.Goals as goal
 
 pub returns-then-from_byte_idx-column : goal.returns-then-from_byte_idx-column
 returns-then-from_byte_idx-column c =
