@@ -75,6 +75,14 @@ fn groups_at(
     session.groups_at(tick, line, number)
 }
 
+// Whether these are the places of a match and of its two groups, and no other group is there.
+fn are_these(groups: &Groups, places: [Option<(usize, usize)>; 3]) -> bool {
+    groups[0] == places[0]
+        && groups[1] == places[1]
+        && groups[2] == places[2]
+        && groups[9].is_none()
+}
+
 /// `Session::groups_at`: the groups of a match of the report, each by its columns; the frog has two
 /// code units. Its line is searched once more.
 #[test]
@@ -83,15 +91,13 @@ fn groups_of_a_match(rt: HostRuntime) -> Result<(), Fail> {
     let text = "🐸 x=1 y=\nz".as_bytes();
     let mut session = session_of(&rt, &mut tick, text, br"(\w)=(\d)?")?;
     let groups = groups_at(&mut session, &mut tick, 0, 0)?;
-    assert!(rt; (groups[0], groups[1]) == (Some((3, 6)), Some((3, 4))));
-    assert!(rt; (groups[2], groups[3]) == (Some((5, 6)), None));
+    assert!(rt; are_these(&groups, [Some((3, 6)), Some((3, 4)), Some((5, 6))]));
     let groups = groups_at(&mut session, &mut tick, 0, 1)?;
-    assert!(rt; (groups[0], groups[1]) == (Some((7, 9)), Some((7, 8))));
-    assert!(rt; (groups[2], groups[9]) == (None, None));
-    assert!(rt; groups_at(&mut session, &mut tick, 0, 2).err() == Some(Fault::Range));
-    assert!(rt; tick.count() == 2 + 3);
-    assert!(rt; groups_at(&mut session, &mut tick, 2, 0).err() == Some(Fault::Range));
-    assert!(rt; tick.count() == 2 + 3);
+    assert!(rt; are_these(&groups, [Some((7, 9)), Some((7, 8)), None]));
+    for (line, number) in [(0, 2), (2, 0)] {
+        let refused = groups_at(&mut session, &mut tick, line, number).err();
+        assert!(rt; refused == Some(Fault::Range) && tick.count() == 2 + 3);
+    }
     Ok(())
 }
 
@@ -114,77 +120,59 @@ fn why_a_pattern_is_refused(rt: HostRuntime) -> Result<(), Fail> {
 #[test]
 fn replies(rt: HostRuntime) -> Result<(), Fail> {
     let mut tick = Lines::new(&rt);
-    let mut session = Session::new(rt.alloc(), Limits::default())?;
-    let text = Command::Text(Payload::Kept(b"a frog"));
-    assert!(rt; apply(&mut session, &mut tick, text) == Ok(Reply::Done));
-    assert!(rt; apply(&mut session, &mut tick, Command::Print) == Ok(Reply::Print));
-    assert!(rt; apply(&mut session, &mut tick, Command::Fork) == Ok(Reply::Number(1)));
-    assert!(rt; apply(&mut session, &mut tick, Command::Use(1)) == Ok(Reply::Done));
+    let mut session = session_of(&rt, &mut tick, b"a frog", b"frog")?;
+    let start = Position { line: 0, column: 2 };
+    let end = Position { line: 0, column: 6 };
+    for (command, reply) in [
+        (Command::Print, Reply::Print),
+        (Command::List, Reply::List),
+        (Command::Next(start), Reply::Found(start, end)),
+        (Command::Next(end), Reply::NoMatch),
+        (Command::Fork, Reply::Number(1)),
+        (Command::Off, Reply::Done),
+    ] {
+        assert!(rt; apply(&mut session, &mut tick, command) == Ok(reply));
+    }
     assert!(rt; apply(&mut session, &mut tick, Command::List) == Err(Fault::Nothing));
-    let pattern = Command::Pattern(Payload::Kept(b"frog"));
-    assert!(rt; apply(&mut session, &mut tick, pattern) == Ok(Reply::Done));
-    assert!(rt; apply(&mut session, &mut tick, Command::List) == Ok(Reply::List));
-    assert!(rt; apply(&mut session, &mut tick, Command::Off) == Ok(Reply::Done));
-    assert!(rt; session.fork() == Ok(2));
-    assert!(rt; session.choose(2) == Ok(()));
+    assert!(rt; session.fork() == Ok(2) && session.choose(2) == Ok(()));
     assert!(rt; session.choose(3) == Err(Fault::Nothing));
     Ok(())
 }
 
-/// `Reply`: the next match of the whole text, or that there is none.
-#[test]
-fn replies_to_next(rt: HostRuntime) -> Result<(), Fail> {
-    let mut tick = Lines::new(&rt);
-    let mut session = Session::new(rt.alloc(), Limits::default())?;
-    let text = Command::Text(Payload::Kept(b"a frog"));
-    assert!(rt; apply(&mut session, &mut tick, text) == Ok(Reply::Done));
-    let pattern = Command::Pattern(Payload::Kept(b"frog"));
-    assert!(rt; apply(&mut session, &mut tick, pattern) == Ok(Reply::Done));
-    let start = Position { line: 0, column: 2 };
-    let end = Position { line: 0, column: 6 };
-    let found = apply(&mut session, &mut tick, Command::Next(start));
-    assert!(rt; found == Ok(Reply::Found(start, end)));
-    assert!(rt; apply(&mut session, &mut tick, Command::Next(end)) == Ok(Reply::NoMatch));
-    Ok(())
-}
-
 /// `Payload`: one that was kept, one that is too long to keep, and one for which there was no memory.
-/// `Limits`: one on the bytes of a text. A refusal leaves the text.
+/// `Limits`: one on the bytes of a text, which doesn't apply to patterns. A refusal leaves the text.
 #[test]
-fn payloads_of_text(rt: HostRuntime) -> Result<(), Fail> {
+fn payloads(rt: HostRuntime) -> Result<(), Fail> {
     let mut tick = Lines::new(&rt);
     let mut session = Session::new(rt.alloc(), Limits { text: 4 })?;
-    let text = Command::Text(Payload::Kept(b"frog"));
-    assert!(rt; apply(&mut session, &mut tick, text) == Ok(Reply::Done));
-    let bad = Command::Text(Payload::Kept(b"frog\xff"));
-    assert!(rt; apply(&mut session, &mut tick, bad) == Err(Fault::Utf8));
-    let long = Command::Text(Payload::Kept(b"frogs"));
-    assert!(rt; apply(&mut session, &mut tick, long) == Err(Fault::Size));
-    let long = Command::Text(Payload::Long { utf8: true });
-    assert!(rt; apply(&mut session, &mut tick, long) == Err(Fault::Size));
-    let bad = Command::Text(Payload::Long { utf8: false });
-    assert!(rt; apply(&mut session, &mut tick, bad) == Err(Fault::Utf8));
-    let lost = Command::Text(Payload::Lost);
-    assert!(rt; apply(&mut session, &mut tick, lost) == Err(Fault::Memory));
+    for (command, told) in [
+        (Command::Text(Payload::Kept(b"frog")), Ok(Reply::Done)),
+        (Command::Text(Payload::Kept(b"frog\xff")), Err(Fault::Utf8)),
+        (Command::Text(Payload::Kept(b"frogs")), Err(Fault::Size)),
+        (
+            Command::Text(Payload::Long { utf8: true }),
+            Err(Fault::Size),
+        ),
+        (
+            Command::Text(Payload::Long { utf8: false }),
+            Err(Fault::Utf8),
+        ),
+        (Command::Text(Payload::Lost), Err(Fault::Memory)),
+        (Command::Pattern(Payload::Kept(b"frogs")), Ok(Reply::Done)),
+        (
+            Command::Pattern(Payload::Long { utf8: true }),
+            Err(Fault::Limit),
+        ),
+        (
+            Command::Pattern(Payload::Long { utf8: false }),
+            Err(Fault::Utf8),
+        ),
+        (Command::Pattern(Payload::Lost), Err(Fault::Memory)),
+        (Command::List, Ok(Reply::List)),
+    ] {
+        assert!(rt; apply(&mut session, &mut tick, command) == told);
+    }
     assert!(rt; session.buffer().text().eq_str("frog"));
-    Ok(())
-}
-
-/// `Payload`: that of a pattern, to which the limit on texts doesn't apply.
-#[test]
-fn payloads_of_patterns(rt: HostRuntime) -> Result<(), Fail> {
-    let mut tick = Lines::new(&rt);
-    let mut session = Session::new(rt.alloc(), Limits { text: 4 })?;
-    let long = Command::Pattern(Payload::Long { utf8: true });
-    assert!(rt; apply(&mut session, &mut tick, long) == Err(Fault::Limit));
-    let bad = Command::Pattern(Payload::Long { utf8: false });
-    assert!(rt; apply(&mut session, &mut tick, bad) == Err(Fault::Utf8));
-    let lost = Command::Pattern(Payload::Lost);
-    assert!(rt; apply(&mut session, &mut tick, lost) == Err(Fault::Memory));
-    assert!(rt; apply(&mut session, &mut tick, Command::List) == Err(Fault::Nothing));
-    let pattern = Command::Pattern(Payload::Kept(b"frogs"));
-    assert!(rt; apply(&mut session, &mut tick, pattern) == Ok(Reply::Done));
-    assert!(rt; apply(&mut session, &mut tick, Command::List) == Ok(Reply::List));
     Ok(())
 }
 
@@ -249,49 +237,5 @@ fn several_edits_as_one(rt: HostRuntime) -> Result<(), Fail> {
     assert!(rt; tick.count() <= 6);
     assert!(rt; apply(&mut session, &mut tick, Command::Undo) == Ok(Reply::Done));
     assert!(rt; session.buffer().text().eq_str("a frog\na toad"));
-    Ok(())
-}
-
-/// `Command::Replace`: each match in the whole text gives way to what the template stands for at it, and
-/// their number is told. The line that this touches is searched again alone.
-#[test]
-fn all_matches_replaced(rt: HostRuntime) -> Result<(), Fail> {
-    let mut tick = Lines::new(&rt);
-    let mut session = Session::new(rt.alloc(), Limits::default())?;
-    apply(&mut session, &mut tick, Command::Text(Payload::Kept(b"ab")))?;
-    apply(
-        &mut session,
-        &mut tick,
-        Command::Pattern(Payload::Kept(b"(b)")),
-    )?;
-    let replace = Command::Replace(Payload::Kept(b"x$1"));
-    assert!(rt; apply(&mut session, &mut tick, replace) == Ok(Reply::Number(1)));
-    assert!(rt; session.buffer().text().eq_str("axb"));
-    assert!(rt; (tick.count(), tick.wholes()) == (2, 1));
-    Ok(())
-}
-
-/// What is refused leaves the report: here a pattern for whose payload there was no memory.
-#[test]
-fn a_pattern_that_has_no_memory(rt: HostRuntime) -> Result<(), Fail> {
-    let mut tick = Lines::new(&rt);
-    let mut session = session_of(&rt, &mut tick, b"ab", b"b")?;
-    let lost = Command::Pattern(Payload::Lost);
-    assert!(rt; apply(&mut session, &mut tick, lost) == Err(Fault::Memory));
-    assert!(rt; apply(&mut session, &mut tick, Command::List) == Ok(Reply::List));
-    let rows = session.buffer().report().unwrap_or(&[]);
-    assert!(rt; rows.len() == 1);
-    for row in rows {
-        assert!(rt; row.matches() == [(1, 2)].as_slice());
-    }
-    Ok(())
-}
-
-/// `Fault`: a pattern outside the grammar is refused.
-#[test]
-fn no_pattern(rt: HostRuntime) -> Result<(), Fail> {
-    let mut tick = Lines::new(&rt);
-    let refused = buffer_of(&rt, &mut tick, "a toad", "(toad");
-    assert!(rt; refused.err() == Some(Fault::Pattern));
     Ok(())
 }

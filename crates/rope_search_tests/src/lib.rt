@@ -11,4 +11,6 @@ mod examples;
 #[cfg(test)]
 mod io_examples;
 #[cfg(test)]
+mod own_streams;
+#[cfg(test)]
 mod report_examples;

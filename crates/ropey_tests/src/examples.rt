@@ -1,7 +1,23 @@
 //! Each public type of `ropey` in use.
 
 use ropey::{Ends, Error, Rope, RopeBuilder, RopeSlice, TextRange};
+use std::alloc::{AllocError, Global};
 use std::test::Fail;
+
+/// Whether there is a part, and it is this text.
+fn is_text(part: Option<RopeSlice<'_>>, text: &str) -> bool {
+    match part {
+        Some(part) => part.as_str() == Some(text),
+        None => false,
+    }
+}
+
+/// Whether a rope of nine characters tells what stands at its last one, and behind it.
+fn tells_its_end(rope: &Rope) -> bool {
+    rope.try_char_to_utf16_cu(9) == Ok(10)
+        && rope.try_char_to_byte(10) == Err(Error::CharIndexOutOfBounds(10, 9))
+        && rope.get_char(8) == Some('🐸')
+}
 
 #[test]
 fn rope(rt: HostRuntime) -> Result<(), Fail> {
@@ -12,12 +28,10 @@ fn rope(rt: HostRuntime) -> Result<(), Fail> {
     assert_eq!(rt; rope.len_lines(), 2);
     assert!(rt; rope.try_line_to_byte(1) == Ok(5));
     assert!(rt; rope.try_char_to_byte(9) == Ok(12));
-    assert!(rt; rope.try_char_to_utf16_cu(9) == Ok(10));
-    assert!(rt; rope.try_char_to_byte(10) == Err(Error::CharIndexOutOfBounds(10, 9)));
-    assert!(rt; rope.get_char(8) == Some('🐸'));
 
     // A clone shares all of its source.
     let copy = rope.clone()?;
+    assert!(rt; tells_its_end(&copy));
     let text = copy.to_text()?;
     assert!(rt; text.as_str() == "one\r\ntwo🐸");
     Ok(())
@@ -40,139 +54,130 @@ fn an_edited_rope(rt: HostRuntime) -> Result<(), Fail> {
     Ok(())
 }
 
-#[test]
-fn rope_builder(rt: HostRuntime) -> Result<(), Fail> {
-    let mut builder = RopeBuilder::new(rt.alloc());
+/// A rope of two parts, which a CR LF lies across.
+fn of_parts(alloc: Global) -> Result<Rope, Error> {
+    let mut builder = RopeBuilder::new(alloc);
     builder.append("one\r")?;
     builder.append("\ntwo")?;
-    let rope = builder.finish()?;
-    assert_eq!(rt; rope.len_lines(), 2);
+    builder.finish()
+}
 
-    let mut builder = RopeBuilder::new(rt.alloc());
+/// A rope of a text and a slice.
+fn with_slice(alloc: Global, slice: RopeSlice<'_>) -> Result<Rope, Error> {
+    let mut builder = RopeBuilder::new(alloc);
     builder.append("three ")?;
-    if let Some(line) = rope.get_line(1) {
-        builder.append_slice(line)?;
-    }
-    assert_eq!(rt; builder.len_bytes(), 9);
-    let rope = builder.finish()?;
-    assert!(rt; rope.eq_str("three two"));
-    Ok(())
+    builder.append_slice(slice)?;
+    builder.finish()
 }
 
 #[test]
-fn bytes(rt: HostRuntime) -> Result<(), Fail> {
-    let rope = Rope::from_str(rt.alloc(), "aé")?;
+fn rope_builder(rt: HostRuntime) -> Result<(), Fail> {
+    let rope = of_parts(rt.alloc())?;
+    assert!(rt; rope.len_lines() == 2);
+    match rope.get_line(1) {
+        Some(line) => assert!(rt; with_slice(rt.alloc(), line)?.eq_str("three two")),
+        None => assert!(rt; false),
+    }
+    Ok(())
+}
+
+/// Whether the bytes of `aé` come from its start on, and back from its end.
+fn gives_bytes(rope: &Rope) -> bool {
     let mut bytes = rope.bytes();
-    assert_eq!(rt; bytes.len(), 3);
-    assert_eq!(rt; bytes.next(), Some(b'a'));
-    assert_eq!(rt; bytes.next(), Some(0xC3));
-    assert_eq!(rt; bytes.prev(), Some(0xC3));
-    let mut all = rope.bytes_at(rope.len_bytes()).reversed();
-    assert_eq!(rt; all.next(), Some(0xA9));
-    assert!(rt; rope.get_bytes_at(3).is_some());
-    assert!(rt; rope.get_bytes_at(4).is_none());
-    Ok(())
+    let mut back = rope.bytes_at(rope.len_bytes()).reversed();
+    bytes.len() == 3
+        && bytes.next() == Some(b'a')
+        && bytes.next() == Some(0xC3)
+        && bytes.prev() == Some(0xC3)
+        && back.next() == Some(0xA9)
 }
 
-#[test]
-fn chars(rt: HostRuntime) -> Result<(), Fail> {
-    let rope = Rope::from_str(rt.alloc(), "aé🐸")?;
+/// Whether its characters do, and a clone that is turned round goes back.
+fn gives_chars(rope: &Rope) -> Result<bool, AllocError> {
     let mut chars = rope.chars();
-    assert_eq!(rt; chars.next(), Some('a'));
+    let mut is_so = chars.next() == Some('a');
     let mut back = chars.clone()?.reversed();
-    assert_eq!(rt; back.next(), Some('a'));
-    assert_eq!(rt; back.next(), None);
-    assert_eq!(rt; chars.next(), Some('é'));
-    assert_eq!(rt; rope.chars_at(rope.len_chars()).prev(), Some('🐸'));
-    assert!(rt; rope.get_chars_at(3).is_some());
-    assert!(rt; rope.get_chars_at(4).is_none());
-    Ok(())
+    is_so = is_so && back.next() == Some('a') && back.next() == None;
+    Ok(is_so && chars.next() == Some('é') && rope.chars_at(rope.len_chars()).prev() == Some('é'))
 }
 
 #[test]
-fn lines_both_ways(rt: HostRuntime) -> Result<(), Fail> {
-    let rope = Rope::from_str(rt.alloc(), "one\r\ntwo\n")?;
+fn bytes_and_chars(rt: HostRuntime) -> Result<(), Fail> {
+    let rope = Rope::from_str(rt.alloc(), "aé")?;
+    assert!(rt; gives_bytes(&rope) && gives_chars(&rope)?);
+    Ok(())
+}
+
+/// Whether three lines, of which the last is empty, come from the start on, and back from the end.
+fn gives_lines(rope: &Rope) -> bool {
     let mut lines = rope.lines();
-    assert!(rt;
-        lines
-            .next()
-            .is_some_and(|line| line.as_str() == Some("one\r\n"))
-    );
-    assert_eq!(rt; lines.len(), 2);
     let mut back = rope.lines_at(rope.len_lines()).reversed();
-    assert!(rt; back.next().is_some_and(|line| line.as_str() == Some("")));
-    assert!(rt;
-        back.next()
-            .is_some_and(|line| line.as_str() == Some("two\n"))
-    );
-    assert!(rt; rope.get_lines_at(3).is_some());
-    assert!(rt; rope.get_lines_at(4).is_none());
-    Ok(())
+    is_text(lines.next(), "one\r\n")
+        && lines.len() == 2
+        && is_text(back.next(), "")
+        && is_text(back.next(), "two\n")
 }
 
-#[test]
-fn chunks(rt: HostRuntime) -> Result<(), Fail> {
-    let rope = Rope::from_chunks(rt.alloc(), ["one\r\n", "two"])?;
-    let mut text = String::new(rt.alloc());
-    for chunk in rope.chunks() {
-        text.push_str(chunk)?;
-    }
-    assert!(rt; text.as_str() == "one\r\ntwo");
-    let (mut behind, byte, char, line) = rope.chunks_at_byte(rope.len_bytes());
-    assert!(rt; (byte, char, line) == (8, 8, 1));
-    assert!(rt; behind.prev() == Some("one\r\ntwo"));
-    assert!(rt; behind.reversed().prev() == Some("one\r\ntwo"));
-    let mut ahead = rope.chunks_at_char(0).0;
-    assert!(rt; ahead.next() == Some("one\r\ntwo"));
-    assert!(rt; rope.chunks_at_line_break(rope.len_lines()).1 == 8);
-    assert!(rt; rope.get_chunks_at_byte(9).is_none());
-    assert!(rt; rope.get_chunks_at_char(9).is_none());
-    assert!(rt; rope.get_chunks_at_line_break(3).is_none());
-    let empty = Rope::new(rt.alloc());
-    assert!(rt; empty.chunks().next().is_none());
-    Ok(())
-}
-
-#[test]
-fn rope_slice(rt: HostRuntime) -> Result<(), Fail> {
-    let rope = Rope::from_str(rt.alloc(), "one\r\ntwo🐸")?;
-    // A slice counts its own text: this one starts with the LF, which is a break for it.
-    let slice = rope.get_slice(4..).unwrap_or(RopeSlice::new(None));
-    assert_eq!(rt; slice.len_chars(), 5);
-    assert_eq!(rt; slice.len_lines(), 2);
-    assert!(rt; slice.as_str() == Some("\ntwo🐸"));
-    let copy = slice;
-    assert!(rt; copy.get_char(4) == Some('🐸'));
-    assert!(rt;
-        slice
-            .get_slice(1..=3)
-            .is_some_and(|part| part.as_str() == Some("two"))
-    );
-    assert!(rt; rope.get_slice(4..10).is_none());
-    assert!(rt; rope.get_byte_slice(9..).is_none());
-
-    // Where a `get_` form answers a slice, the plain form has its condition.
-    if rope.get_slice(..5).is_some() && rope.get_byte_slice(8..).is_some() {
-        assert!(rt; rope.slice(..5).as_str() == Some("one\r\n"));
-        assert!(rt; rope.byte_slice(8..).as_str() == Some("🐸"));
-    }
-    Ok(())
+/// Whether they are found by their numbers.
+fn has_lines(rope: &Rope) -> bool {
+    let is_first = rope.len_lines() == 3 && rope.line(0).as_str() == Some("one\r\n");
+    is_first && is_text(rope.get_line(1), "two\n") && rope.get_line(3).is_none()
 }
 
 #[test]
 fn lines(rt: HostRuntime) -> Result<(), Fail> {
     let rope = Rope::from_str(rt.alloc(), "one\r\ntwo\n")?;
-    assert_eq!(rt; rope.len_lines(), 3);
-    assert!(rt; rope.line(0).as_str() == Some("one\r\n"));
-    assert!(rt;
-        rope.get_line(1)
-            .is_some_and(|line| line.as_str() == Some("two\n"))
-    );
-    assert!(rt;
-        rope.get_line(2)
-            .is_some_and(|line| line.as_str() == Some(""))
-    );
-    assert!(rt; rope.get_line(3).is_none());
+    assert!(rt; gives_lines(&rope) && has_lines(&rope));
+    Ok(())
+}
+
+/// Whether a rope of one chunk gives it, from its end back, and from its start on.
+fn gives_chunk(rope: &Rope, text: &str) -> bool {
+    let (mut behind, byte, char, line) = rope.chunks_at_byte(rope.len_bytes());
+    let mut ahead = rope.chunks_at_char(0).0;
+    (byte, char, line) == (8, 8, 1)
+        && behind.prev() == Some(text)
+        && behind.reversed().prev() == Some(text)
+        && ahead.next() == Some(text)
+        && rope.chunks_at_line_break(rope.len_lines()).1 == 8
+}
+
+#[test]
+fn chunks(rt: HostRuntime) -> Result<(), Fail> {
+    let rope = Rope::from_chunks(rt.alloc(), ["one\r\n", "two"])?;
+    assert!(rt; gives_chunk(&rope, "one\r\ntwo") && rope.chunks().next() == Some("one\r\ntwo"));
+    let empty = Rope::new(rt.alloc());
+    assert!(rt; empty.chunks().next().is_none());
+    Ok(())
+}
+
+/// Whether a slice counts its own text: this one starts with the LF, which is a break for it.
+fn counts_its_own(slice: RopeSlice<'_>) -> bool {
+    let copy = slice;
+    slice.len_chars() == 5
+        && slice.len_lines() == 2
+        && slice.as_str() == Some("\ntwo🐸")
+        && is_text(slice.get_slice(1..=3), "two")
+        && copy.get_char(4) == Some('🐸')
+}
+
+/// Whether the parts of a rope are there that lie in it. Where a `get_` form answers a slice, the plain
+/// form has its condition.
+fn has_parts(rope: &Rope) -> bool {
+    if rope.get_slice(..5).is_none() || rope.get_byte_slice(8..).is_none() {
+        return false;
+    }
+    rope.get_slice(4..10).is_none()
+        && rope.get_byte_slice(9..).is_none()
+        && rope.slice(..5).as_str() == Some("one\r\n")
+        && rope.byte_slice(8..).as_str() == Some("🐸")
+}
+
+#[test]
+fn rope_slice(rt: HostRuntime) -> Result<(), Fail> {
+    let rope = Rope::from_str(rt.alloc(), "one\r\ntwo🐸")?;
+    assert!(rt; counts_its_own(rope.get_slice(4..).unwrap_or(RopeSlice::new(None))));
+    assert!(rt; has_parts(&rope));
     Ok(())
 }
 
@@ -181,33 +186,37 @@ fn first_char<R: TextRange>(rope: &Rope, char_range: R) -> Option<char> {
     rope.get_slice(char_range)?.get_char(0)
 }
 
-#[test]
-fn text_range(rt: HostRuntime) -> Result<(), Fail> {
-    let rope = Rope::from_str(rt.alloc(), "one")?;
-    assert!(rt; first_char(&rope, 1..2) == Some('n'));
-    assert!(rt; first_char(&rope, 1..=2) == Some('n'));
-    assert!(rt; first_char(&rope, 2..) == Some('e'));
-    assert!(rt; first_char(&rope, ..2) == Some('o'));
-    assert!(rt; first_char(&rope, ..=2) == Some('o'));
-    assert!(rt; first_char(&rope, ..) == Some('o'));
-    assert!(rt; first_char(&rope, ..=3).is_none());
+/// Whether ranges of each form begin where they should.
+fn take_ranges(rope: &Rope) -> bool {
+    first_char(rope, 1..2) == Some('n')
+        && first_char(rope, 1..=2) == Some('n')
+        && first_char(rope, 2..) == Some('e')
+        && first_char(rope, ..2) == Some('o')
+        && first_char(rope, ..=2) == Some('o')
+        && first_char(rope, ..) == Some('o')
+        && first_char(rope, ..=3).is_none()
+}
 
-    // A range that was iterated to its end is empty.
+/// Whether a range that was iterated to its end is empty.
+fn is_empty_where_spent(rope: &Rope) -> bool {
     let mut spent = 1..=1;
-    assert!(rt; spent.next() == Some(1) && spent.next().is_none());
-    assert!(rt;
-        rope.get_slice(spent)
-            .is_some_and(|slice| slice.len_chars() == 0)
-    );
+    spent.next() == Some(1) && spent.next().is_none() && is_text(rope.get_slice(spent), "")
+}
 
-    // What a range tells of its ends.
+/// What ranges tell of their ends.
+fn tell_ends() -> bool {
     let ends = (1..=2).ends();
-    assert!(rt; ends.start == Some(1) && ends.end == Some(3));
     let open = Ends {
         start: None,
         end: None,
     };
-    assert!(rt; (..).ends() == open);
+    ends.start == Some(1) && ends.end == Some(3) && (..).ends() == open
+}
+
+#[test]
+fn text_range(rt: HostRuntime) -> Result<(), Fail> {
+    let rope = Rope::from_str(rt.alloc(), "one")?;
+    assert!(rt; take_ranges(&rope) && is_empty_where_spent(&rope) && tell_ends());
     Ok(())
 }
 

@@ -2,6 +2,7 @@
 
 use crate::texts::text_of;
 use ropey::{ReadFault, Rope};
+use std::alloc::{AllocError, Global};
 use std::io;
 use std::io::{ErrorKind, Read};
 use std::test::Fail;
@@ -38,16 +39,23 @@ fn reader(bytes: &[u8], step: usize, failure: usize) -> SlowReader<'_> {
     }
 }
 
+/// Whether a text is read whole by so many bytes at most.
+fn is_read(alloc: Global, text: &str, step: usize) -> Result<bool, ReadFault> {
+    let mut source = reader(text.as_bytes(), step, 0);
+    let rope = Rope::from_reader(alloc, &mut source)?;
+    Ok(rope.eq_str(text) && source.left.is_empty())
+}
+
 #[test]
 fn texts_read_in_steps(rt: HostRuntime) -> Result<(), Fail> {
     for unit in ["a", "é", "せ", "🐸\r\n"] {
         for bytes in [0, 1, 984, 4095, 4096, 4097, 20_000] {
             let text = text_of(rt.alloc(), unit, bytes)?;
             for step in [1, 2, 3, 4095, 100_000] {
-                let mut source = reader(text.as_bytes(), step, 0);
-                let rope = Rope::from_reader(rt.alloc(), &mut source)?;
-                assert!(rt; rope.eq_str(&text), "{unit}, {bytes} bytes by {step}");
-                assert!(rt; source.left.is_empty());
+                assert!(rt;
+                    is_read(rt.alloc(), &text, step)?,
+                    "{unit}, {bytes} bytes by {step}"
+                );
             }
         }
     }
@@ -55,8 +63,8 @@ fn texts_read_in_steps(rt: HostRuntime) -> Result<(), Fail> {
 }
 
 /// What is told of some bytes, read by `step` at most.
-fn fault_of(rt: &HostRuntime, bytes: &[u8], step: usize, failure: usize) -> Option<ReadFault> {
-    Rope::from_reader(rt.alloc(), &mut reader(bytes, step, failure)).err()
+fn fault_of(alloc: Global, bytes: &[u8], step: usize, failure: usize) -> Option<ReadFault> {
+    Rope::from_reader(alloc, &mut reader(bytes, step, failure)).err()
 }
 
 #[test]
@@ -66,12 +74,20 @@ fn reads_that_fail(rt: HostRuntime) -> Result<(), Fail> {
         let calls = text.len().div_ceil(step);
         // The call behind the last byte tells the end.
         for failure in [1, 2, 3, calls, calls + 1] {
-            let fault = fault_of(&rt, text.as_bytes(), step, failure);
+            let fault = fault_of(rt.alloc(), text.as_bytes(), step, failure);
             assert!(rt; fault == Some(ReadFault::Read), "call {failure} by {step}");
         }
-        assert!(rt; fault_of(&rt, text.as_bytes(), step, calls + 2).is_none());
+        assert!(rt; fault_of(rt.alloc(), text.as_bytes(), step, calls + 2).is_none());
     }
     Ok(())
+}
+
+/// Some bytes behind so many `a`.
+fn behind(alloc: Global, before: usize, part: &[u8]) -> Result<Vec<u8>, AllocError> {
+    let mut bytes = Vec::new(alloc);
+    bytes.resize(before, b'a')?;
+    bytes.extend_from_slice(part)?;
+    Ok(bytes)
 }
 
 #[test]
@@ -90,13 +106,11 @@ fn bytes_that_begin_no_text(rt: HostRuntime) -> Result<(), Fail> {
     ];
     for part in bad {
         for before in [0, 1, 4093, 4094, 4095, 4096] {
-            let mut bytes = Vec::new(rt.alloc());
-            bytes.extend_from_slice(text_of(rt.alloc(), "a", before)?.as_bytes())?;
-            bytes.extend_from_slice(part)?;
+            let bytes = behind(rt.alloc(), before, part)?;
             for step in [1, 4096] {
                 // Each is told as it comes, before the reads behind it fail.
                 let calls = bytes.len().div_ceil(step);
-                let fault = fault_of(&rt, &bytes, step, calls + 1);
+                let fault = fault_of(rt.alloc(), &bytes, step, calls + 1);
                 assert!(rt; fault == Some(ReadFault::Utf8), "{part:?} after {before}");
             }
         }
@@ -104,25 +118,24 @@ fn bytes_that_begin_no_text(rt: HostRuntime) -> Result<(), Fail> {
     Ok(())
 }
 
+/// Whether it is told of bytes that they end inside a character, and of a read that fails before that
+/// it does.
+fn ends_inside(alloc: Global, bytes: &[u8], step: usize) -> bool {
+    let calls = bytes.len().div_ceil(step.max(1));
+    fault_of(alloc, bytes, step, 0) == Some(ReadFault::Utf8)
+        && fault_of(alloc, bytes, step, calls.saturating_add(1)) == Some(ReadFault::Read)
+}
+
 #[test]
 fn ends_inside_a_character(rt: HostRuntime) -> Result<(), Fail> {
     for character in ["é", "せ", "🐸"] {
         for before in [0, 1, 4094, 4095, 4096] {
-            let mut text = text_of(rt.alloc(), "a", before)?;
-            text.push_str(character)?;
             for cut in 1..character.len() {
-                let bytes = text.as_bytes().get(..before + cut).unwrap_or(b"");
+                let part = character.as_bytes().get(..cut).unwrap_or(b"");
+                let bytes = behind(rt.alloc(), before, part)?;
                 for step in [1, 3, 4096] {
-                    let fault = fault_of(&rt, bytes, step, 0);
                     assert!(rt;
-                        fault == Some(ReadFault::Utf8),
-                        "{cut} bytes of {character}"
-                    );
-                    // The failure is told where it comes before the end.
-                    let calls = bytes.len().div_ceil(step);
-                    let fault = fault_of(&rt, bytes, step, calls + 1);
-                    assert!(rt;
-                        fault == Some(ReadFault::Read),
+                        ends_inside(rt.alloc(), &bytes, step),
                         "{cut} bytes of {character}"
                     );
                 }

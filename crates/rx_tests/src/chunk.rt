@@ -2,7 +2,9 @@
 
 use rx_chunk::pikevm::{self, Builder, Config, PikeVM};
 use rx_input::{ChunkCursor, Input};
-use rx_util::{MatchKind, Span, WhichCaptures};
+use rx_literals::Prefilter;
+use rx_util::{MatchError, MatchKind, Span, WhichCaptures};
+use std::alloc::Global;
 use std::test::Fail;
 
 /// A match is told with its groups, and then all matches one after the other, in content that lies
@@ -29,66 +31,84 @@ fn groups_and_matches(rt: HostRuntime) -> Result<(), Fail> {
     Ok(())
 }
 
+/// Where an engine finds a match, and where the input stands behind that.
+fn found_and_place(
+    vm: &PikeVM,
+    input: &mut Input<&str>,
+) -> Result<(Option<Span>, usize), MatchError> {
+    let mut cache = vm.create_cache()?;
+    let found = pikevm::find(vm, &mut cache, input)?;
+    Ok((found.map(|found| found.span()), input.position()))
+}
+
 /// A search that any match will do for stops at the first end of one, and another where no walk is
 /// left.
 #[test]
 fn where_searches_stop(rt: HostRuntime) -> Result<(), Fail> {
     let vm = PikeVM::new(rt.alloc(), "a+b?")?;
-    let mut cache = vm.create_cache()?;
     let mut input = Input::new("xaaab, and so on");
-    assert!(rt; pikevm::is_match(&vm, &mut cache, &mut input)?);
-    assert_eq!(rt; input.position(), 2);
+    assert!(rt;
+        pikevm::is_match(&vm, &mut vm.create_cache()?, &mut input)? && input.position() == 2
+    );
     input.set_earliest(true);
-    let found = pikevm::find(&vm, &mut cache, &mut input)?;
-    assert_eq!(rt; found.map(|m| m.span()), Some(Span { start: 1, end: 2 }));
+    assert!(rt; found_and_place(&vm, &mut input)? == (Some(Span { start: 1, end: 2 }), 2));
     input.set_earliest(false);
-    let found = pikevm::find(&vm, &mut cache, &mut input)?;
-    assert_eq!(rt; found.map(|m| m.span()), Some(Span { start: 1, end: 5 }));
-    assert_eq!(rt; input.position(), 5);
+    assert!(rt; found_and_place(&vm, &mut input)? == (Some(Span { start: 1, end: 5 }), 5));
     Ok(())
 }
 
-/// A setting that isn't set is the default, and one that is set is told.
-#[test]
-fn settings(rt: HostRuntime) -> Result<(), Fail> {
+/// Whether settings are as they are where none is set.
+fn are_default(config: &Config) -> bool {
+    config.get_nfa_size_limit().is_none()
+        && config.get_prefilter().is_none()
+        && config.get_which_captures() == WhichCaptures::All
+        && config.get_match_kind() == MatchKind::LeftmostFirst
+        && config.get_utf8_empty()
+        && config.get_line_terminator() == b'\n'
+}
+
+/// Whether they are those that the test sets.
+fn are_set(config: &Config) -> bool {
+    config.get_nfa_size_limit() == Some(40_000)
+        && config.get_prefilter().is_some()
+        && config.get_which_captures() == WhichCaptures::Implicit
+        && config.get_match_kind() == MatchKind::LeftmostFirst
+        && !config.get_utf8_empty()
+        && config.get_line_terminator() == b';'
+}
+
+/// Settings with a caller's prefilter, which looks for this needle.
+fn settings(alloc: Global, needle: &[u8]) -> Result<Config, MatchError> {
+    let prefilter = Prefilter::new(alloc, MatchKind::LeftmostFirst, &[needle])?;
     let config = Config::new().line_terminator(b';').utf8_empty(false);
-    let config = config.match_kind(MatchKind::LeftmostFirst).clone()?;
-    assert!(rt; config.get_match_kind() == MatchKind::LeftmostFirst);
-    assert!(rt; !config.get_utf8_empty() && config.get_line_terminator() == b';');
     let config = config.which_captures(WhichCaptures::Implicit);
-    assert!(rt; config.get_which_captures() == WhichCaptures::Implicit);
-    let config = Config::default();
-    assert!(rt; config.get_which_captures() == WhichCaptures::All);
-    assert!(rt; config.get_match_kind() == MatchKind::LeftmostFirst);
-    assert!(rt; config.get_utf8_empty() && config.get_line_terminator() == b'\n');
-    Ok(())
+    let config = config
+        .match_kind(MatchKind::LeftmostFirst)
+        .nfa_size_limit(Some(40_000));
+    config.prefilter(prefilter).clone()
 }
 
-/// Where group 0 alone is noted, captures have no other group, and all groups are still counted.
-#[test]
-fn whole_matches_alone(rt: HostRuntime) -> Result<(), Fail> {
+/// An engine under these settings, by the clone of a builder.
+fn built(alloc: Global, config: Config, pattern: &str) -> Result<PikeVM, Fail> {
     let mut builder = Builder::new();
-    builder.configure(Config::new().which_captures(WhichCaptures::Implicit));
-    let vm = builder.build(rt.alloc(), "(a)(?<name>b)")?;
-    let mut cache = vm.create_cache()?;
+    builder.configure(config);
+    Ok(builder.clone()?.build(alloc, pattern)?)
+}
+
+/// A caller's prefilter gives way to none, and changes no match: here one that doesn't begin with its
+/// needle. Where group 0 alone is noted, captures have no other group, and all groups are still
+/// counted.
+#[test]
+fn under_settings(rt: HostRuntime) -> Result<(), Fail> {
+    let config = settings(rt.alloc(), b"b")?;
+    assert!(rt; are_set(&config) && are_default(&Config::default()));
+    assert!(rt; config.clone()?.prefilter(None).get_prefilter().is_none());
+    let vm = built(rt.alloc(), config, "(a)(?<name>b)|b")?;
+    assert!(rt; !vm.utf8_empty() && vm.group_info().slot_len() == 2 && vm.captures_len() == 3);
     let mut caps = vm.create_captures()?;
-    pikevm::search(&vm, &mut cache, &mut Input::new("xab"), &mut caps)?;
-    assert_eq!(rt; caps.get_group(0), Some(Span { start: 1, end: 3 }));
-    assert_eq!(rt; caps.get_group(1), None);
-    assert_eq!(rt; caps.get_group_by_name("name"), None);
-    assert!(rt; vm.group_info().slot_len() == 2 && vm.captures_len() == 3);
-    Ok(())
-}
-
-/// A builder and its clone build the same, and a clone of a cache serves as its source does.
-#[test]
-fn clones(rt: HostRuntime) -> Result<(), Fail> {
-    let mut builder = Builder::new();
-    builder.configure(Config::new().utf8_empty(false));
-    let vm = builder.clone()?.build(rt.alloc(), "a*")?;
     let mut cache = vm.create_cache()?.clone()?;
-    let mut input = Input::new("\u{e9}").range(1..2);
-    let found = pikevm::find(&vm, &mut cache, &mut input)?;
-    assert_eq!(rt; found.map(|m| m.span()), Some(Span { start: 1, end: 1 }));
+    pikevm::search(&vm, &mut cache, &mut Input::new("xab"), &mut caps)?;
+    assert!(rt; caps.get_group(0) == Some(Span { start: 1, end: 3 }));
+    assert!(rt; caps.get_group(1) == None && caps.get_group_by_name("name") == None);
     Ok(())
 }

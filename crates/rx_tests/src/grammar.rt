@@ -8,44 +8,42 @@ use rx_grammar::{
 use rx_sets::AtomSets;
 use std::test::Fail;
 
-/// What a pattern spells: its nodes, each after what stands below it.
+/// Whether the nodes of a tree are these, each after what stands below it.
+fn is_word_of_a(nodes: &[Node]) -> bool {
+    let [
+        Node::Look(Look::Start),
+        Node::Set(set),
+        Node::Group(1, Some(name)),
+        Node::Repeat(repetition),
+        Node::Concat(2),
+    ] = nodes
+    else {
+        return false;
+    };
+    let often = Repetition {
+        min: 0,
+        max: None,
+        greedy: false,
+    };
+    set.contains(ordinal('a')) && name.as_str() == "word" && *repetition == often
+}
+
+/// Whether group 1 alone has a name.
+fn names_one_group(hir: &Hir) -> bool {
+    hir.group_name(1) == Some("word") && hir.group_name(0) == None && hir.group_name(2) == None
+}
+
+/// What a pattern spells: its nodes, and the names of its groups.
 #[test]
 fn hir(rt: HostRuntime) -> Result<(), Fail> {
     let hir: Hir = parse(rt.alloc(), "^(?<word>a)*?", &Config::new())?;
     assert!(rt; hir.group_count() == 1);
-    match hir.nodes() {
-        [
-            Node::Look(look),
-            Node::Set(set),
-            Node::Group(number, Some(name)),
-            Node::Repeat(repetition),
-            Node::Concat(2),
-        ] => {
-            assert!(rt; *look == Look::Start);
-            assert!(rt; set.contains(ordinal('a')));
-            assert!(rt; *number == 1);
-            assert!(rt; name.as_str() == "word");
-            assert_eq!(rt;
-                *repetition,
-                Repetition {
-                    min: 0,
-                    max: None,
-                    greedy: false
-                }
-            );
-        }
-        _ => assert!(rt; false),
-    }
-    assert!(rt; hir.group_name(1) == Some("word"));
-    assert!(rt; hir.group_name(0) == None);
-    assert!(rt; hir.group_name(2) == None);
+    assert!(rt; is_word_of_a(hir.nodes()) && names_one_group(&hir));
     Ok(())
 }
 
-/// What is known of each part of a tree: here of the `a` and of all of it.
-#[test]
-fn properties(rt: HostRuntime) -> Result<(), Fail> {
-    let hir = parse(rt.alloc(), "a*", &Config::new())?;
+/// Whether it is known of each part of `a*` what it should be: of the `a` and of all of it.
+fn is_often_a(hir: &Hir) -> bool {
     let letter = Properties {
         extent: 1,
         weight: 2,
@@ -60,9 +58,26 @@ fn properties(rt: HostRuntime) -> Result<(), Fail> {
         may_be_empty: true,
         static_groups: Some(0),
     };
-    assert!(rt; hir.properties() == [letter, all].as_slice());
-    assert!(rt; hir.weight() == 6);
+    hir.properties() == [letter, all].as_slice() && hir.weight() == 6
+}
+
+/// What is known of each part of a tree, and why there is none.
+#[test]
+fn properties(rt: HostRuntime) -> Result<(), Fail> {
+    assert!(rt; is_often_a(&parse(rt.alloc(), "a*", &Config::new())?));
+    let outside = parse(rt.alloc(), "*", &Config::new());
+    assert!(rt; matches!(outside, Err(SyntaxError::Outside)));
     Ok(())
+}
+
+/// Whether settings are those that were set.
+fn are_set(config: &Config) -> bool {
+    config.get_case_insensitive()
+        && config.get_multi_line()
+        && config.get_dot_matches_new_line()
+        && config.get_swap_greed()
+        && config.get_nest_limit() == 7
+        && config.get_line_terminator() == b';'
 }
 
 /// The settings that a pattern is read under.
@@ -76,40 +91,26 @@ fn config(rt: HostRuntime) -> Result<(), Fail> {
         .nest_limit(7)
         .line_terminator(b';')
         .clone()?;
-    assert!(rt; config.get_case_insensitive());
-    assert!(rt; config.get_multi_line());
-    assert!(rt; config.get_dot_matches_new_line());
-    assert!(rt; config.get_swap_greed());
-    assert!(rt; config.get_nest_limit() == 7);
-    assert!(rt; config.get_line_terminator() == b';');
-    assert!(rt; Config::default().get_nest_limit() == 250);
+    assert!(rt; are_set(&config) && Config::default().get_nest_limit() == 250);
     Ok(())
 }
 
-/// Why a pattern is refused.
-#[test]
-fn syntax_error(rt: HostRuntime) -> Result<(), Fail> {
-    let alloc = rt.alloc();
-    let shallow = Config::new().nest_limit(1);
-    let outside = parse(alloc, "*", &Config::new());
-    assert!(rt; matches!(outside, Err(SyntaxError::Outside)));
-    let nested = parse(alloc, "(a*)", &shallow);
-    assert!(rt; matches!(nested, Err(SyntaxError::Nesting)));
-    let message = format!(in alloc; "{}", SyntaxError::Outside)?;
-    assert!(rt; message.as_str() == "the pattern isn't in the grammar");
-    Ok(())
-}
-
-/// A set of characters, as its maximal ranges. Ordinals leave the surrogates out.
+/// A set of characters, as its maximal ranges. Ordinals leave the surrogates out. Ranges may come in
+/// any order, and one that ends before it begins is empty.
 #[test]
 fn character_set(rt: HostRuntime) -> Result<(), Fail> {
-    let letters = vec![in rt.alloc(); (ordinal('n'), ordinal('z')), (ordinal('a'), ordinal('m'))]?;
+    let letters = vec![in rt.alloc();
+        (ordinal('n'), ordinal('z')),
+        (9, 8),
+        (ordinal('a'), ordinal('m')),
+    ]?;
     let set = CharacterSet::from_ranges(letters)?;
-    assert!(rt; set.ranges() == [(ordinal('a'), ordinal('z'))].as_slice());
-    assert!(rt; set.contains(ordinal('q')));
+    assert!(rt;
+        set.ranges() == [(ordinal('a'), ordinal('z'))].as_slice() && set.contains(ordinal('q'))
+    );
     assert!(rt; !set.complement()?.contains(ordinal('q')));
-    let folded = set.closed_under_folding()?;
-    assert!(rt; folded.contains(ordinal('Q')));
+    assert!(rt; set.closed_under_folding()?.contains(ordinal('Q')));
+    assert!(rt; CharacterSet::empty(rt.alloc()).complement()?.ranges().len() == 1);
     Ok(())
 }
 
@@ -128,23 +129,9 @@ fn atom_sets(rt: HostRuntime) -> Result<(), Fail> {
     Ok(())
 }
 
-/// Ranges of a set may come in any order, and one that ends before it begins is empty.
-#[test]
-fn ranges(rt: HostRuntime) -> Result<(), Fail> {
-    let ranges = vec![in rt.alloc(); (5, 7), (0, 2), (3, 3), (9, 8), (6, 6)]?;
-    let set = CharacterSet::from_ranges(ranges)?;
-    assert!(rt; set.ranges() == [(0, 3), (5, 7)].as_slice());
-    assert_eq!(rt;
-        CharacterSet::empty(rt.alloc()).complement()?.ranges().len(),
-        1
-    );
-    Ok(())
-}
-
 /// Ordinals number the scalar values, and no number past them.
 #[test]
 fn ordinals(rt: HostRuntime) {
-    assert_eq!(rt; from_ordinal(ordinal('\u{10FFFF}')), Some('\u{10FFFF}'));
-    assert_eq!(rt; from_ordinal(0xD800), Some('\u{E000}'));
-    assert!(rt; from_ordinal(1_112_064) == None);
+    assert!(rt; from_ordinal(ordinal('\u{10FFFF}')) == Some('\u{10FFFF}'));
+    assert!(rt; from_ordinal(0xD800) == Some('\u{E000}') && from_ordinal(1_112_064) == None);
 }

@@ -17,26 +17,39 @@ fn chunk_cursor(rt: HostRuntime) -> Result<(), Fail> {
     Ok(())
 }
 
+/// Whether an input over a text stands at its second byte, where its span starts.
+fn starts_behind_the_first(input: &Input<&str>) -> bool {
+    input.get_span() == Span { start: 1, end: 7 }
+        && input.position() == 1
+        && input.chunk() == "one two".as_bytes()
+        && input.chunk_offset() == 0
+        && input.get_chunk_end() == 7
+}
+
+/// Whether one is asked for its first five bytes, for matches at their start, and for any.
+fn is_asked_for_five(input: &Input<&str>) -> bool {
+    input.get_slice() == Span { start: 0, end: 5 }
+        && input.start() == 0
+        && input.end() == 5
+        && input.get_anchored() == Anchored::Yes
+        && input.get_earliest()
+        && !input.is_done()
+}
+
+/// Whether it stands where it was, and sees what it should.
+fn sees_five(input: &mut Input<&str>) -> bool {
+    let seen = input.look_around();
+    seen.bytes() == "one t".as_bytes() && seen.position() == 1
+}
+
 /// What a search is asked for.
 #[test]
-fn input(rt: HostRuntime) -> Result<(), Fail> {
+fn input(rt: HostRuntime) {
     let mut input = Input::new("one two").range(1..);
-    assert!(rt; input.get_span() == Span { start: 1, end: 7 });
-    assert!(rt; input.position() == 1);
-    assert!(rt; input.chunk() == "one two".as_bytes());
-    assert!(rt; input.chunk_offset() == 0);
-    assert!(rt; input.get_chunk_end() == 7);
+    assert!(rt; starts_behind_the_first(&input));
     input.slice(..=4).anchored(Anchored::Yes).earliest(true);
-    assert!(rt; input.get_slice() == Span { start: 0, end: 5 });
-    assert!(rt; input.start() == 0);
-    assert!(rt; input.end() == 5);
-    assert!(rt; input.get_anchored() == Anchored::Yes);
-    assert!(rt; input.get_earliest());
-    assert!(rt; !input.is_done());
-    let seen = input.look_around();
-    assert!(rt; seen.bytes() == "one t".as_bytes());
-    assert!(rt; seen.position() == 1);
-    Ok(())
+    assert!(rt; is_asked_for_five(&input));
+    assert!(rt; sees_five(&mut input));
 }
 
 /// What is asked for is set anew, and positions move with it.
@@ -63,7 +76,7 @@ fn changed_input(rt: HostRuntime) -> Result<(), Fail> {
 }
 
 /// Whether a cursor has these bytes in one piece.
-pub(crate) fn is_one_piece<C: Cursor>(cursor: &mut C, bytes: &[u8]) -> bool {
+fn is_one_piece<C: Cursor>(cursor: &mut C, bytes: &[u8]) -> bool {
     let moves = cursor.advance() || cursor.backtrack();
     let is_whole = cursor.total_bytes() == Some(bytes.len()) && cursor.utf8_aware();
     !moves && is_whole && cursor.offset() == 0 && cursor.chunk() == bytes
@@ -78,16 +91,4 @@ fn one_piece(rt: HostRuntime) {
     assert!(rt; is_one_piece(&mut &mut text, b"a\xE3\x81\x9B"));
     let mut empty = "";
     assert!(rt; is_one_piece(&mut empty, b""));
-}
-
-/// A clone of an input over chunks goes its own way.
-#[test]
-fn clones(rt: HostRuntime) {
-    let chunks: [&[u8]; 2] = [b"ab", b"cd"];
-    let input = Input::new(ChunkCursor::new(&chunks));
-    let mut clone = input.clone();
-    clone.move_to(3);
-    assert!(rt; clone.chunk_offset() == 2);
-    assert!(rt; clone.position() == 3);
-    assert!(rt; input.position() == 0);
 }

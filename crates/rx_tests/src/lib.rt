@@ -1,5 +1,5 @@
-//! Tests of `regex_cursor` and the `rx_` crates that are proved: an example for each public type,
-//! calls at a type of one's own, and callers whose proof is the test.
+//! Tests of the `rx_` crates that are proved: an example for each public type, calls at a type of
+//! one's own, and callers whose proof is the test.
 #![tactic(auto)]
 
 #[cfg(test)]
@@ -15,13 +15,7 @@ mod input;
 #[cfg(test)]
 mod lists;
 #[cfg(test)]
-mod literals;
-#[cfg(test)]
 mod program;
-#[cfg(test)]
-mod regex;
-#[cfg(test)]
-mod ropey_cursor;
 #[cfg(test)]
 mod searchers;
 #[cfg(test)]

@@ -124,23 +124,23 @@ impl ByteChunk for Four {
     }
 }
 
-/// Kernels over it answer what the calls do, which take vectors.
+/// Whether kernels over it answer what the calls do, which take vectors.
+fn count_alike(text: &str, leading: usize, turns: &mut Counter) -> bool {
+    lines_crlf::count_breaks_impl::<Four>(text, leading, turns) == lines_crlf::count_breaks(text)
+        && chars::count_impl::<Four>(text, leading, turns) == chars::count(text)
+        && utf16::count_surrogates_impl::<Four>(text, leading, turns)
+            == utf16::count_surrogates(text)
+}
+
 #[test]
 fn kernels_over_a_chunk_of_ones_own(rt: HostRuntime) {
     let text = "one\r\ntwo\rthree\n🐸 été, せ\r\n";
     for leading in [0, 1, 3, 100] {
         let mut turns = Counter::new();
-        let breaks = lines_crlf::count_breaks_impl::<Four>(text, leading, &mut turns);
-        assert_eq!(rt; breaks, lines_crlf::count_breaks(text));
-        assert_eq!(rt;
-            chars::count_impl::<Four>(text, leading, &mut turns),
-            chars::count(text)
-        );
-        let surrogates = utf16::count_surrogates_impl::<Four>(text, leading, &mut turns);
-        assert_eq!(rt; surrogates, utf16::count_surrogates(text));
+        assert!(rt; count_alike(text, leading, &mut turns));
         for line in 0..6 {
             let start = lines_crlf::to_byte_idx_impl::<Four>(text, line, leading, &mut turns);
-            assert_eq!(rt; start, lines_crlf::to_byte_idx(text, line));
+            assert!(rt; start == lines_crlf::to_byte_idx(text, line));
         }
     }
 }

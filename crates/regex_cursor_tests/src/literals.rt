@@ -17,28 +17,17 @@ fn prefilter(rt: HostRuntime) -> Result<(), Fail> {
     Ok(())
 }
 
-/// A clone looks for the same; there is none without a needle.
-#[test]
-fn clone_of_a_prefilter(rt: HostRuntime) -> Result<(), Fail> {
-    let needles: [&[u8]; 1] = [b"frog"];
-    let prefilter = Prefilter::new(rt.alloc(), MatchKind::LeftmostFirst, &needles)?;
-    assert!(rt; prefilter.is_some());
-    if let Some(prefilter) = prefilter {
-        let copy = prefilter.clone()?;
-        let found = literal::prefix(&copy, &mut Input::new("frogs"));
-        assert!(rt; found == Some(Span { start: 0, end: 4 }));
-    }
-    assert!(rt; Prefilter::new(rt.alloc(), MatchKind::LeftmostFirst, &[])?.is_none());
-    Ok(())
+/// Where a regex says that nothing matches before, in a content.
+fn told(re: &Regex, content: &str) -> Option<usize> {
+    re.no_match_before(&mut Input::new(content))
 }
 
 /// How far nothing matches: to the first of the literals, to the end, or it isn't known.
 #[test]
 fn no_match_before(rt: HostRuntime) -> Result<(), Fail> {
     let frogs = Regex::new(rt.alloc(), "frog|toad")?;
-    assert!(rt; frogs.no_match_before(&mut Input::new("a toad")) == Some(2));
-    assert!(rt; frogs.no_match_before(&mut Input::new("a newt")) == Some(6));
+    assert!(rt; told(&frogs, "a toad") == Some(2) && told(&frogs, "a newt") == Some(6));
     let digits = Regex::new(rt.alloc(), "[0-9]")?;
-    assert!(rt; digits.no_match_before(&mut Input::new("a newt")).is_none());
+    assert!(rt; told(&digits, "a newt") == None);
     Ok(())
 }

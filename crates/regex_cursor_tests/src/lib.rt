@@ -1,0 +1,14 @@
+//! Tests of `regex_cursor` that are proved: an example for each public type, and a cursor of one's
+//! own.
+#![tactic(auto)]
+
+#[cfg(test)]
+mod lists;
+#[cfg(test)]
+mod literals;
+#[cfg(test)]
+mod own_cursor;
+#[cfg(test)]
+mod regex;
+#[cfg(test)]
+mod ropey_cursor;

@@ -1,0 +1,249 @@
+//! An example for each public type of `regex_cursor`.
+
+ghost use Rattle.regex_cursor.specs.Regexes.{IsCacheOf};
+
+use regex_cursor::engines::meta::{
+    Builder, Cache, CapturesMatches, Config, FindMatches, Regex, Split,
+};
+use regex_cursor::util::syntax;
+use regex_cursor::{
+    BuildError, ChunkCursor, Input, Match, MatchError, MatchKind, NonMaxUsize, Prefilter,
+    RopeyCursor, Span, WhichCaptures, parse,
+};
+use ropey::Rope;
+use std::alloc::Global;
+use std::test::Fail;
+
+/// A search over a rope, then over one of its lines, with groups and a cache that is kept.
+#[test]
+fn regex(rt: HostRuntime) -> Result<(), Fail> {
+    let rope = Rope::from_str(rt.alloc(), "a frog@pond,\na toad@road\n")?;
+    let re = Regex::new(rt.alloc(), r"(?<name>\w+)@(\w+)")?;
+    let found = re.find(Input::new(RopeyCursor::new(rope.slice(..))))?;
+    assert!(rt; found.map(|found| found.span()) == Some(Span { start: 2, end: 11 }));
+    let mut cache = re.create_cache()?;
+    let mut caps = re.create_captures()?;
+    if let Some(line) = rope.get_line(1) {
+        let mut input = Input::new(RopeyCursor::new(line));
+        re.search_captures_with(&mut cache, &mut input, &mut caps)?;
+    }
+    assert!(rt; caps.get_group_by_name("name") == Some(Span { start: 2, end: 6 }));
+    Ok(())
+}
+
+/// Where the match lies that an iterator gives, if it gives one.
+fn span_of(item: Option<Result<Match, MatchError>>) -> Result<Option<Span>, MatchError> {
+    match item {
+        Some(Ok(found)) => Ok(Some(found.span())),
+        Some(Err(error)) => Err(error),
+        None => Ok(None),
+    }
+}
+
+/// Matches one after the other. The input is moved on, and back: where the last match didn't end, an
+/// empty one is found.
+#[test]
+fn find_matches(rt: HostRuntime) -> Result<(), Fail> {
+    let re = Regex::new(rt.alloc(), "x*")?;
+    let mut found: FindMatches<&str> = re.find_iter(Input::new("-xx"))?;
+    assert!(rt; found.regex().captures_len() == 1);
+    found.input().set_span(1..3);
+    assert!(rt; span_of(found.next())? == Some(Span { start: 1, end: 3 }));
+    found.input().set_span(0..3);
+    assert!(rt; span_of(found.next())? == Some(Span { start: 0, end: 0 }));
+    Ok(())
+}
+
+/// Where group 1 of the match lies that an iterator gives, if it gives one.
+fn first_group(found: &mut CapturesMatches<ChunkCursor>) -> Result<Option<Span>, MatchError> {
+    match found.next() {
+        Some(caps) => Ok(caps?.get_group(1)),
+        None => Ok(None),
+    }
+}
+
+/// Matches with their groups. What is over gives no more.
+#[test]
+fn captures_matches(rt: HostRuntime) -> Result<(), Fail> {
+    let chunks: [&[u8]; 2] = [b"a frog@po", b"nd"];
+    let re = Regex::new(rt.alloc(), r"\w+@(\w+)")?;
+    let mut found = re.captures_iter(Input::new(ChunkCursor::new(&chunks)))?;
+    assert!(rt; found.regex().captures_len() == 2);
+    assert!(rt; first_group(&mut found)? == Some(Span { start: 7, end: 11 }));
+    assert!(rt; found.next().is_none());
+    Ok(())
+}
+
+/// The first part in `a,b,c`, once the input was moved on, and back, past the first match.
+fn first_part(re: &Regex) -> Result<Option<Span>, MatchError> {
+    let mut parts: Split<&str> = re.split(Input::new("a,b,c"))?;
+    parts.input().set_span(4..5);
+    parts.input().set_span(2..5);
+    match parts.next() {
+        Some(part) => Ok(Some(part?)),
+        None => Ok(None),
+    }
+}
+
+/// A regex for all matches of two patterns.
+fn of_all(alloc: Global) -> Result<Regex, BuildError> {
+    let mut builder = Regex::builder();
+    builder.configure(Config::new().match_kind(MatchKind::All));
+    builder.build_many(alloc, &["a", "(a)b"])
+}
+
+/// Parts start at 0, wherever the input was moved to. They are counted, also where the match is looked
+/// for that ends last.
+#[test]
+fn parts(rt: HostRuntime) -> Result<(), Fail> {
+    let re = Regex::new(rt.alloc(), ",")?;
+    assert!(rt; first_part(&re)? == Some(Span { start: 0, end: 3 }));
+    assert!(rt; re.split(Input::new("a,b,c"))?.count() == 3);
+    assert!(rt; of_all(rt.alloc())?.split(Input::new("abab"))?.count() == 2);
+    Ok(())
+}
+
+/// A regex under settings, by the clone of a builder.
+fn under_settings(alloc: Global) -> Result<Regex, Fail> {
+    let mut builder = Builder::new();
+    builder.configure(Config::new().line_terminator(b';').hybrid(false));
+    builder.configure(Regex::config().which_captures(WhichCaptures::Implicit));
+    builder.syntax(syntax::Config::new().multi_line(true));
+    Ok(builder.clone()?.build(alloc, "^(b)")?)
+}
+
+/// Whether a regex keeps these settings, and counts patterns and groups.
+fn are_kept(re: &Regex) -> bool {
+    let config = re.get_config();
+    let are_set = config.get_line_terminator() == b';' && !config.get_hybrid() && config.get_dfa();
+    are_set && re.pattern_len() == 1 && re.captures_len() == 2 && re.group_info().slot_len() == 2
+}
+
+/// A regex under settings, which it keeps, and the end of the match that it finds.
+#[test]
+fn builder(rt: HostRuntime) -> Result<(), Fail> {
+    let re = under_settings(rt.alloc())?;
+    assert!(rt; are_kept(&re));
+    let half = re.search_half(Input::new("a;b"))?;
+    assert!(rt; half.map(|half| half.offset()) == Some(3));
+    Ok(())
+}
+
+/// Why there is no regex: here the pattern isn't in the grammar.
+#[test]
+fn build_error(rt: HostRuntime) -> Result<(), Fail> {
+    let refused: Option<BuildError> = Regex::builder().build(rt.alloc(), "(").err();
+    assert!(rt; refused.is_some_and(|error| error.syntax_error().is_some()));
+    Ok(())
+}
+
+/// A regex of what a pattern spells, which looks for a caller's literal first.
+fn of_tree(alloc: Global, pattern: &str, needle: &[u8]) -> Result<Regex, Fail> {
+    let hir = parse(alloc, pattern, &syntax::Config::new())?;
+    let prefilter = Prefilter::new(alloc, MatchKind::LeftmostFirst, &[needle])?;
+    let mut builder = Builder::new();
+    builder.configure(Config::new().auto_prefilter(false).prefilter(prefilter));
+    Ok(builder.build_from_hir(alloc, &hir)?)
+}
+
+/// It finds what it should.
+#[test]
+fn build_from_hir(rt: HostRuntime) -> Result<(), Fail> {
+    let re = of_tree(rt.alloc(), "ab+", b"a")?;
+    assert!(rt; re.is_accelerated() && re.get_config().get_prefilter().is_some());
+    assert!(rt; re.is_match(Input::new("cab"))? && re.memory_usage() > 0);
+    Ok(())
+}
+
+/// The match that is found in an input with a cache which is lent.
+fn found_with(
+    re: &Regex,
+    cache: &mut Cache,
+    input: &mut Input<&str>,
+) -> Result<Option<Span>, MatchError>
+    requires { IsCacheOf re.now cache.old }
+    ensures { IsCacheOf re.now cache.new }
+{
+    let found = re.search_with(cache, input)?;
+    Ok(found.map(|found| found.span()))
+}
+
+/// One search each by two regexes, for the second of which the cache is reset.
+fn in_turn(
+    first: &Regex,
+    second: &Regex,
+    cache: &mut Cache,
+) -> Result<(Option<Span>, Option<Span>), MatchError>
+    requires { IsCacheOf first.now cache.old }
+{
+    let mut input = Input::new("bax");
+    let found = found_with(first, cache, &mut input)?;
+    cache.reset(second)?;
+    Ok((found, found_with(second, cache, &mut input)?))
+}
+
+fn with_one_cache(
+    alloc: Global,
+    first: &Regex,
+    second: &Regex,
+) -> Result<(Option<Span>, Option<Span>), MatchError> {
+    let mut cache = Cache::new(alloc, first)?;
+    in_turn(first, second, &mut cache)
+}
+
+/// Whether there is a match, where any will do.
+fn has_any(re: &Regex) -> Result<bool, MatchError> {
+    let mut input = Input::new("bax");
+    input.set_earliest(true);
+    Ok(re.find(input)?.is_some())
+}
+
+/// A cache that was made for one regex and is reset for another one; and a search for any match, of
+/// which only whether there is one is promised.
+#[test]
+fn cache(rt: HostRuntime) -> Result<(), Fail> {
+    let first = Regex::new(rt.alloc(), "x")?;
+    let second = Regex::new(rt.alloc(), "a")?;
+    let found = with_one_cache(rt.alloc(), &first, &second)?;
+    assert!(rt;
+        found
+            == (
+                Some(Span { start: 2, end: 3 }),
+                Some(Span { start: 1, end: 2 })
+            )
+    );
+    assert!(rt; first.create_cache()?.memory_usage() > 0 && has_any(&second)?);
+    Ok(())
+}
+
+/// The places of the match that comes next in an input with a cache which is lent.
+fn next_with(
+    re: &Regex,
+    cache: &mut Cache,
+    input: &mut Input<&str>,
+    last: Option<usize>,
+) -> Result<[Option<NonMaxUsize>; 2], MatchError>
+    requires { IsCacheOf re.now cache.old }
+    ensures { IsCacheOf re.now cache.new }
+{
+    let mut slots = [None; 2];
+    if re.pattern_len() == 1 {
+        re.next_slots_with(cache, input, &mut slots, last)?;
+    }
+    Ok(slots)
+}
+
+fn next_after(re: &Regex, input: &mut Input<&str>, last: usize) -> Result<bool, MatchError> {
+    let mut cache = re.create_cache()?;
+    let slots = next_with(re, &mut cache, input, Some(last))?;
+    Ok(slots == [NonMaxUsize::new(3), NonMaxUsize::new(3)])
+}
+
+/// An empty match where the last match ended is passed over, and the one behind it found.
+#[test]
+fn next_slots_with(rt: HostRuntime) -> Result<(), Fail> {
+    let re = Regex::new(rt.alloc(), "x*")?;
+    let mut input = Input::new("x-b").range(2..);
+    assert!(rt; next_after(&re, &mut input, 2)?);
+    Ok(())
+}
