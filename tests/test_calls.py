@@ -1,5 +1,6 @@
 """What the calls of ropes do where memory is refused, on bin/rope-driver: ropes that are made, edited, copied and
-shrunk, with each request refused in turn, alone and with all that follow it."""
+shrunk, with each request refused in turn, alone and with all that follow it; and that a rope is parted at its ends
+without any."""
 from harness import differences, test
 from memory import counted, library
 from rope_model import hexed
@@ -32,15 +33,18 @@ def refusals(runs, count):
                 yield f"{name} request {number}", name, ended
 
 
-def wrong_refusals(row, count, needed):
+def wrong_refusals(row, count, needed, free):
     """What is wrong with a rope where memory is refused: each call that answers so leaves what it was called on as it
-    was, and some request is refused in each of the calls that are needed."""
+    was, some request is refused in each of the calls that are needed, and none in those that take no memory, once the
+    program has room for what it keeps."""
     seen = set()
     for place, name, ended in refusals(runs_of(row.line()), count):
         row.refusals = set()
         wrong = list(row.wrong(ended.out.decode()[:-1])) if ended.out != NO_MEMORY else []
         if name == "at" and len(row.refusals) > 1:
             wrong.append(f"more than one call was refused: {row.refusals}")
+        if "clone" not in row.refusals:
+            wrong += [f"{word} was refused" for word in row.refusals & free]
         seen |= row.refusals
         for line in wrong + differences(ended, ended.out, 0):
             yield f"{place}: {line}"
@@ -48,12 +52,13 @@ def wrong_refusals(row, count, needed):
         yield f"no refusal came to {word}"
 
 
-def check_row(name, row, needed):
+def check_row(name, row, needed, free=frozenset()):
     ended, count, _ = counted(runs_of(row.line()))
     row.may_refuse = False
     test(f"{name}, nothing refused", [*row.wrong(ended.out.decode()[:-1]), *differences(ended, ended.out, 0)])
     row.may_refuse = True
-    test(f"{name}, with each of its {count} requests refused, alone and with all that follow", wrong_refusals(row, count, needed))
+    wrong = wrong_refusals(row, count, needed, free)
+    test(f"{name}, with each of its {count} requests refused, alone and with all that follow", wrong)
 
 
 def check_copy(pieces):
@@ -87,6 +92,11 @@ def edits_of(text):
     return asks + [f"build,{half // 2},{third}", *KEPT, *ASKED]
 
 
+def parted_at_ends(text):
+    """A rope is parted at its start, and what comes off, which is all of it, at its end."""
+    return ["clone", "try_split_off,0", *KEPT, "swap", *ASKED, f"try_split_off,{len(text)}", *KEPT, *ASKED]
+
+
 def joined(text):
     """A clone of a rope is parted and joined again, more of it each time, until joining takes memory."""
     asks = ["clone"]
@@ -108,6 +118,7 @@ def test_all():
     for parts in PARTS[1:]:
         text, name = "".join(parts), f"{short('|'.join(parts), 30)!r}"
         check_row(f"edits of {name}", RopeRow("from_chunks", parts, edits_of(text)), EDITS)
+        check_row(f"ends of {name}", RopeRow("from_chunks", parts, parted_at_ends(text)), set(), {"try_split_off"})
         joins = {"append"} if len(text.encode()) > 1968 else set()
         check_row(f"parts of {name} joined", RopeRow("from_chunks", parts, joined(text)), joins)
         check_row(f"a rope of a slice of {name}", RopeRow("from_chunks", parts, [f"slice,1,{len(text)}", *ASKED]), {"slice"})

@@ -99,9 +99,8 @@ def test_one_regex():
     home = os.path.join("rows", "counted.rt")
     found = naming("regex_cursor::engines")
     test("one file has the regex of a report", [] if found == {home} else [f"it is in {sorted(found)}"])
-    allowed = {home, *(os.path.join("rows", name) for name in ("engine.rt", "groups.rt", "searching.rt"))}
     found = naming("regex_cursor")
-    test("few files name what it is made of", [] if found == allowed else [f"others name it: {sorted(found ^ allowed)}"])
+    test("and names what it is made of", [] if found == {home} else [f"others name it: {sorted(found ^ {home})}"])
 
 
 def test_all():

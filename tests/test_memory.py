@@ -50,6 +50,11 @@ BACK_AND_FORWARD = (
     + b"undo\nlist\nundo\nlist\nredo\nredo\nlist\n" + given("pattern", b"a") + given("replace", b"") + b"undo\nundo\nlist\n"
     + b"edit 0 0 1 0 2\n\r\nlist\nredo\noff\nundo\nredo\n" + given("pattern", b"(?m)b$") + b"undo\nundo\nundo\nlist\nprint\n"
 )
+# Searches that read on to the line's end, or the text's, and answer one letter each.
+FAR_READING = (
+    given("text", b"a" * 70 + b"\n" + b"a" * 40) + given("pattern", b"(a*b)|a") + b"list\nedit 0 1 1 1 1\naundo\nlist\n"
+    + given("replace", b"$0$1-") + b"list\nundo\nredo\nlist\nprint\n"
+)
 
 # A text of a megabyte, and how many of its lines are edited, each in a fork of its own and all in one buffer.
 LINES, LINE, EDITED = 20_000, b"a line of fifty bytes, which holds one mark: here\n", 50
@@ -57,13 +62,14 @@ LINES, LINE, EDITED = 20_000, b"a line of fifty bytes, which holds one mark: her
 MOST_FOR_AN_EDIT = 8_192
 MOST_FOR_A_FORK = 12_288  # one with an edit: beside that it is a buffer of its own
 # Buffers with a pattern each, and what one may hold under which pattern: with a letter class most of it is the program.
-BUFFERS, MOST_FOR_A_BUFFER = 2_000, ((b"mark", 16_000), (rb"(?i)todo|error", 16_000), (rb"\w+", 80_000))
+BUFFERS, MOST_FOR_A_BUFFER = 2_000, ((b"mark", 16_000), (rb"(?i)todo|error", 16_000), (rb"\w+", 60_000))
 # Patterns that say a class again and again, and the most that one takes.
 SAID_AGAIN, MOST_FOR_A_PATTERN = ((rb"[\wa]", 13_107), (rb"[^\w]", 13_107), (rb"[^a]", 16_384)), 10_000_000
 # Such that are refused by their weight, and the most that each byte of one takes.
 TOO_HEAVY, MOST_FOR_A_BYTE = (rb"[\wa]", rb"[^\w]"), 64
-# How many breaks are replaced, and the most that each takes, as a match, a line and a change.
-BREAKS, MOST_FOR_A_BREAK = 1_000_000, 120
+# How many breaks are replaced, the most that this takes, and the most that each takes where it is undone, as a match, a
+# line and a change.
+BREAKS, MOST_FOR_BREAKS, MOST_FOR_A_BREAK = 1_000_000, 100_000_000, 120
 # A text, how often it is edited, and how much an edit may leave behind in the history.
 LONG_TEXT, MANY_EDITS, MOST_KEPT = 20_000_000, 10_000, 5_000
 
@@ -83,6 +89,7 @@ MEMORY_INPUTS = [
     REPLACED,
     REPLACED_IN_LONG,
     BACK_AND_FORWARD,
+    FAR_READING,
     b"pattern 2\nabtext 3063\n" + b"ab" * 1500 + b"\n" + b"ab\n" * 20 + b"abedit 0 1500 10 1 47\n" + b"\nab" * 15 + b"\r\n"
     + b"list\nundo\nlist\nredo\nprint\nedit 0 0 5 2 0\nlist\n",
     b"text 3\na\nbfork\nedit 0 1 1 0 1\n\ruse 1\nedit 0 0 0 1 2\n\xc3\xa9undo\nprint\nuse 0\nundo\nundo\nredo\nprint\n"
@@ -343,10 +350,13 @@ def test_bounds():
 def test_histories():
     """What edits, replacements and new texts leave behind, likewise."""
     def broken(count):
-        return given("text", b"\r" * count) + given("pattern", b"\r") + given("replace", b"x") + b"undo\n"
-    each = (peak_of(broken(BREAKS)) - peak_of(broken(1))) // BREAKS
+        return given("text", b"\r" * count) + given("pattern", b"\r") + given("replace", b"x")
+    held = peak_of(broken(BREAKS))
+    wrong = [] if 0 < held <= MOST_FOR_BREAKS else [f"they take {held} bytes"]
+    test(f"{BREAKS} lines, all of whose breaks are replaced, take at most {MOST_FOR_BREAKS} bytes", wrong)
+    each = (peak_of(broken(BREAKS) + b"undo\n") - peak_of(broken(1) + b"undo\n")) // BREAKS
     wrong = [] if 0 < each <= MOST_FOR_A_BREAK else [f"each takes {each} bytes"]
-    test(f"{BREAKS} lines, all of whose breaks are replaced, take at most {MOST_FOR_A_BREAK} bytes each", wrong)
+    test(f"they take at most {MOST_FOR_A_BREAK} bytes each where that is undone", wrong)
     once = given("text", LINE * LINES) + letters_at_random(MANY_EDITS, LINES)
     wrong = [] if peak_of(once * 4) < 1.5 * peak_of(once) else [f"{peak_of(once * 4)} bytes, {peak_of(once)} with one text"]
     test("a history is let go of by a new text", wrong)

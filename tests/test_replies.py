@@ -68,6 +68,29 @@ def replaced_in_chunks(step, template):
     return data + b"print\n", b"ok\nok\nok %d\ntext %d\n%b\n" % (count, len(new.encode()), new.encode()), 0
 
 
+# Of a row of letters `a` each is a match of these, and each search but the last ones reads on to the row's end; with a
+# template and what that then stands for, of each letter.
+FAR_READING = [
+    ("a*b|a", "$0", "a"),
+    (".*?x|a", "<$0>", "<a>"),
+    (".*x|.", "b", "b"),
+    ("(a|b)*c|a", "$1c", "c"),
+    ("(?:a{0,200})*b|a", "", ""),
+    ("(a*)b|(a)", "$2$1$2", "aa"),
+]
+
+
+def each_alone(count, pattern, template, new, letter="a"):
+    """A row of so many letters, each of which the pattern matches alone, listed, replaced, and listed when that is
+    undone."""
+    data = with_payload("text", letter * count) + with_payload("pattern", pattern) + b"list\n"
+    data += with_payload("replace", template) + b"print\nundo\nlist\n"
+    text = new.encode() * count
+    rows = [b"m 0 %d %d\n" % (place, place + 1) for place in range(count)]
+    told = [b"ok %d\n" % count, b"text %d\n%b\nok\n" % (len(text), text)]
+    return data, b"".join([b"ok\nok\n", *rows, told[0], *told, *rows, told[0]]), 0
+
+
 MOST = 2**64 - 1
 TEXT = "a🐸b\r\nc\r"
 # Positions that are nowhere in this text.
@@ -191,6 +214,11 @@ MORE_EXAMPLES = [
     (b"pattern 1401\na" + b"{65535}" * 200 + b"list\n", b"error limit\nerror none\n", 0),
     (b"pattern 18\na{65535}{65535}{0}", b"ok\n", 0),
     (b"pattern 17\n^a{65535}a{65535}pattern 18\n^^a{65535}a{65535}", b"ok\nerror limit\n", 0),
+    # searches that read on to the end
+    *[each_alone(12, *row) for row in FAR_READING],
+    each_alone(12, "é*b|é", "$0x", "éx", "é"),
+    (b"text 9\naaaaaaaaapattern 4\na*b|list\nreplace 1\n-print\n",
+     b"ok\nok\n" + b"".join(b"m 0 %d %d\n" % (k, k) for k in range(10)) + b"ok 10\nok 10\ntext 19\n" + b"-a" * 9 + b"-\n", 0),
     # the matches in a line
     (with_payload("text", "\na\na🐸b") + b"pattern 1\nblist\n", b"ok\nok\nm 2 3 4\nok 1\n", 0),
     (with_payload("text", "é🐸🐸") + with_payload("pattern", "🐸") + b"list\n", b"ok\nok\nm 0 1 3\nm 0 3 5\nok 2\n", 0),
@@ -440,6 +468,22 @@ def test_large_patterns():
     test("a long line under such a pattern, of which it has a front", differences(run(data), b"ok\nok\nok 0\nno match\n", 0))
 
 
+LETTERS = 1_000_000
+
+
+def test_far_reading():
+    """A megabyte of letters, each of which is a match of a pattern whose searches read on to the end, as one line and as
+    a whole text; and two such lines, of which one is edited."""
+    for row in FAR_READING:
+        data, out, status = each_alone(LETTERS, *row)
+        test(f"a megabyte of letters, each of which {row[0]} matches alone", differences(run(data), out, status))
+    text = "a" * LETTERS + "\r\n" + "a" * LETTERS
+    data = with_payload("text", text) + with_payload("pattern", "a*b|a") + b"edit 1 0 1 0 1\n-list\n"
+    rows = [b"m %d %d %d\n" % (line, place, place + 1) for line in (0, 1) for place in range(line, line + LETTERS)]
+    out = b"".join([b"ok\nok\nok\n", *rows, b"ok %d\n" % (2 * LETTERS)])
+    test("two lines of such letters, of which one is edited", differences(run(data), out, 0))
+
+
 def read_past(line, before=b""):
     """A command line, the number of which is a payload one byte over the limit, and `print`: they lie in a file with a
     hole. Answers the run."""
@@ -529,6 +573,7 @@ def test_all():
     test_lines_far_apart()
     test_at_ends()
     test_large_patterns()
+    test_far_reading()
     test_long_text()
     test_conversation()
     test_arguments()

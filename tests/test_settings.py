@@ -2,14 +2,14 @@
 must tell alike; how many groups it has, and why patterns are refused; and what the getters tell.
 
 Its answers are those that stand here, those of the table of settings in docs/searching.md, and those of the model of
-tests/walks.py to cases at random.
+tests/walks.py to cases at random, each asked with each engine on and off.
 """
 import itertools
 import random
 import re
 
 from driver import OUTSIDE, PROGRAM_WANT, TOO_LARGE, WANT, Case, Settings
-from driver import answer_to, check_memory, line_of, problems, written
+from driver import answer_to, check_memory, in_runs, line_of, problems, written
 from harness import example_rows, short, test
 from memory import library
 from random_patterns import Maker
@@ -17,7 +17,7 @@ from test_all import ANYWHERE, AT_START, FIRST, SIZES
 from test_searches import asked_at_random, listed
 from walks import Search, spelled, static_captures
 
-RANDOM_CASES = 5_000
+RANDOM_CASES, STATIC_CASES = 14_000, 5_000
 LINES = Settings("m")  # under which `^` and `$` are those of lines
 
 # What changes no answer: engines on and off, how many bytes a cache may keep, and how many states are made before.
@@ -179,7 +179,7 @@ def counts():
         yield about("counted", patterns, answer, given)
 
 
-def static_at_random(count=RANDOM_CASES):
+def static_at_random(count=STATIC_CASES):
     """How many groups stand in each match of patterns at random."""
     chance = random.Random(47)
     maker = Maker(chance, most_nodes=30)
@@ -205,11 +205,11 @@ def getters():
 
 def settings_at_random(chance):
     """Settings at random: whether empty matches inside a character are found, the byte that ends lines, whether all
-    groups are noted, and all of them as a field, with such as change no answer."""
+    groups are noted, and all of them as a field, with such as change no answer, but for engines."""
     inside, line_end = chance.random() < 0.3, chance.choice([b"\n", b"\n", b"a", b"\x81"])
     which = chance.choice(["all", "all", "implicit", "none"])
     given = [f"utf8_empty={int(not inside)}", f"line_terminator={line_end[0]}", f"which_captures={which}"]
-    given += [chance.choice(ways) for ways in (list(engines()), CAPACITIES, LIMITS, IDLE)]
+    given += [chance.choice(ways) for ways in (CAPACITIES, LIMITS, IDLE)]
     return inside, line_end, which == "all", ".".join(filter(None, given))
 
 
@@ -237,7 +237,9 @@ def at_random(count=RANDOM_CASES):
         answer = " ".join((f"{number}:" if len(trees) > 1 else "") + listed([groups]) for number, groups in noted)
         asked = slice_, span, anchored
         patterns = [spelled(tree) for tree in trees]
-        yield about("under", patterns, answer, given, haystack, chance.choice(SIZES), asked)
+        size = chance.choice(SIZES)
+        for ways in engines():
+            yield about("under", patterns, answer, f"{ways}.{given}", haystack, size, asked)
 
 
 def usage(given):
@@ -257,7 +259,7 @@ def engines_obey():
         ("fewer states are kept with hybrid off", lazy_off[2] < by_default[2]),
         ("fewer states are kept in a small cache", small[2] < by_default[2]),
         ("states are made with the regex without limits", all_made[0] > by_default[0]),
-        ("and none is made by searches then", all_made[2] == lazy_off[2]),
+        ("and a search keeps nothing more then", all_made[2] == all_made[1]),
         ("no state is made with the regex with dfa off", dense_off == by_default),
         ("too few bytes for all states", by_size == lazy_off),
         ("too few states", by_states == lazy_off),
@@ -288,10 +290,11 @@ def test_all():
         ("counts of groups, and refusals, under settings", counts()),
         ("groups in each match, of patterns at random", static_at_random()),
         ("answers of getters", getters()),
-        ("searches at random under settings at random", at_random()),
     ]:
         cases = list(cases)
         test(f"{len(cases)} {name}", problems(cases))
+    name = f"{RANDOM_CASES} searches at random under settings at random, each with each engine on and off"
+    test(name, in_runs(at_random(), 2_000))
     test("engines obey their settings", engines_obey())
     if library() is not None:
         given = "prefilter=" + written("b") + ".dfa_state_limit=9/which_captures=implicit"

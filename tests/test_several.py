@@ -1,7 +1,7 @@
 """What is found of several patterns that are searched for together, on bin/search-driver, which asks each engine: all
 matches in haystacks that lie in pieces, each with its pattern and its groups, perhaps in slices and spans, anchored, and
-anchored to a pattern, also by the iterators of both engines over automata, with a cache and with its clone; all in parts
-of ropes, by a `Regex`; and why patterns are refused.
+anchored to a pattern, also by the iterators of both engines over automata, with a cache and with its clone; all by a
+`Regex` with each engine on and off, and with caches of all sizes; all in parts of ropes; and why patterns are refused.
 
 Its answers are those that stand here, and those of the model of tests/walks.py to cases at random.
 """
@@ -14,9 +14,12 @@ from random_patterns import Maker
 from test_all import ANYWHERE, AT_START, FIRST, SECOND, SIZES
 from test_regexes import AROUND, in_rope
 from test_searches import asked_at_random, listed
+from test_settings import CAPACITIES, engines
+from test_settings import about as about_settings
 from walks import Search, spelled
 
 RANDOM_CASES = 6_000
+ROOMS = itertools.cycle(CAPACITIES[:3])  # so many that each comes with each engine
 
 # Patterns, haystacks, and all matches; where not all is asked for, also the slice, the span and where matches start.
 VECTORS = [
@@ -80,6 +83,13 @@ def about(patterns, haystack, answer, cut=0, asked=None):
     return Case(f"{shown} in {short(haystack)}, cut by {cut}, {asked}", line_of("several", *fields), answer)
 
 
+def under(patterns, haystack, answer, cut=0, asked=None):
+    """Cases by a `Regex` with each engine on and off, and with caches of which each size comes in turn."""
+    for ways in engines():
+        given = ".".join(filter(None, (ways, next(ROOMS))))
+        yield about_settings("under", patterns, answer, given, haystack, cut, asked)
+
+
 def answer_of(trees, haystack, asked):
     """The matches that the model finds, as the program writes them."""
     slice_, span, anchored = asked
@@ -92,6 +102,7 @@ def vectors():
     for (patterns, haystack, answer, *asked), around in zip(VECTORS, itertools.cycle(AROUND)):
         for size in SIZES:
             yield about(patterns, haystack.encode(), answer, size, *asked)
+            yield from under(patterns, haystack.encode(), answer, size, *asked)
         yield in_rope("rope", patterns, haystack, answer, (1,), *asked)
         yield in_rope("rope", patterns, haystack, answer, (2, 1, 3), *(asked or [None]), around)
 
@@ -102,7 +113,9 @@ def far():
         part = FAR * b"-" + behind.encode()
         for size in SIZES:
             told = [(k, at + start, at + end) for at in (FAR, len(part) + FAR) for k, start, end in found]
-            yield about(patterns, 2 * part, " ".join(f"{k}:{start}-{end}" for k, start, end in told), size)
+            answer = " ".join(f"{k}:{start}-{end}" for k, start, end in told)
+            yield about(patterns, 2 * part, answer, size)
+            yield from under(patterns, 2 * part, answer, size) if size == 5 else ()
 
 
 def at_random(count=RANDOM_CASES):
@@ -115,7 +128,9 @@ def at_random(count=RANDOM_CASES):
         slice_, span, is_tied = asked_at_random(chance, len(haystack))
         asked = slice_, span, chance.randint(AT_START, len(trees) + FIRST) if is_tied else ANYWHERE
         answer = answer_of(trees, haystack, asked)
-        yield about(patterns, haystack, answer, chance.choice(SIZES), asked)
+        size = chance.choice(SIZES)
+        yield about(patterns, haystack, answer, size, asked)
+        yield from under(patterns, haystack, answer, size, asked)
         if (text := haystack.decode(errors="ignore")).encode() == haystack:
             yield in_rope("rope", patterns, text, answer, (chance.randint(1, 4), 1), asked, chance.choice(AROUND))
 
@@ -123,6 +138,6 @@ def at_random(count=RANDOM_CASES):
 def test_all():
     test("several patterns are found as they should", problems(vectors()))
     test("several patterns are found far from one another", problems(far()))
-    test("several patterns at random are found as by the model", in_runs(at_random()))
+    test(f"several patterns at random, {RANDOM_CASES} searches, are found as by the model", in_runs(at_random(), 2_000))
     test("why several patterns are refused", problems(about(patterns, b"", answer) for patterns, answer in REFUSED))
     check_memory(about(["a|ab", "(b)+"], b"abb", "0:0-1,- 1:1-3,2-3", 1), [WANT])

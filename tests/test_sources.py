@@ -48,6 +48,10 @@ def test_regexes():
     test("a regex is built where its searches are counted alone", wrong + ([] if len(built) == 1 else [f"{built}"]))
     named = {path.split("/")[0] for path in that_name(r"\bregex_cursor\s*::", above)}
     test("no other crate above names regex_cursor", [f"{crate} does" for crate in named - {"rope_search_reports"}])
+    kept = ("rope_search_reports/src/rows/counted.rt", "rope_search_reports/src/laws.rt")
+    reports = [(path, re.sub(r"^ *ghost use .*", "", text, flags=re.M)) for path, text in above if path not in kept]
+    wrong = that_name(r"\bregex_cursor\b", reports)
+    test("reports name regex_cursor where searches are counted alone", [f"{path} does" for path in wrong])
 
 
 def test_breaks():
@@ -57,11 +61,12 @@ def test_breaks():
     test("which line breaks count is named once", [] if named == ["ropey_tree/src/breaks.rt"] else [f"{named}"])
 
 
-def test_conversions():
-    """Places are told as positions, and found by them, with five conversions of a rope at most."""
+def test_positions():
+    """Places are told as positions, and found by them, by three chunks of a rope at most, with no conversion."""
     text = dict(sources())["rope_search_reports/src/positions.rt"]
-    count = len(re.findall(r"\.\w+_to_\w+\(", text))
-    test("positions take at most five conversions", [] if 0 < count <= 5 else [f"they take {count}"])
+    test("positions take no conversion", re.findall(r"\.\w+_to_\w+\(", text))
+    count = len(re.findall(r"\.chunk\w*\(", text))
+    test("positions take at most three chunks", [] if 0 < count <= 3 else [f"they take {count}"])
 
 
 def test_laws():
@@ -120,7 +125,7 @@ def test_all():
     test_length()
     test_laws()
     test_messages()
-    test_conversions()
+    test_positions()
     test_counters()
     test_regexes()
     test_breaks()
