@@ -36,6 +36,8 @@ LAST_LINE = "zebra ZEBRA := 1.5;"
 REACHED = [
     "ZEBRA", "(?i)zebra", "zebra|gnu|okapi", "[A-Z]{2,}", r"[0-9]+\.[0-9]+", r"\w+\s*:=\s*\w+", ".*;"
 ]
+# Patterns that match each letter `a` of a line, and each search of which reads on to the line's end.
+HOSTILE = ["a*b|a", ".*?x|a", ".*x|.", "(a|b)*c|a", "(?:a{0,200})*b|a"]
 # A pattern, a template, and what Python calls that.
 REPLACED = [
     ("marker", "bookmarks", "bookmarks"),
@@ -192,7 +194,7 @@ def one_line(folder, tiny):
     """The report of a long line, and edits, each of which searches it whole again."""
     line = lines_of(400 if tiny else 20_000).replace(b"\n", b" ")
     letters = letters_in(1, 10, columns=len(line))
-    for pattern in ["let", EXPRESSIONS[0], EXPRESSIONS[2]]:
+    for pattern in LITERALS + EXPRESSIONS:
         text, setting = text_and_pattern(line, pattern)
         for name, program in programs().items():
             batches = {"report": [setting], "a letter": letters, "its undo": [UNDO] * len(letters)}
@@ -203,16 +205,19 @@ def one_line(folder, tiny):
 
 
 def grow_hostile(folder, tiny):
-    """The report of a pattern that reads on to the line's end before it is sure of each letter."""
-    last = {}
-    for letters in (500, 1_000) if tiny else (5_000, 10_000, 20_000):
-        text, setting = text_and_pattern(b"a" * letters, "a*b|a")
-        for name, program in programs().items():
-            [(report, said)] = taken(program, [text], [setting], runs=3)
-            yield f"{letters:,} letters", name, nanos([report]), unit_of(said == b"ok\n")
-            if name in last and last[name] > 0:
-                yield f"{letters:,} letters", f"{name}, beside half as many", f"{report / last[name]:.1f}", "times"
-            last[name] = report
+    """The report of patterns that read on to the line's end before they are sure of each letter."""
+    for pattern in HOSTILE:
+        last = {}
+        for letters in (1_000, 10_000) if tiny else (10_000, 100_000, 1_000_000):
+            text, setting = text_and_pattern(b"a" * letters, pattern)
+            for name, program in programs().items():
+                if name != OURS and name in last:
+                    continue  # it takes as long as the square
+                [(report, said)] = taken(program, [text], [setting], runs=3)
+                yield f"`{pattern}`: {letters:,} letters", name, nanos([report]), unit_of(said == b"ok\n")
+                if last.get(name):
+                    yield f"`{pattern}`: {letters:,} letters", f"{name}, beside a tenth as many", f"{report / last[name]:.1f}", "times"
+                last[name] = report
 
 
 def reach_last(folder, tiny):

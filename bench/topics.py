@@ -77,13 +77,15 @@ TEXTS = sized("ascii", "mixed", "japanese", sizes=(10 * MB,))
 class Topic(NamedTuple):
     """What is measured, by runs: each the text that it is measured over, and what `bin/bench` is told beside it, or a
     call of `sessions`, which measures the program itself. The page leaves out what a form finds in `OF: WHAT`, and the
-    topic where that is all. The topic of `bin/bench` may have another name. Some take what is built besides."""
+    topic where that is all. The topic of `bin/bench` may have another name. Some take what is built besides. Behind the
+    table the page tells what is in the way of aims that are missed."""
 
     measures: str
     runs: list
     left_out: str = "(?!)"
     named: str = ""
     built: tuple = ()
+    in_the_way: str = ""
 
 
 # The most that a figure should be, or of a speed the least, by the topic and by what it is or what it is of.
@@ -107,7 +109,7 @@ AIMS = {
     "replace": {sessions.by_template(*replaced[:2]): "the plain program's" for replaced in sessions.REPLACED},
     "next": {f"`{pattern}`": "5 ns" for pattern in sessions.REACHED},
     "enter": {"a break under `let`": "1.2 ms"},
-    "hostile": dict.fromkeys(("10,000 letters", "20,000 letters"), "2.0 times half as many"),
+    "hostile": {f"`{pattern}`: 1,000,000 letters": "10 times" for pattern in sessions.HOSTILE},
     "iterators": {
         f"{what}{way}": f"{part} of the string's" for way in ("", " backwards")
         for what, part in [("bytes", "3/4"), ("characters", "3/4"), ("lines", "1/2")]
@@ -142,25 +144,26 @@ TOPICS = {
         [sessions.load_print],
     ),
     "list": Topic(
-        "the processor's time of the report of a pattern in 400,000 lines of 50 bytes, beside the plain Rust program, "
-        "`grep -c` (`-F` for literals, else `-P`) and `rg -c`",
+        "the report of a pattern in 400,000 lines of 50 bytes, beside `grep -c` (`-F` for literals, else `-P`) and "
+        "`rg -c`",
         [sessions.list_matches],
         left_out="Python|: matches",
+        in_the_way=r"`\w+\s*=>\s*\w+` takes two automata for a match, one to its end and one back",
     ),
     "instructions": Topic(
         "instructions, as valgrind's callgrind counts them, of the report of a pattern in 20,000 lines of source text, "
-        "of `replace` in them, and of `edit` of a letter, beside the plain Rust program, whose number is the aim of "
-        "other reports and replacements",
+        "of `replace` in them, and of `edit` of a letter; the plain Rust program's number is the aim of other reports "
+        "and replacements",
         [sessions.count_instructions],
+        in_the_way="of a line with a `TODO` the looks through the four lines before it; of a letter the copy "
+        "of the path to it, with eight requests for memory, and counts of short leaves",
     ),
     "growth": Topic(
-        "the processor's time of a letter put in a random line under the pattern `let`, as the text of 50 bytes a line "
-        "grows, beside the plain Rust program",
+        "a letter put in a random line under the pattern `let`, as the text of 50 bytes a line grows",
         [sessions.grow],
     ),
     "typing": Topic(
-        "the processor's time of a letter with the report of a pattern in 400,000 lines, and of its `undo`, and the "
-        "memory that its text keeps, beside the plain Rust program, which searches all again",
+        "a letter with the report of a pattern in 400,000 lines, its `undo`, and the memory that its text keeps",
         [sessions.edit_lines],
     ),
     "embedded": Topic(
@@ -170,33 +173,31 @@ TOPICS = {
         built=("bin/librope_search.a", "bin/librope_search.so"),
     ),
     "replace": Topic(
-        "the processor's time of `replace` of all matches in 400,000 lines, with the report of the new text, beside "
-        "the plain Rust program, and Python's `re.sub`, which makes no report",
+        "`replace` of all matches in 400,000 lines, with the report of the new text, beside Python's `re.sub`, which "
+        "makes none",
         [sessions.replace_matches],
         left_out=": matches",
+        in_the_way="with groups the PikeVM reads each match once more",
     ),
     "next": Topic(
-        "the processor's time of `next` from the start of 13 MB to the only match, in the last line, a byte, beside "
-        "the plain Rust program",
+        "`next` from the start of 13 MB to the only match, in the last line, a byte",
         [sessions.reach_last],
     ),
     "enter": Topic(
-        "the processor's time of a break put in at the top of 400,000 lines, behind which the rows of all lines move, "
-        "and of its `undo`, beside the plain Rust program",
+        "a break put in at the top of 400,000 lines, behind which the rows of all lines move, and its `undo`",
         [sessions.break_at_top],
         left_out="of a letter|of a break without",
     ),
     "line": Topic(
-        "the processor's time of the report of a pattern in one line of 1 MB, and of a letter in it, after which the "
-        "line is searched whole again, beside the plain Rust program",
+        "the report of a pattern in one line of 1 MB, and a letter in it, after which the line is searched whole again",
         [sessions.one_line],
         left_out=": its undo",
     ),
     "hostile": Topic(
-        "the processor's time of the report of `a*b|a` in one line of letters `a`, where a search reads on to the "
-        "line's end, beside the plain Rust program; four times half as many is growth with the square",
+        "the report of a pattern in one line of letters `a`, each of which it matches after a search that reads on to "
+        "the line's end; the plain Rust program, which takes as long as the square, has the shortest line alone",
         [sessions.grow_hostile],
-        left_out="program, beside",
+        left_out=r"program, beside|: 100,000 letters|`(?!a\*b)[^`]+`: 10,000",
     ),
     "indices": Topic(
         "counts and conversions of `str_indices`, beside plain loops",
@@ -281,5 +282,6 @@ TOPICS = {
         "all matches of the first 1, 10 and 100 words of a text, each a pattern of one `Regex`, beside their "
         "alternation",
         over(TEXTS[:1], "1", "10", "100"),
+        left_out=": matches",
     ),
 }
