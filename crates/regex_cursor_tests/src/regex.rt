@@ -40,8 +40,8 @@ fn span_of(item: Option<Result<Match, MatchError>>) -> Result<Option<Span>, Matc
     }
 }
 
-/// Matches one after the other. The input is moved on, and back: where the last match didn't end, an
-/// empty one is found.
+/// Matches one after the other. The input is moved on, and back: where the last match didn't end,
+/// an empty one is found.
 #[test]
 fn find_matches(rt: HostRuntime) -> Result<(), Fail> {
     let re = Regex::new(rt.alloc(), "x*")?;
@@ -92,8 +92,8 @@ fn of_all(alloc: Global) -> Result<Regex, BuildError> {
     builder.build_many(alloc, &["a", "(a)b"])
 }
 
-/// Parts start at 0, wherever the input was moved to. They are counted, also where the match is looked
-/// for that ends last.
+/// Parts start at 0, wherever the input was moved to. They are counted, also where the match is
+/// looked for that ends last.
 #[test]
 fn parts(rt: HostRuntime) -> Result<(), Fail> {
     let re = Regex::new(rt.alloc(), ",")?;

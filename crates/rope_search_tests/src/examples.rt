@@ -139,8 +139,9 @@ fn replies(rt: HostRuntime) -> Result<(), Fail> {
     Ok(())
 }
 
-/// `Payload`: one that was kept, one that is too long to keep, and one for which there was no memory.
-/// `Limits`: one on the bytes of a text, which doesn't apply to patterns. A refusal leaves the text.
+/// `Payload`: one that was kept, one that is too long to keep, and one for which there was no
+/// memory. `Limits`: one on the bytes of a text, which doesn't apply to patterns. A refusal leaves
+/// the text.
 #[test]
 fn payloads(rt: HostRuntime) -> Result<(), Fail> {
     let mut tick = Lines::new(&rt);

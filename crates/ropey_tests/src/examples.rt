@@ -161,8 +161,8 @@ fn counts_its_own(slice: RopeSlice<'_>) -> bool {
         && copy.get_char(4) == Some('🐸')
 }
 
-/// Whether the parts of a rope are there that lie in it. Where a `get_` form answers a slice, the plain
-/// form has its condition.
+/// Whether the parts of a rope are there that lie in it. Where a `get_` form answers a slice, the
+/// plain form has its condition.
 fn has_parts(rope: &Rope) -> bool {
     if rope.get_slice(..5).is_none() || rope.get_byte_slice(8..).is_none() {
         return false;

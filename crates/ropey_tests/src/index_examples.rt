@@ -4,8 +4,8 @@ use counters::Counter;
 use str_indices::byte_chunk::{ByteChunk, Chunk};
 use str_indices::{chars, lines, lines_crlf, lines_lf, utf16};
 
-/// A character index of an editor is a byte index into its text. A byte inside a character belongs to
-/// it.
+/// A character index of an editor is a byte index into its text. A byte inside a character belongs
+/// to it.
 fn are_characters(text: &str) -> bool {
     chars::count(text) == 4
         && chars::to_byte_idx(text, 2) == 3

@@ -118,8 +118,8 @@ fn bytes_that_begin_no_text(rt: HostRuntime) -> Result<(), Fail> {
     Ok(())
 }
 
-/// Whether it is told of bytes that they end inside a character, and of a read that fails before that
-/// it does.
+/// Whether it is told of bytes that they end inside a character, and of a read that fails before
+/// that it does.
 fn ends_inside(alloc: Global, bytes: &[u8], step: usize) -> bool {
     let calls = bytes.len().div_ceil(step.max(1));
     fault_of(alloc, bytes, step, 0) == Some(ReadFault::Utf8)

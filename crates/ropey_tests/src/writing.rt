@@ -59,7 +59,8 @@ fn is_kind(error: Option<io::Error>, kind: ErrorKind) -> bool {
     }
 }
 
-/// Whether a failure of one call is told, and no more was written by then than the calls before took.
+/// Whether a failure of one call is told, and no more was written by then than the calls before
+/// took.
 fn fails_at(
     alloc: Global,
     rope: &Rope,

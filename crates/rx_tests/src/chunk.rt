@@ -95,8 +95,8 @@ fn built(alloc: Global, config: Config, pattern: &str) -> Result<PikeVM, Fail> {
     Ok(builder.clone()?.build(alloc, pattern)?)
 }
 
-/// A caller's prefilter gives way to none, and changes no match: here one that doesn't begin with its
-/// needle. Where group 0 alone is noted, captures have no other group, and all groups are still
+/// A caller's prefilter gives way to none, and changes no match: here one that doesn't begin with
+/// its needle. Where group 0 alone is noted, captures have no other group, and all groups are still
 /// counted.
 #[test]
 fn under_settings(rt: HostRuntime) -> Result<(), Fail> {

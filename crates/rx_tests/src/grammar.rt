@@ -95,8 +95,8 @@ fn config(rt: HostRuntime) -> Result<(), Fail> {
     Ok(())
 }
 
-/// A set of characters, as its maximal ranges. Ordinals leave the surrogates out. Ranges may come in
-/// any order, and one that ends before it begins is empty.
+/// A set of characters, as its maximal ranges. Ordinals leave the surrogates out. Ranges may come
+/// in any order, and one that ends before it begins is empty.
 #[test]
 fn character_set(rt: HostRuntime) -> Result<(), Fail> {
     let letters = vec![in rt.alloc();

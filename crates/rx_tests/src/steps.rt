@@ -30,8 +30,8 @@ fn before(at: usize, byte: Option<u8>) -> Place
     }
 }
 
-/// Whether a place is as it was made: where it is, the byte that comes next, and the looks that hold
-/// there.
+/// Whether a place is as it was made: where it is, the byte that comes next, and the looks that
+/// hold there.
 fn is_before_a(place: &Place) -> bool {
     place.at.get() == 7
         && place.byte == Some(b'a')

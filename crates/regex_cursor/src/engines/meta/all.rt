@@ -222,8 +222,8 @@ impl Regex {
         Ok(matches_of(alloc, &listed)?)
     }
 
-    /// Lists all matches that `captures_iter` gives, leftmost first as `all_matches` does, each with
-    /// all its groups in captures of its own. The one error is `Memory`.
+    /// Lists all matches that `captures_iter` gives, leftmost first as `all_matches` does, each
+    /// with all its groups in captures of its own. The one error is `Memory`.
     ///
     /// It goes by two passes alone, so that at most six times as many places are read as there are
     /// inside span, slice and content; `read` counts them. It takes memory for the captures, and as
