@@ -1,5 +1,5 @@
 -- A text that is copied chunk by chunk.
-use Rattle.std.proofs.Common.{◌≡◌, ℕ, ◌⊎◌, inl, inr, List, [], ◌++◌, ap, sym, ◌∙◌, append_assoc, append-nil}
+use Rattle.std.proofs.Common.{◌≡◌, ℕ, ◌⊎◌, inl, inr, List, ◌++◌, ap, sym, ◌∙◌, append_assoc}
 use Rattle.std.specs.Prelude.{Result, Ok, Err, IfErr}
 use Rattle.ropey_tree.specs.declared.error.Error.{Error}
 use Rattle.ropey_tree.specs.declared.error.Error.TheVariants.{Size, Memory}
@@ -22,9 +22,6 @@ module _ (old new ahead text : List ℕ) (h : IsCopied old new ahead text) where
     new_is = appended ∙ ap (λ t. t ++ chunk) h.new_is ∙ append_assoc old h.front chunk;
     parts = append_assoc h.front chunk after ∙ ap (λ t. h.front ++ t) (sym next) ∙ h.parts;
   }
-
-  pub copied_all : ahead ≡ [] → new ≡ old ++ text
-  copied_all none = h.new_is ∙ ap (λ t. old ++ t) (sym (append-nil h.front) ∙ ap (λ t. h.front ++ t) (sym none) ∙ h.parts)
 
 -- a refusal that isn't for the size
 pub only_memory : {T : Type 0} (r : Result T Error) → IfErr r (λ error. (error ≡ Size) ⊎ (error ≡ Memory)) → (r ≡ Err Size → ⊥) → IfErr r (λ error. error ≡ Memory)

@@ -8,7 +8,7 @@ use Rattle.std.proofs.lemmas.List.{append-nil, nil_from_length, take-take, take_
 use Rattle.std.proofs.lemmas.List.Folds.{concat-append}
 use Rattle.std.proofs.lemmas.Str.{length-le-encodes, chars_from_encodes, chars-encodes, encodes-chars, chars-append, encodes-append, IsUtf8-take}
 use Rattle.str_indices.specs.Text.{byte_len}
-use Rattle.ropey_tree.specs.Cutting.{IsCutting, IsText, IsBoundaryOf}
+use Rattle.ropey_tree.specs.Cutting.{IsCutting, IsRopeText, IsBoundaryOf}
 use Rattle.ropey_tree.specs.Edits.{IsReplaced, IsEdited}
 use Rattle.ropey_tree.specs.NodeView.{NodeView}
 use Rattle.ropey_tree.specs.Splits.{IsSplit}
@@ -270,8 +270,8 @@ no_halves ps at none h =
     record {
       text = sym (ap concat none);
       place = start;
-      after = λ xs text. subst (λ (qs : List (List ℕ)). IsText (xs ++ qs)) none text;
-      before = λ ys text. subst (λ (qs : List (List ℕ)). IsText (qs ++ ys)) none text;
+      after = λ xs text. subst (λ (qs : List (List ℕ)). IsRopeText (xs ++ qs)) none text;
+      before = λ ys text. subst (λ (qs : List (List ℕ)). IsRopeText (qs ++ ys)) none text;
     }
 
 -- ---- on success

@@ -10,13 +10,13 @@ use Rattle.std.proofs.lemmas.Iterator.Consumers.{YieldsList-from_shown}
 use Rattle.std.proofs.lemmas.Iterator.{YieldsList}
 use Rattle.std.proofs.lemmas.Str.{encodes-chars}
 use Rattle.str_indices.specs.Text.{byte_len}
-use Rattle.ropey_tree.specs.Cutting.{IsCutting, IsText}
+use Rattle.ropey_tree.specs.Cutting.{IsCutting, IsRopeText}
 use Rattle.ropey.proofs.Pieces.{bytes-concat, byte_len-append, first_piece, rest_cut}
 use Rattle.ropey.specs.Chunks.{text_of, joined}
 use Rattle.ropey.specs.Iter.{TwoWay, GivesChunk}
 
 -- pieces of a text that fits
-pub fits_in : (ps : List (List ℕ)) (text : List ℕ) → IsCutting ps → concat ps ≡ chars text → IsUtf8 text → length text < 2 ^ 63 → IsText ps
+pub fits_in : (ps : List (List ℕ)) (text : List ℕ) → IsCutting ps → concat ps ≡ chars text → IsUtf8 text → length text < 2 ^ 63 → IsRopeText ps
 fits_in ps text cut joined utf8 fits = record { cut = cut; fits = omega (arith, bytes-concat ps, ap byte_len joined, ap length (encodes-chars text utf8), fits) }
 
 -- one part more

@@ -5,7 +5,7 @@ use Rattle.std.proofs.lemmas.List.Sums.{sum_by-cons}
 use Rattle.std.proofs.lemmas.Str.{encodes-append}
 use Rattle.str_indices.specs.Text.{byte_len}
 use Rattle.ropey_tree.specs.Counts.{total}
-use Rattle.ropey_tree.specs.Cutting.{IsPiece, IsCutting, IsText}
+use Rattle.ropey_tree.specs.Cutting.{IsPiece, IsCutting, IsRopeText}
 
 pub byte_len-append : (s t : List ℕ) → byte_len (s ++ t) ≡ byte_len s + byte_len t
 byte_len-append s t = ap length (encodes-append s t) ∙ length-append _ _
@@ -23,5 +23,5 @@ pub bytes-concat : (ps : List (List ℕ)) → (total ps).bytes ≡ byte_len (con
 bytes-concat [] = refl
 bytes-concat (p ∷ ps) = sum_by-cons byte_len p ps ∙ ap (λ n. byte_len p + n) (bytes-concat ps) ∙ sym (byte_len-append p (concat ps))
 
-pub text_fits : (ps : List (List ℕ)) → IsText ps → byte_len (concat ps) < 2 ^ 63
+pub text_fits : (ps : List (List ℕ)) → IsRopeText ps → byte_len (concat ps) < 2 ^ 63
 text_fits ps text = omega (arith, bytes-concat ps, text.fits)

@@ -12,7 +12,7 @@ use Rattle.std.proofs.lemmas.Slice.{take-put_mid}
 use borrow.Rule.Slice.PartMut.{put_mid}
 use Rattle.ropey.specs.declared.read_fault.ReadFault.{ReadFault}
 use Rattle.ropey.specs.declared.read_fault.ReadFault.TheVariants.{Read, Utf8, Memory, Turns}
-use Rattle.ropey.specs.Reading.{BeginsText, IsCutAt, IsMet, GivesAll, GivesUntil, GivesMore}
+use Rattle.ropey.specs.Reading.{BeginsText, IsCutAt, MeetsFault, GivesToEnd, GivesUntil, GivesMore}
 
 -- ---- a read into the room behind some bytes
 pub read_behind : (bytes buf : List ℕ) (len k count : ℕ) → len ≤ length bytes → count ≤ length buf → take (len + count) (put_mid len k bytes buf) ≡ take len bytes ++ take count buf
@@ -24,7 +24,7 @@ read_behind bytes buf len k count within few =
     ∙ ap (λ n. take (n + count) (take len bytes ++ buf)) (sym front) ∙ take-append-add (take len bytes) buf count
 
 pub read_more : (left left' : Option (List ℕ)) (old new buf : List ℕ) (count : ℕ) → Consumes left left' (take count buf) × (count ≡ 0 → 0 < length buf → IsAtEnd left') → 0 < length buf → count ≤ length buf
-    → new ≡ old ++ take count buf → MatchBool (nat_lt 0 count) (GivesMore left left' old new) ((new ≡ old) × GivesAll left left' [])
+    → new ≡ old ++ take count buf → MatchBool (nat_lt 0 count) (GivesMore left left' old new) ((new ≡ old) × GivesToEnd left left' [])
 read_more left left' old new buf zero told room few is = (is ∙ append-nil old, record { consumed = told.0; at_end = told.1 refl room })
 read_more left left' old new buf (suc n) told room few is =
     let yes : nat_lt 0 (suc n) ≡ true = grind (arith, nat_tests) in
@@ -47,7 +47,7 @@ begins_after front bytes text begun = (begun.0, text_behind front (bytes ++ begu
 pub begins_cut : (bytes text rest : List ℕ) → IsCutAt bytes text rest → BeginsText bytes
 begins_cut bytes text rest cut = subst BeginsText (sym cut.parts) (begins_behind text rest cut.utf8 cut.begins)
 
-pub meets_utf8 : (fault : ReadFault) (front bytes : List ℕ) (left : Option (List ℕ)) → fault ≡ Utf8 → IsUtf8 front → (BeginsText bytes → ⊥) → IsMet fault (front ++ bytes) left
+pub meets_utf8 : (fault : ReadFault) (front bytes : List ℕ) (left : Option (List ℕ)) → fault ≡ Utf8 → IsUtf8 front → (BeginsText bytes → ⊥) → MeetsFault fault (front ++ bytes) left
 meets_utf8 fault front bytes left is text none = rw is (inl (λ begun. none (begins_after front bytes text begun)))
 
 -- ---- the part of a character that stays
@@ -83,7 +83,7 @@ module _ (a b : Option (List ℕ)) (text part : List ℕ) (turns : ℕ) (h : IsR
   pub too_many : 2 ^ 62 ≤ turns → GivesUntil Turns a b
   too_many over = record { given = encode_utf8_all text ++ part; consumed = h.consumed; met = (begun, omega (arith, over, h.many)) }
 
-  module _ (c : Option (List ℕ)) (ends : GivesAll b c []) where
+  module _ (c : Option (List ℕ)) (ends : GivesToEnd b c []) where
     all_given : Consumes a c (encode_utf8_all text ++ part)
     all_given = subst (Consumes a c) (append-nil (encode_utf8_all text ++ part)) (Consumes-trans a b c (encode_utf8_all text ++ part) [] h.consumed ends.consumed)
 

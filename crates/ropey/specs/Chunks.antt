@@ -6,18 +6,18 @@ use Rattle.std.specs.Str.{chars}
 use Rattle.std.specs.Borrow.{Bor}
 use Rattle.ropey_tree.specs.declared.counts.Counts.{Counts}
 use Rattle.ropey_tree.specs.Counts.{counts_of}
-use Rattle.ropey_tree.specs.Cutting.{IsText}
+use Rattle.ropey_tree.specs.Cutting.{IsRopeText}
 use Rattle.ropey_walk.specs.Chunks.{text_of}
 -- they are those of a slice
-pub use Rattle.ropey_walk.specs.Chunks.{text_of, line_breaks, piece_of, ShowsChunk, ShowsChunkOfBreak}
+pub use Rattle.ropey_walk.specs.Chunks.{text_of, line_breaks, lone_piece, ShowsChunk, ShowsChunkOfBreak}
 -- how a rope is cut, in the words of the tree
-pub use Rattle.ropey_tree.specs.Cutting.{IsPiece, IsCutting, IsText, IsFull, AreFull}
+pub use Rattle.ropey_tree.specs.Cutting.{IsPiece, IsCutting, IsRopeText, IsFull, AreFull}
 -- which characters break its lines
 pub use Rattle.ropey_tree.specs.Breaks.{is_break}
 
 -- pieces that a rope may hold, and what their text counts
 pub record IsRopeOf (pieces : List (List ℕ)) (counts : Counts) : Type 0 where
-  pub text : IsText pieces
+  pub text : IsRopeText pieces
   pub counted : counts ≡ counts_of (text_of pieces)
 
 -- ---- what an iterable yields, by its ghost members `into_iter_gives` and `next_gives`

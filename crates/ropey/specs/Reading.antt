@@ -10,23 +10,23 @@ abbrev pub BeginsText : List ℕ → Type 0
 BeginsText bytes = (more : List ℕ) × IsUtf8 (bytes ++ more)
 
 -- a reader gave these bytes and told its end
-pub record GivesAll (left left' : Option (List ℕ)) (bytes : List ℕ) : Type 0 where
+pub record GivesToEnd (left left' : Option (List ℕ)) (bytes : List ℕ) : Type 0 where
   pub consumed : Consumes left left' bytes
   pub at_end : IsAtEnd left'
 
 -- what holds of the bytes that a reader gave, and of those that it has left, where a fault is the first that was met
-abbrev pub IsMet : ReadFault → List ℕ → Option (List ℕ) → Type 0
-IsMet Read given left = BeginsText given
-IsMet Utf8 given left = (BeginsText given → ⊥) ⊎ ((IsUtf8 given → ⊥) × IsAtEnd left)
-IsMet Memory given left = BeginsText given
-IsMet Size given left = BeginsText given × (2 ^ 63 ≤ length given)
-IsMet Turns given left = BeginsText given × (2 ^ 62 ≤ length given)
+abbrev pub MeetsFault : ReadFault → List ℕ → Option (List ℕ) → Type 0
+MeetsFault Read given left = BeginsText given
+MeetsFault Utf8 given left = (BeginsText given → ⊥) ⊎ ((IsUtf8 given → ⊥) × IsAtEnd left)
+MeetsFault Memory given left = BeginsText given
+MeetsFault Size given left = BeginsText given × (2 ^ 63 ≤ length given)
+MeetsFault Turns given left = BeginsText given × (2 ^ 62 ≤ length given)
 
 -- a reader gave some bytes, and then a fault was met
 pub record GivesUntil (fault : ReadFault) (left left' : Option (List ℕ)) : Type 0 where
   pub given : List ℕ
   pub consumed : Consumes left left' given
-  pub met : IsMet fault given left'
+  pub met : MeetsFault fault given left'
 
 -- bytes that were read are a text, and then nothing or a part of a character: a text begins so, and it is none
 pub record IsCutAt (bytes text rest : List ℕ) : Type 0 where

@@ -28,7 +28,6 @@ use crate::trees::{halves_of, replaced};
 use ropey_tree::error::Error;
 use ropey_tree::seams;
 use ropey_walk::ranges::TextRange;
-use std::alloc::AllocError;
 
 impl Rope {
     /// Replaces what stands from one byte index up to another, both between two characters, by a

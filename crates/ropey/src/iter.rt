@@ -9,7 +9,7 @@
 
 ghost use Rattle.std.specs.Prelude.{◌≡◌, ◌+◌, ◌-◌, ◌<◌, ◌≤◌, ◌↔◌, length, SomeIff, IfSome, IsNone, encode_utf8_all};
 ghost use Rattle.str_indices.specs.Text.{byte_len};
-ghost use Rattle.ropey.specs.Chunks.{text_of, line_breaks, IsText};
+ghost use Rattle.ropey.specs.Chunks.{text_of, line_breaks, IsRopeText};
 ghost use Rattle.ropey.specs.Iter.{before_item, lines_of, StandsBefore, StandsBeforeBreak, CutsNoCrLf};
 
 use crate::rope::Rope;
@@ -93,7 +93,7 @@ impl Rope {
     /// are the text, with no character and no CR LF cut between them. An empty text has none.
     pub fn chunks(&self) -> Chunks<'_>
         ensures pieces { result ≡ before_item 0 self.now }
-        ensures cut { IsText self.now }
+        ensures cut { IsRopeText self.now }
         ensures whole { CutsNoCrLf self.now }
     {
         self.whole().chunks()

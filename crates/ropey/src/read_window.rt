@@ -1,10 +1,10 @@
 //! The fixed array that a reader is read through.
 
-ghost use Rattle.std.specs.Prelude.{◌≡◌, ℕ, List, ◌<◌, ◌≤◌, ◌++◌, ◌==◌, [], length, take, drop, Ok, Err, IfOk, OnOk, OnErr, IfErr, MatchResult, MatchBool};
+ghost use Rattle.std.specs.Prelude.{◌≡◌, ℕ, List, ◌<◌, ◌≤◌, ◌++◌, ◌==◌, [], length, take, Ok, Err, IfOk, OnOk, OnErr, IfErr, MatchBool};
 ghost use Rattle.std.specs.Prelude.{Option, encode_utf8_all};
 ghost use Rattle.std.specs.Str.{IsUtf8, chars};
-ghost use Rattle.std.specs.Io.KnownBytes.{Consumes, Keeps, IsAtEnd};
-ghost use Rattle.ropey.specs.Reading.{BeginsText, IsCutAt, IsMet, GivesAll, GivesMore};
+ghost use Rattle.std.specs.Io.KnownBytes.{Keeps};
+ghost use Rattle.ropey.specs.Reading.{BeginsText, IsCutAt, MeetsFault, GivesToEnd, GivesMore};
 
 use crate::read_fault::ReadFault;
 use crate::rope_builder::RopeBuilder;
@@ -59,7 +59,7 @@ impl ReadWindow {
         ensures ok { IfOk result (λ some. MatchBool some
             (GivesMore (R.remaining reader.old) (R.remaining reader.new) self.old self.new)
             ((self.new ≡ self.old) ×
-            GivesAll (R.remaining reader.old) (R.remaining reader.new) [])) }
+            GivesToEnd (R.remaining reader.old) (R.remaining reader.new) [])) }
         ensures refused { IfErr result (λ fault. fault ≡ ReadFault.Read) }
         ensures kept { OnErr result (Keeps (R.remaining reader.old) (R.remaining reader.new)) }
     {
@@ -78,7 +78,7 @@ impl ReadWindow {
         ensures text { OnOk result ((text : List ℕ) × IsCutAt self.old text self.new ×
             (builder.new ≡ builder.old ++ chars text)) }
         ensures fault { IfErr result (λ fault. (left : Option (List ℕ)) →
-            IsMet fault (encode_utf8_all builder.old ++ self.old) left) }
+            MeetsFault fault (encode_utf8_all builder.old ++ self.old) left) }
     {
         let text = longest_text(&self.bytes[..self.len])?;
         let end = text.len();

@@ -3,7 +3,7 @@
 ghost use Rattle.std.specs.Prelude.{IfOk, IfErr};
 ghost use Rattle.ropey.specs.Chunks.{AreFull};
 ghost use Rattle.ropey.specs.Comparing.{text_bytes};
-ghost use Rattle.ropey.specs.Reading.{GivesAll, GivesUntil};
+ghost use Rattle.ropey.specs.Reading.{GivesToEnd, GivesUntil};
 
 use crate::read_fault::ReadFault;
 use crate::read_window::ReadWindow;
@@ -24,7 +24,7 @@ impl Rope {
     /// they end inside a character; `Size` for more than `isize::MAX` bytes; `Memory`; `Turns`
     /// where `2^62` reads didn't reach the end.
     pub fn from_reader<R: Read>(alloc: Global, reader: &mut R) -> Result<Self, ReadFault>
-        ensures text { IfOk result (λ rope. GivesAll (R.remaining reader.old)
+        ensures text { IfOk result (λ rope. GivesToEnd (R.remaining reader.old)
             (R.remaining reader.new) (text_bytes rope)) }
         ensures full { IfOk result (λ rope. AreFull rope) }
         ensures fault { IfErr result (λ fault. GivesUntil fault (R.remaining reader.old)

@@ -5,7 +5,7 @@ ghost use Rattle.std.specs.Str.{chars, IsUtf8};
 ghost use Rattle.std.specs.Iterator.{IsFiniteIterable};
 ghost use Rattle.str_indices.specs.Text.{units};
 ghost use Rattle.str_indices.specs.Text.{byte_len};
-ghost use Rattle.ropey_tree.specs.Cutting.{IsText};
+ghost use Rattle.ropey_tree.specs.Cutting.{IsRopeText};
 ghost use Rattle.ropey_tree.specs.Nodes.{AreNodes, all_pieces};
 ghost use Rattle.ropey_tree.specs.Siblings.{views};
 ghost use Rattle.ropey_tree.specs.Splits.{pieces_in};
@@ -130,7 +130,7 @@ impl Rope {
     /// A rope over leaves.
     pub(crate) fn from_leaves(alloc: Global, leaves: Vec<Rc<Node>>) -> Result<Self, AllocError>
         requires leaves { AreNodes 0 12 (views leaves.items) }
-        requires text { IsText (all_pieces (views leaves.items)) }
+        requires text { IsRopeText (all_pieces (views leaves.items)) }
         ensures { IfOk result (λ rope. rope ≡ all_pieces (views leaves.items)) }
     {
         if leaves.is_empty() {
@@ -162,7 +162,7 @@ impl Rope {
     /// The slice of the whole text.
     pub(crate) fn whole(&self) -> RopeSlice<'_>
         ensures pieces { slice_pieces result ≡ self.now }
-        ensures cut { IsText self.now }
+        ensures cut { IsRopeText self.now }
     {
         match &self.root {
             None => RopeSlice::new(None),
@@ -177,7 +177,7 @@ impl Rope {
     pub fn len_bytes(&self) -> usize
         ensures bytes { result ≡ byte_len (text_of self.now) }
         ensures fits { result < 2 ^ 63 }
-        ensures cut { IsText self.now }
+        ensures cut { IsRopeText self.now }
     {
         self.whole().len_bytes()
     }
@@ -211,7 +211,7 @@ impl Rope {
         ensures chunk { ShowsChunk self.now byte_len byte_idx (chars result.0.now) result.1 result.2
             result.3 }
         ensures utf8 { IsUtf8 result.0.now }
-        ensures cut { IsText self.now }
+        ensures cut { IsRopeText self.now }
     {
         self.whole().chunk_at_byte(byte_idx)
     }

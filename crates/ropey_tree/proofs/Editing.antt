@@ -1,6 +1,5 @@
 -- Edits inside one leaf.
 use Rattle.std.proofs.Common.{◌≡◌, ℕ, suc, ◌+◌, ◌-◌, ◌*◌, ◌^◌, ◌<◌, ◌≤◌, ◌⊎◌, Bool, true, false, true≢false, ◌&&◌, inl, inr, List, [], ◌∷◌, ◌++◌, length, take, drop, get_or, map, cond, min, refl, ap, arith, sym, ◌∙◌, subst, append_assoc, length-append, length-take-le, All}
-use mathlib.Core.Bool.{beq}
 use Rattle.std.proofs.lemmas.List.Elements.{All-head, All-cons, All-nil, All-append, All-get_or}
 use Rattle.std.proofs.lemmas.List.{take-append-drop, length-drop, append-nil, drop-drop}
 use Rattle.std.proofs.lemmas.List.Sums.{sum_by-cons}
@@ -12,7 +11,7 @@ use Rattle.str_indices.specs.Text.{breaks, units, starts_with_lf, byte_len, ends
 use Rattle.str_indices.specs.Laws.{LosesBreakInCrLf}
 use Rattle.ropey_tree.specs.Breaks.{is_break}
 use Rattle.ropey_tree.specs.Counts.{total, counts_of}
-use Rattle.ropey_tree.specs.Cutting.{IsPiece, IsCutting, IsText, IsBoundaryOf, cuts_cr_lf}
+use Rattle.ropey_tree.specs.Cutting.{IsPiece, IsCutting, IsRopeText, IsBoundaryOf, cuts_cr_lf}
 use Rattle.ropey_tree.specs.NodeView.{NodeView}
 use Rattle.ropey_tree.specs.declared.counts.Counts.{Counts}
 use Rattle.ropey_tree.specs.Nodes.{all_pieces, count_of, AreNodes, IsNodeOf, IsInner, inner_view, leaf_view}
@@ -29,22 +28,11 @@ use Rattle.ropey_tree.proofs.Totals.{units-le-bytes, breaks-le-bytes}
 use Rattle.ropey_tree.proofs.Pieces.{bytes-append}
 use Rattle.ropey_tree.proofs.Splitting.{bytes-concat, starts-append, ends-append}
 use Rattle.ropey_tree.proofs.OverSeams.{same_front}
-use Rattle.ropey_tree.proofs.InRow.{all_pieces-append, all_pieces-one, bytes-take-le, all_pieces-parts, all_pieces-take_more}
+use Rattle.ropey_tree.proofs.InRow.{all_pieces-append, all_pieces-one, all_pieces-parts, all_pieces-take_more}
 use Rattle.ropey_tree.proofs.Packing.{nodes-left, nodes-right}
 use Rattle.ropey_tree.proofs.Joining.{nodes-weaker}
 
 -- ---- tests
-pub same_bools : (a b : Bool) → beq a b ≡ true → a ≡ b
-same_bools true true h = refl
-same_bools true false h = sym h
-same_bools false true h = h
-same_bools false false h = refl
-
-pub test_of : (a b : Bool) → a ≡ b → beq a b ≡ true
-test_of true true h = refl
-test_of true false h = sym h
-test_of false true h = h
-test_of false false h = refl
 
 pub not_both : (b : Bool) → b ≡ true → b ≡ false → ⊥
 not_both b h g = true≢false (sym h ∙ g)
@@ -304,24 +292,11 @@ edited_bytes v from to text pieces h =
       replaced_bytes h.old (from - (total h.left).bytes) (to - (total h.left).bytes) text (concat h.leaves) h.replaced,
     )
 
-pub edited_text : (v : NodeView) (from to : ℕ) (text : List ℕ) (pieces : List (List ℕ)) → AreEdited v from to text pieces → IsText v.pieces → (total v.pieces).bytes + byte_len text < 2 ^ 63 → IsText pieces
+pub edited_text : (v : NodeView) (from to : ℕ) (text : List ℕ) (pieces : List (List ℕ)) → AreEdited v from to text pieces → IsRopeText v.pieces → (total v.pieces).bytes + byte_len text < 2 ^ 63 → IsRopeText pieces
 edited_text v from to text pieces h is fits = record {
   cut = rw h.pieces_are (cutting-leaves h.left h.old h.leaves h.right (rw h.stands.parts at is.cut) h.may_stand);
   fits = omega (arith, edited_bytes v from to text pieces h, fits);
 }
-
--- there is one count of pieces more where two come out
-pub one_leaf : (v : NodeView) (from to : ℕ) (text : List ℕ) (pieces : List (List ℕ)) (h : AreEdited v from to text pieces) → length pieces ≡ length v.pieces → length h.leaves ≡ 1
-one_leaf v from to text pieces h same =
-    omega (
-      arith,
-      same,
-      ap length h.pieces_are,
-      ap length h.stands.parts,
-      length-append h.left (h.leaves ++ h.right),
-      length-append h.leaves h.right,
-      length-append h.left (h.old ∷ h.right),
-    )
 
 pub leaf_edited : (v : NodeView) (old : List ℕ) (from to : ℕ) (text : List ℕ) (leaves pieces : List (List ℕ)) → v ≡ leaf_view old → pieces ≡ leaves → IsReplaced old from to text (concat leaves) → MayStandFor old leaves → AreEdited v from to text pieces
 leaf_edited v old from to text leaves pieces v_is is h stands = record {
@@ -547,7 +522,7 @@ module _ (v : NodeView) (vs : List NodeView) (k : ℕ) (c : NodeView) (from to :
     new_nodes : AreNodes inner.below 12 nodes
     new_nodes = rw child_node.level at (nodes-weaker c.height (min 12 c.degree) 12 nodes (omega (arith, child_node.full)) by.in_place.level)
 
-    pub row_siblings : length vs ≤ 24 → IsText v.pieces → (total v.pieces).bytes + byte_len text < 2 ^ 63 → AreSiblings v.height row
+    pub row_siblings : length vs ≤ 24 → IsRopeText v.pieces → (total v.pieces).bytes + byte_len text < 2 ^ 63 → AreSiblings v.height row
     row_siblings few is_text fits = record {
       below = inner.below;
       level = inner.level;
@@ -607,7 +582,7 @@ one_tree v w from to text made by = record {
 }
 
 -- two nodes under a root
-pub two_nodes : (v first second : NodeView) (from to : ℕ) (text : List ℕ) (made : ℕ) → IsReplacedBy v from to text made (first ∷ second ∷ []) → IsText v.pieces → (total v.pieces).bytes + byte_len text < 2 ^ 63
+pub two_nodes : (v first second : NodeView) (from to : ℕ) (text : List ℕ) (made : ℕ) → IsReplacedBy v from to text made (first ∷ second ∷ []) → IsRopeText v.pieces → (total v.pieces).bytes + byte_len text < 2 ^ 63
     → IsInner (v.height + 1) (first ∷ second ∷ [])
 two_nodes v first second from to text made by is fits = record {
   below = v.height;
@@ -619,13 +594,6 @@ two_nodes v first second from to text made by is fits = record {
   ];
   text = edited_text v from to text (all_pieces (first ∷ second ∷ [])) by.edited is fits;
 }
-
-pub two_fit : (v first second : NodeView) (from to : ℕ) (text : List ℕ) (made : ℕ) → IsReplacedBy v from to text made (first ∷ second ∷ []) → IsText v.pieces → (total v.pieces).bytes + byte_len text < 2 ^ 63
-    → (total (all_pieces (first ∷ second ∷ []))).bytes < 2 ^ 63
-two_fit v first second from to text made by is fits = (edited_text v from to text (all_pieces (first ∷ second ∷ [])) by.edited is fits).fits
-
-pub first_fits : (first second : NodeView) → (total (all_pieces (first ∷ second ∷ []))).bytes < 2 ^ 63 → (total (all_pieces (first ∷ []))).bytes < 2 ^ 63
-first_fits first second fits = omega (arith, fits, bytes-take-le (first ∷ second ∷ []) 1)
 
 pub two_tree : (v first second w : NodeView) (from to : ℕ) (text : List ℕ) (made : ℕ) → IsReplacedBy v from to text made (first ∷ second ∷ []) → w ≡ inner_view (v.height + 1) (first ∷ second ∷ []) → IsEdited v from to text w
 two_tree v first second w from to text made by w_is = rw w_is (record {

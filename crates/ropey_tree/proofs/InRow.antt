@@ -4,8 +4,8 @@ use Rattle.std.proofs.lemmas.Grind.{flat_map-append}
 use Rattle.std.proofs.lemmas.List.Concat.{flat_map-cons}
 use Rattle.std.proofs.lemmas.List.{take_more, take-append-drop, append-nil}
 use Rattle.ropey_tree.specs.NodeView.{NodeView}
-use Rattle.ropey_tree.specs.Counts.{total, plus}
-use Rattle.ropey_tree.specs.Nodes.{all_pieces, count_of}
+use Rattle.ropey_tree.specs.Counts.{total}
+use Rattle.ropey_tree.specs.Nodes.{all_pieces}
 use Rattle.ropey_tree.proofs.Totals.{total-append}
 
 pub all_pieces-append : (vs ws : List NodeView) → all_pieces (vs ++ ws) ≡ all_pieces vs ++ all_pieces ws
@@ -26,10 +26,6 @@ all_pieces-parts vs k d h =
 
 abbrev pub no_view : NodeView
 no_view = record { pieces = []; height = 0; degree = 0 }
-
--- what stands before the next child
-pub total-take_more : (vs : List NodeView) (k : ℕ) (d : NodeView) → k < length vs → total (all_pieces (take (k + 1) vs)) ≡ plus (total (all_pieces (take k vs))) (count_of (get_or vs k d))
-total-take_more vs k d h = ap total (all_pieces-take_more vs k d h) ∙ total-append (all_pieces (take k vs)) (get_or vs k d).pieces
 
 -- no part counts more than the whole
 pub bytes-take-le : (vs : List NodeView) (k : ℕ) → (total (all_pieces (take k vs))).bytes ≤ (total (all_pieces vs)).bytes

@@ -3,7 +3,7 @@ use Rattle.std.proofs.Common.{◌≡◌, ℕ, ◌+◌, ◌-◌, ◌<◌, ◌≤�
 use Rattle.std.proofs.lemmas.List.{take_more}
 use Rattle.std.proofs.Math.Seq.{take-length}
 use Rattle.std.proofs.lemmas.List.Elements.{All-head, All-tail, All-cons, All-nil, All-append}
-use Rattle.ropey_tree.specs.Cutting.{IsText}
+use Rattle.ropey_tree.specs.Cutting.{IsRopeText}
 use Rattle.ropey_tree.specs.NodeView.{NodeView}
 use Rattle.ropey_tree.specs.Nodes.{all_pieces, AreNodes, IsNodeOf, IsInner, leaf_view, inner_view, AreJoined}
 use Rattle.ropey_tree.specs.Siblings.{AreSiblings, Packed, nodes_of}
@@ -45,7 +45,7 @@ module _ (height : ℕ) (front init joined : List NodeView) (c r : NodeView) (in
   front_pieces : all_pieces front ≡ all_pieces init ++ c.pieces
   front_pieces = sym (ap all_pieces is) ∙ all_pieces-append init (c ∷ []) ∙ ap (λ ps. all_pieces init ++ ps) (all_pieces-one c)
 
-  pub last_text : IsText (all_pieces front ++ r.pieces) → IsText (c.pieces ++ r.pieces)
+  pub last_text : IsRopeText (all_pieces front ++ r.pieces) → IsRopeText (c.pieces ++ r.pieces)
   last_text text = text-right (all_pieces init) (c.pieces ++ r.pieces) (rw (front_pieces, append_assoc (all_pieces init) c.pieces r.pieces) at text)
 
   pub last_node : IsNodeOf inner.below 12 c
@@ -54,7 +54,7 @@ module _ (height : ℕ) (front init joined : List NodeView) (c r : NodeView) (in
   pub front_joined_pieces : AreJoined c r joined → all_pieces (init ++ joined) ≡ all_pieces front ++ r.pieces
   front_joined_pieces h = all_pieces-append init joined ∙ ap (λ ps. all_pieces init ++ ps) h.pieces ∙ sym (append_assoc (all_pieces init) c.pieces r.pieces) ∙ ap (λ ps. ps ++ r.pieces) (sym front_pieces)
 
-  pub front_siblings : r.height < height → length front ≤ 24 → 1 ≤ length joined → length joined ≤ 2 → IsText (all_pieces front ++ r.pieces) → AreJoined c r joined → AreSiblings height (init ++ joined)
+  pub front_siblings : r.height < height → length front ≤ 24 → 1 ≤ length joined → length joined ≤ 2 → IsRopeText (all_pieces front ++ r.pieces) → AreJoined c r joined → AreSiblings height (init ++ joined)
   front_siblings lower few some two text h =
       let level : c.height ≡ inner.below = last_node.level in
       let full : 12 ≤ c.degree = last_node.full in
@@ -75,7 +75,7 @@ module _ (height : ℕ) (back rest joined : List NodeView) (l c : NodeView) (inn
   back_pieces : all_pieces back ≡ c.pieces ++ all_pieces rest
   back_pieces = sym (ap all_pieces is) ∙ all_pieces-append (c ∷ []) rest ∙ ap (λ ps. ps ++ all_pieces rest) (all_pieces-one c)
 
-  pub first_text : IsText (l.pieces ++ all_pieces back) → IsText (l.pieces ++ c.pieces)
+  pub first_text : IsRopeText (l.pieces ++ all_pieces back) → IsRopeText (l.pieces ++ c.pieces)
   first_text text = text-left (l.pieces ++ c.pieces) (all_pieces rest) (rw (back_pieces, ← append_assoc l.pieces c.pieces (all_pieces rest)) at text)
 
   back_nodes : AreNodes inner.below 12 (c ∷ rest)
@@ -87,7 +87,7 @@ module _ (height : ℕ) (back rest joined : List NodeView) (l c : NodeView) (inn
   pub back_joined_pieces : AreJoined l c joined → all_pieces (joined ++ rest) ≡ l.pieces ++ all_pieces back
   back_joined_pieces h = all_pieces-append joined rest ∙ ap (λ ps. ps ++ all_pieces rest) h.pieces ∙ append_assoc l.pieces c.pieces (all_pieces rest) ∙ ap (λ ps. l.pieces ++ ps) (sym back_pieces)
 
-  pub back_siblings : l.height < height → length back ≤ 24 → 1 ≤ length joined → length joined ≤ 2 → IsText (l.pieces ++ all_pieces back) → AreJoined l c joined → AreSiblings height (joined ++ rest)
+  pub back_siblings : l.height < height → length back ≤ 24 → 1 ≤ length joined → length joined ≤ 2 → IsRopeText (l.pieces ++ all_pieces back) → AreJoined l c joined → AreSiblings height (joined ++ rest)
   back_siblings lower few some two text h =
       let level : c.height ≡ inner.below = first_node.level in
       let full : 12 ≤ c.degree = first_node.full in
@@ -105,7 +105,7 @@ module _ (height : ℕ) (back rest joined : List NodeView) (l c : NodeView) (inn
       }
 
 -- the children of two nodes of one height
-pub both_siblings : (height : ℕ) (front back : List NodeView) (f : IsInner height front) → IsInner height back → length front ≤ 24 → length back ≤ 24 → IsText (all_pieces front ++ all_pieces back) → AreSiblings height (front ++ back)
+pub both_siblings : (height : ℕ) (front back : List NodeView) (f : IsInner height front) → IsInner height back → length front ≤ 24 → length back ≤ 24 → IsRopeText (all_pieces front ++ all_pieces back) → AreSiblings height (front ++ back)
 both_siblings height front back f g few few_back text =
     let same : g.below ≡ f.below = omega (arith, f.level, g.level) in
     record {
@@ -147,7 +147,7 @@ leaves_joined l r p q l_is r_is = rw (l_is, r_is) (record {
     leaf_node s = record { level = refl; full = omega arith; many = omega arith }
 
 -- ---- the same for nodes that are seen whole
-module _ (l r : NodeView) (text : IsText (l.pieces ++ r.pieces)) where
+module _ (l r : NodeView) (text : IsRopeText (l.pieces ++ r.pieces)) where
   module _ (front back : List NodeView) (l_is : l ≡ inner_view l.height front) (f : IsInner l.height front) (r_is : r ≡ inner_view r.height back) (b : IsInner r.height back) (same : l.height ≡ r.height) where
     beside_pieces : all_pieces (front ++ back) ≡ l.pieces ++ r.pieces
     beside_pieces = all_pieces-append front back ∙ ap (λ ps. ps ++ all_pieces back) (sym (ap (λ v. v.pieces) l_is)) ∙ ap (λ ps. l.pieces ++ ps) (sym (ap (λ v. v.pieces) r_is))
@@ -170,10 +170,10 @@ module _ (l r : NodeView) (text : IsText (l.pieces ++ r.pieces)) where
     parts : take (length front - 1) front ++ c ∷ [] ≡ front
     parts = last_child front c some is
 
-    front_text : IsText (all_pieces front ++ r.pieces)
+    front_text : IsRopeText (all_pieces front ++ r.pieces)
     front_text = let pieces : l.pieces ≡ all_pieces front = ap (λ v. v.pieces) l_is in rw pieces at text
 
-    pub left_text : IsText (c.pieces ++ r.pieces)
+    pub left_text : IsRopeText (c.pieces ++ r.pieces)
     left_text = last_text l.height front (take (length front - 1) front) [] c r inner parts front_text
 
     pub left_falls : c.height < l.height
@@ -201,10 +201,10 @@ module _ (l r : NodeView) (text : IsText (l.pieces ++ r.pieces)) where
     back_parts : c ∷ drop 1 back ≡ back
     back_parts = first_child back c some_back is
 
-    back_text : IsText (l.pieces ++ all_pieces back)
+    back_text : IsRopeText (l.pieces ++ all_pieces back)
     back_text = let pieces : r.pieces ≡ all_pieces back = ap (λ v. v.pieces) r_is in rw pieces at text
 
-    pub right_text : IsText (l.pieces ++ c.pieces)
+    pub right_text : IsRopeText (l.pieces ++ c.pieces)
     right_text = first_text r.height back (drop 1 back) [] l c inner back_parts back_text
 
     pub right_falls : c.height < r.height
@@ -225,7 +225,7 @@ module _ (l r : NodeView) (text : IsText (l.pieces ++ r.pieces)) where
         (λ q. absurd (omega (arith, q, lower))) (λ _. omega (arith, degree, length-append (nodes_of joined) (drop 1 back), back_len, len.0))
 
 -- a root over two nodes that come of joining
-pub joined_inner : (l r v w : NodeView) → IsText (l.pieces ++ r.pieces) → AreJoined l r (v ∷ w ∷ []) → IsInner (max l.height r.height + 1) (v ∷ w ∷ [])
+pub joined_inner : (l r v w : NodeView) → IsRopeText (l.pieces ++ r.pieces) → AreJoined l r (v ∷ w ∷ []) → IsInner (max l.height r.height + 1) (v ∷ w ∷ [])
 joined_inner l r v w text j = record {
   below = max l.height r.height;
   level = refl;

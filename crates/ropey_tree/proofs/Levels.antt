@@ -1,5 +1,5 @@
 -- A level of nodes over the level below, node by node.
-use Rattle.std.proofs.Common.{◌≡◌, ℕ, ◌+◌, ◌*◌, ◌<◌, ◌≤◌, ◌⊎◌, inl, inr, List, [], ◌∷◌, ◌++◌, length, take, refl, ap, arith, sym, ◌∙◌, length-append, length-take-le}
+use Rattle.std.proofs.Common.{◌≡◌, ℕ, ◌+◌, ◌*◌, ◌<◌, ◌≤◌, ◌⊎◌, inl, inr, List, [], ◌∷◌, ◌++◌, length, take, ap, arith, sym, ◌∙◌, length-append, length-take-le}
 use Rattle.std.proofs.lemmas.List.Elements.{All-cons, All-nil, All-append}
 use Rattle.ropey_tree.specs.NodeView.{NodeView}
 use Rattle.ropey_tree.specs.Nodes.{all_pieces, AreNodes, IsNodeOf, IsInner, inner_view}
@@ -14,16 +14,6 @@ pub record IsLevelSoFar (height : ℕ) (below above : List NodeView) (from : ℕ
   pub some : (from ≡ 0) ⊎ (1 ≤ length above)
   pub left : (from ≡ 0) ⊎ ((from ≡ length below) ⊎ (from + 12 ≤ length below))
   pub full : AreNodes height 12 above ⊎ ((from ≡ length below) × (length above ≡ 1))
-
-pub no_level : (height : ℕ) (below : List NodeView) → IsLevelSoFar height below [] 0
-no_level height below = record {
-  within = omega arith;
-  pieces = refl;
-  few = omega arith;
-  some = inl refl;
-  left = inl refl;
-  full = inl (All-nil (IsNodeOf height 12));
-}
 
 -- the next node
 module _ (height : ℕ) (below above children : List NodeView) (from to : ℕ) (node : NodeView) (h : IsLevelSoFar height below above from) (inner : IsInner height below)

@@ -10,10 +10,10 @@ use Rattle.str_indices.specs.Text.{starts_with_lf, byte_len, ends_with_cr}
 use Rattle.ropey_tree.specs.declared.counts.Counts.{Counts}
 use Rattle.ropey_tree.specs.declared.counts.By.TheVariants.{Bytes}
 use Rattle.ropey_tree.specs.Counts.{total}
-use Rattle.ropey_tree.specs.Cutting.{IsCutting, IsText, IsBoundaryOf, cuts_cr_lf}
+use Rattle.ropey_tree.specs.Cutting.{IsCutting, IsRopeText, IsBoundaryOf, cuts_cr_lf}
 use Rattle.ropey_tree.specs.Nodes.{LiesIn}
 use Rattle.ropey_tree.specs.Splits.{IsSplit}
-use Rattle.ropey_tree.specs.Seams.{IsBetween}
+use Rattle.ropey_tree.specs.Seams.{StandsBetween}
 use Rattle.ropey_tree.proofs.Texts.{byte_len-append}
 use Rattle.ropey_tree.proofs.Pieces.{cut-left}
 use Rattle.ropey_tree.proofs.Splitting.{bytes-concat, byte_len-some, starts-append, ends-append}
@@ -28,7 +28,7 @@ whole_before (p ∷ []) q h = ap (λ t. ends_with_cr t && starts_with_lf q) (app
 whole_before (p ∷ r ∷ ps) q h = ap (λ b. b && starts_with_lf q) (ends-append p (concat (r ∷ ps)) (some_text r ps (cut-left (r ∷ ps) (q ∷ []) h.2))) ∙ whole_before (r ∷ ps) q h.2
 
 -- ---- what stands between two leaves: CR LF, or a back of the one and a front of the other
-pub cr_lf_between : (a b : List ℕ) (at : ℕ) → ends_with_cr a ≡ true → starts_with_lf b ≡ true → at + 1 ≡ byte_len a → IsBetween (a ∷ []) at cr_lf (b ∷ []) 1
+pub cr_lf_between : (a b : List ℕ) (at : ℕ) → ends_with_cr a ≡ true → starts_with_lf b ≡ true → at + 1 ≡ byte_len a → StandsBetween (a ∷ []) at cr_lf (b ∷ []) 1
 cr_lf_between a b at h g len =
     let cr = ends_at_cr a h in
     let lf = lf_front b g in
@@ -49,7 +49,7 @@ cut_in_two : (bytes text : List ℕ) (at : ℕ) → IsUtf8 bytes → chars bytes
 cut_in_two bytes text at u is boundary = sym is ∙ ap chars (sym (take-append-drop at bytes)) ∙ chars-append (take at bytes) (drop at bytes) (IsUtf8-take bytes at u boundary)
 
 pub over_between : (last first a b : List ℕ) (from to : ℕ) (leaf : List ℕ) → IsUtf8 last → IsUtf8 first → chars last ≡ a → chars first ≡ b → IsCharBoundary last from → IsCharBoundary first to
-    → leaf ≡ chars (drop from last) ++ chars (take to first) → cuts_cr_lf (chars (take from last)) (chars (drop from last) ++ chars (take to first)) ≡ false → IsBetween (a ∷ []) from leaf (b ∷ []) to
+    → leaf ≡ chars (drop from last) ++ chars (take to first) → cuts_cr_lf (chars (take from last)) (chars (drop from last) ++ chars (take to first)) ≡ false → StandsBetween (a ∷ []) from leaf (b ∷ []) to
 over_between last first a b from to leaf u v a_is b_is starts ends is whole = record {
   front = chars (take from last);
   last = chars (drop from last);
@@ -84,7 +84,7 @@ some_front start [] mid h g = ap (λ t. ends_with_cr t && starts_with_lf mid) (a
 some_front start (c ∷ cs) mid h g = ap (λ b. b && starts_with_lf mid) (ends-append start (c ∷ cs) (omega (arith, byte_len-some c cs))) ∙ h
 
 pub leaves_between : (ps qs : List (List ℕ)) (a b mid : List ℕ) (i at from to : ℕ) (before before_b : Counts) → LiesIn ps (a ∷ []) Bytes i before → (total ps).bytes ≤ i → LiesIn qs (b ∷ []) Bytes 0 before_b
-    → IsText ps → 1 ≤ byte_len a → at + byte_len a ≡ (total ps).bytes → IsBetween (a ∷ []) from mid (b ∷ []) to → IsBetween ps (at + from) mid qs to
+    → IsRopeText ps → 1 ≤ byte_len a → at + byte_len a ≡ (total ps).bytes → StandsBetween (a ∷ []) from mid (b ∷ []) to → StandsBetween ps (at + from) mid qs to
 leaves_between ps qs a b mid i at from to before before_b h past g p_is some len between =
     let l = last_leaf_parts ps a i before h past in
     let r = first_leaf_parts qs b before_b g in
@@ -111,7 +111,7 @@ leaves_between ps qs a b mid i at from to before before_b h past g p_is some len
     }
 
 -- ---- the front of the one, and behind it what stands between and the back of the other
-module _ (ps qs : List (List ℕ)) (mid : List ℕ) (at from : ℕ) (b : IsBetween ps at mid qs from) where
+module _ (ps qs : List (List ℕ)) (mid : List ℕ) (at from : ℕ) (b : StandsBetween ps at mid qs from) where
   pub left_boundary : IsBoundaryOf (concat ps) at
   left_boundary = record { front = b.front; back = b.last; parts = b.left_is; place = b.place }
 
@@ -151,8 +151,8 @@ module _ (ps qs : List (List ℕ)) (mid : List ℕ) (at from : ℕ) (b : IsBetwe
     mid_some : 1 ≤ byte_len mid
     mid_some = omega (arith, ap byte_len b.middle_is, byte_len-append b.last b.first, b.place_right, some)
 
-    module _ (bs : List (List ℕ)) (p_is : IsText ps) (bs_is : IsText bs) (joined : concat bs ≡ mid ++ concat r) where
-      pub whole_text : IsText (l ++ bs)
+    module _ (bs : List (List ℕ)) (p_is : IsRopeText ps) (bs_is : IsRopeText bs) (joined : concat bs ≡ mid ++ concat r) where
+      pub whole_text : IsRopeText (l ++ bs)
       whole_text =
           let starts : starts_with_lf (concat bs) ≡ starts_with_lf mid = ap starts_with_lf joined ∙ starts-append mid (concat r) mid_some in
           let whole : cuts_cr_lf (concat l) (concat bs) ≡ false = ap (λ t. ends_with_cr t && starts_with_lf (concat bs)) front_is ∙ ap (λ c. ends_with_cr b.front && c) starts ∙ b.whole_left in

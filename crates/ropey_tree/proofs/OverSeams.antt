@@ -11,7 +11,7 @@ use Rattle.str_indices.specs.Text.{starts_with_lf, byte_len, ends_with_cr}
 use Rattle.ropey_tree.specs.declared.counts.Counts.{Counts}
 use Rattle.ropey_tree.specs.declared.counts.By.TheVariants.{Bytes}
 use Rattle.ropey_tree.specs.Counts.{total}
-use Rattle.ropey_tree.specs.Cutting.{IsCutting, IsText, cuts_cr_lf}
+use Rattle.ropey_tree.specs.Cutting.{IsCutting, IsRopeText, cuts_cr_lf}
 use Rattle.ropey_tree.specs.Nodes.{LiesIn}
 use Rattle.ropey_tree.proofs.Texts.{byte_len-append}
 use Rattle.ropey_tree.proofs.Pieces.{first_piece, bytes-append}
@@ -34,7 +34,7 @@ cutting-append (p ∷ r ∷ ps) qs h g whole =
     ap (λ b. b && starts_with_lf (concat qs)) (sym (ends-append p (concat (r ∷ ps)) (some_text r ps h.2))) in
     (h.0, h.1, cutting-append (r ∷ ps) qs h.2 g (same ∙ whole))
 
-pub text-append : (ps qs : List (List ℕ)) → IsText ps → IsText qs → cuts_cr_lf (concat ps) (concat qs) ≡ false → (total ps).bytes + (total qs).bytes < 2 ^ 63 → IsText (ps ++ qs)
+pub text-append : (ps qs : List (List ℕ)) → IsRopeText ps → IsRopeText qs → cuts_cr_lf (concat ps) (concat qs) ≡ false → (total ps).bytes + (total qs).bytes < 2 ^ 63 → IsRopeText (ps ++ qs)
 text-append ps qs h g whole fits = record { cut = cutting-append ps qs h.cut g.cut whole; fits = omega (arith, bytes-append ps qs, fits) }
 
 -- ---- the bytes at the ends of a text

@@ -1,7 +1,7 @@
 -- Parts of cuttings and of texts.
 use Rattle.std.proofs.Common.{◌≡◌, ℕ, ◌+◌, List, [], ◌∷◌, ◌++◌, ap, arith}
 use Rattle.ropey_tree.specs.Counts.{total}
-use Rattle.ropey_tree.specs.Cutting.{IsPiece, IsCutting, IsText}
+use Rattle.ropey_tree.specs.Cutting.{IsPiece, IsCutting, IsRopeText}
 use Rattle.ropey_tree.proofs.Totals.{total-append}
 
 pub first_piece : (p : List ℕ) (ps : List (List ℕ)) → IsCutting (p ∷ ps) → IsPiece p
@@ -24,8 +24,8 @@ cut-right (p ∷ ps) qs h = cut-right ps qs (rest_cut p (ps ++ qs) h)
 pub bytes-append : (ps qs : List (List ℕ)) → (total (ps ++ qs)).bytes ≡ (total ps).bytes + (total qs).bytes
 bytes-append ps qs = ap (λ c. c.bytes) (total-append ps qs)
 
-pub text-left : (ps qs : List (List ℕ)) → IsText (ps ++ qs) → IsText ps
+pub text-left : (ps qs : List (List ℕ)) → IsRopeText (ps ++ qs) → IsRopeText ps
 text-left ps qs h = record { cut = cut-left ps qs h.cut; fits = omega (arith, bytes-append ps qs, h.fits) }
 
-pub text-right : (ps qs : List (List ℕ)) → IsText (ps ++ qs) → IsText qs
+pub text-right : (ps qs : List (List ℕ)) → IsRopeText (ps ++ qs) → IsRopeText qs
 text-right ps qs h = record { cut = cut-right ps qs h.cut; fits = omega (arith, bytes-append ps qs, h.fits) }

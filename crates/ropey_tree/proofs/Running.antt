@@ -14,11 +14,8 @@ use Rattle.std.specs.declared.alloc.Global.{Global}
 use Rattle.ropey_tree.specs.declared.node.Node.{Node}
 use Rattle.ropey_tree.specs.Children.{views}
 use Rattle.ropey_tree.proofs.Totals.{total-append, total-below, AreBelow, amount-zero}
-use Rattle.ropey_tree.proofs.InRow.{all_pieces-append, all_pieces-one, total-take_more, bytes-take-le}
+use Rattle.ropey_tree.proofs.InRow.{all_pieces-append, all_pieces-one, bytes-take-le}
 use Rattle.ropey_tree.proofs.Within.{row_len}
-
-pub totals-none : AreTotals [] []
-totals-none = record { number = refl; running = λ k d p. absurd (omega arith) }
 
 -- one node more, with what all count together
 pub totals-more : (vs : List NodeView) (totals : List Counts) (v : NodeView) (sum : Counts) → AreTotals vs totals → sum ≡ total (all_pieces (vs ++ v ∷ [])) → AreTotals (vs ++ v ∷ []) (totals ++ sum ∷ [])
@@ -58,18 +55,6 @@ totals-not_past vs totals by i (suc k) h within low =
     let next : suc k ≡ k + 1 = omega arith in
     let at = ap (λ i. amount by (get_or totals i zero_counts)) index ∙ ap (amount by) (h.running k zero_counts (omega (arith, within))) ∙ ap (λ i. amount by (total (all_pieces (take i vs)))) (sym next) in
     omega (arith, at, low zero_counts (omega arith))
-
-minus-plus : (c d : Counts) → minus (plus c d) c ≡ d
-minus-plus c d =
-    let b : c.bytes + d.bytes - c.bytes ≡ d.bytes = omega arith in
-    let h : c.chars + d.chars - c.chars ≡ d.chars = omega arith in
-    let u : c.units + d.units - c.units ≡ d.units = omega arith in
-    let l : c.breaks + d.breaks - c.breaks ≡ d.breaks = omega arith in
-    rw (b, h, u, l) refl
-
--- what one node counts is a difference
-pub count-between : (vs : List NodeView) (k : ℕ) (d : NodeView) → k < length vs → minus (total (all_pieces (take (k + 1) vs))) (total (all_pieces (take k vs))) ≡ count_of (get_or vs k d)
-count-between vs k d within = ap (λ c. minus c (total (all_pieces (take k vs)))) (total-take_more vs k d within) ∙ minus-plus (total (all_pieces (take k vs))) (count_of (get_or vs k d))
 
 -- what one node more counts goes to what all before it count
 pub record Adds (vs : List NodeView) (v : NodeView) (before count : Counts) : Type 0 where

@@ -14,7 +14,7 @@ use Rattle.std.proofs.lemmas.List.Sums.{sum_by-cons}
 use Rattle.std.proofs.lemmas.Str.{encodes-append, length-le-encodes, chars-encodes, IsCharBoundary-at_seam}
 use Rattle.str_indices.specs.Text.{starts_with_lf, byte_len, ends_with_cr}
 use Rattle.ropey_tree.specs.Counts.{total}
-use Rattle.ropey_tree.specs.Cutting.{IsPiece, IsCutting, IsText, IsBoundaryOf}
+use Rattle.ropey_tree.specs.Cutting.{IsPiece, IsCutting, IsRopeText, IsBoundaryOf}
 use Rattle.ropey_tree.specs.NodeView.{NodeView}
 use Rattle.ropey_tree.specs.Nodes.{all_pieces, inner_view, IsInner, IsNodeOf}
 use Rattle.ropey_tree.proofs.InRow.{all_pieces-parts, all_pieces-take_more, all_pieces-append}
@@ -157,7 +157,7 @@ pub slice_front : (bytes : List ℕ) (at : ℕ) → slice_range bytes 0 at ≡ t
 slice_front bytes at = grind (arith, common_steps)
 
 -- ---- a node in two, by the child in which the place lies
-module _ (v : NodeView) (vs : List NodeView) (k : ℕ) (c : NodeView) (at : ℕ) (v_is : v ≡ inner_view v.height vs) (inner : IsInner v.height vs) (text : IsText v.pieces)
+module _ (v : NodeView) (vs : List NodeView) (k : ℕ) (c : NodeView) (at : ℕ) (v_is : v ≡ inner_view v.height vs) (inner : IsInner v.height vs) (text : IsRopeText v.pieces)
     (within : k < length vs) (is : c ≡ get_or vs k c) (boundary : IsBoundaryOf (concat v.pieces) at) (not_past : (total (all_pieces (take k vs))).bytes ≤ at)
     (passed : (at < (total (all_pieces (take (k + 1) vs))).bytes) ⊎ (k + 1 ≡ length vs)) where
   child_parts : v.pieces ≡ all_pieces (take k vs) ++ c.pieces ++ all_pieces (drop (k + 1) vs)
@@ -185,10 +185,10 @@ module _ (v : NodeView) (vs : List NodeView) (k : ℕ) (c : NodeView) (at : ℕ)
   pub node_split : (l r : List (List ℕ)) → IsSplit c.pieces (at - (total (all_pieces (take k vs))).bytes) l r → IsSplit v.pieces at (all_pieces (take k vs) ++ l) (r ++ all_pieces (drop (k + 1) vs))
   node_split l r h = rw child_parts (split_around (all_pieces (take k vs)) c.pieces (all_pieces (drop (k + 1) vs)) l r at not_past h)
 
-  pub node_split_left : (l r : List (List ℕ)) → IsSplit c.pieces (at - (total (all_pieces (take k vs))).bytes) l r → IsText (all_pieces (take k vs) ++ l)
+  pub node_split_left : (l r : List (List ℕ)) → IsSplit c.pieces (at - (total (all_pieces (take k vs))).bytes) l r → IsRopeText (all_pieces (take k vs) ++ l)
   node_split_left l r h = (node_split l r h).after [] text
 
-  pub node_split_right : (l r : List (List ℕ)) → IsSplit c.pieces (at - (total (all_pieces (take k vs))).bytes) l r → IsText (r ++ all_pieces (drop (k + 1) vs))
+  pub node_split_right : (l r : List (List ℕ)) → IsSplit c.pieces (at - (total (all_pieces (take k vs))).bytes) l r → IsRopeText (r ++ all_pieces (drop (k + 1) vs))
   node_split_right l r h = rw append-nil at ((node_split l r h).before [] (rw append-nil text))
 
   pub rest_pieces : (n : ℕ) (rest : List (List ℕ)) → n ≡ length vs → all_pieces (take (k + 1) vs) ++ rest ≡ all_pieces (take n vs) → rest ≡ all_pieces (drop (k + 1) vs)

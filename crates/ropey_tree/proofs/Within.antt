@@ -1,6 +1,6 @@
 -- A row of children with others in the place of the one at an index.
 use Rattle.std.proofs.Common.{◌≡◌, ℕ, suc, ◌+◌, ◌-◌, ◌<◌, ◌≤◌, List, ◌++◌, length, take, drop, get_or, ap, arith, ◌∙◌, length-append, length-take-le, length-drop}
-use Rattle.std.proofs.lemmas.List.{get_or-take, get_or-drop, get_or_append_left, get_or-append_right}
+use Rattle.std.proofs.lemmas.List.{get_or-drop, get_or-append_right}
 use Rattle.ropey_tree.specs.NodeView.{NodeView}
 
 module _ (children others : List NodeView) (at : ℕ) (within : at < length children) where
@@ -9,14 +9,6 @@ module _ (children others : List NodeView) (at : ℕ) (within : at < length chil
 
   both_len : length (take at children ++ others) ≡ at + length others
   both_len = omega (arith, front_len, length-append (take at children) others)
-
-  pub before_it : (k : ℕ) (d : NodeView) → k < at → get_or (take at children ++ others ++ drop (suc at) children) k d ≡ get_or children k d
-  before_it k d low =
-      get_or_append_left (take at children ++ others) (drop (suc at) children) d k (omega (arith, both_len, low)) ∙ get_or_append_left (take at children) others d k (omega (arith, front_len, low)) ∙ get_or-take at children k d low
-
-  pub in_its_place : (k : ℕ) (d : NodeView) → at ≤ k → k < at + length others → get_or (take at children ++ others ++ drop (suc at) children) k d ≡ get_or others (k - at) d
-  in_its_place k d high low =
-      get_or_append_left (take at children ++ others) (drop (suc at) children) d k (omega (arith, both_len, low)) ∙ get_or-append_right (take at children) others at k d front_len high
 
   pub behind_it : (k : ℕ) (d : NodeView) → at + length others ≤ k → get_or (take at children ++ others ++ drop (suc at) children) k d ≡ get_or children (k - length others + 1) d
   behind_it k d high =

@@ -26,7 +26,7 @@ abbrev pub AreFull : List (List ℕ) → Type 0
 AreFull pieces = All IsFull (take (length pieces - 1) pieces)
 
 -- the pieces of a text that a rope may hold: of at most `isize::MAX` bytes
-pub record IsText (pieces : List (List ℕ)) : Type 0 where
+pub record IsRopeText (pieces : List (List ℕ)) : Type 0 where
   pub cut : IsCutting pieces
   pub fits : (total pieces).bytes < 2 ^ 63
 

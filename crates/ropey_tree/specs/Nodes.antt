@@ -4,7 +4,7 @@ use Rattle.std.specs.List.{flat_map}
 use Rattle.ropey_tree.specs.declared.counts.Counts.{Counts}
 use Rattle.ropey_tree.specs.declared.counts.By.{By}
 use Rattle.ropey_tree.specs.Counts.{total, amount}
-use Rattle.ropey_tree.specs.Cutting.{IsText}
+use Rattle.ropey_tree.specs.Cutting.{IsRopeText}
 use Rattle.ropey_tree.specs.NodeView.{NodeView}
 
 -- what the text of a node counts
@@ -37,11 +37,11 @@ pub record IsInner (height : ℕ) (children : List NodeView) : Type 0 where
   pub level : height ≡ below + 1
   pub branches : 2 ≤ length children
   pub nodes : AreNodes below 12 children
-  pub text : IsText (all_pieces children)
+  pub text : IsRopeText (all_pieces children)
 
 -- a node by itself: at least two children, and its pieces a text
 pub record IsTree (v : NodeView) : Type 0 where
-  pub text : IsText v.pieces
+  pub text : IsRopeText v.pieces
   pub branches : 2 ≤ v.degree
   pub many : v.degree * 12 ^ v.height ≤ 12 * length v.pieces
 

@@ -5,7 +5,7 @@ use Rattle.str_indices.specs.Text.{byte_len}
 use Rattle.ropey_tree.specs.Cutting.{cuts_cr_lf}
 
 -- a text that stands between a byte index of the left one and one of the right one, and where it starts no CR LF is cut
-pub record IsBetween (left : List (List ℕ)) (at : ℕ) (middle : List ℕ) (right : List (List ℕ)) (from : ℕ) : Type 0 where
+pub record StandsBetween (left : List (List ℕ)) (at : ℕ) (middle : List ℕ) (right : List (List ℕ)) (from : ℕ) : Type 0 where
   pub front : List ℕ
   pub last : List ℕ
   pub first : List ℕ

@@ -6,7 +6,7 @@ use Rattle.ropey_tree.specs.declared.siblings.Siblings.{Siblings}
 use Rattle.ropey_tree.specs.declared.siblings.Siblings.TheVariants.{One as OneNode, Nodes, Both, Front, Back, Within}
 -- nodes side by side, as they are seen
 pub use Rattle.ropey_tree.specs.Children.{views}
-use Rattle.ropey_tree.specs.Cutting.{IsText}
+use Rattle.ropey_tree.specs.Cutting.{IsRopeText}
 use Rattle.ropey_tree.specs.NodeView.{NodeView}
 use Rattle.ropey_tree.specs.Nodes.{all_pieces, AreNodes}
 
@@ -41,7 +41,7 @@ pub record AreSiblings (height : ℕ) (siblings : List NodeView) : Type 0 where
   pub branches : 2 ≤ length siblings
   pub few : length siblings ≤ 48
   pub nodes : AreNodes below 12 siblings
-  pub text : IsText (all_pieces siblings)
+  pub text : IsRopeText (all_pieces siblings)
 
 -- the nodes over a row: one, or two that are full, and no smaller than the row
 pub record Packed (height : ℕ) (siblings packed : List NodeView) : Type 0 where

@@ -5,7 +5,7 @@ use Rattle.std.specs.declared.rc.Rc.{Rc}
 use Rattle.std.specs.declared.alloc.Global.{Global}
 use Rattle.ropey_tree.specs.declared.node.Node.{Node}
 use Rattle.ropey_tree.specs.Counts.{total}
-use Rattle.ropey_tree.specs.Cutting.{IsText}
+use Rattle.ropey_tree.specs.Cutting.{IsRopeText}
 
 -- the pieces of a tree, or none
 abbrev pub pieces_in : Option (Rc Node Global) → List (List ℕ)
@@ -16,5 +16,5 @@ pieces_in (Some node) = node.value.pieces
 pub record IsSplit (pieces : List (List ℕ)) (at : ℕ) (left right : List (List ℕ)) : Type 0 where
   pub text : concat left ++ concat right ≡ concat pieces
   pub place : (total left).bytes ≡ at
-  pub after : (before : List (List ℕ)) → IsText (before ++ pieces) → IsText (before ++ left)
-  pub before : (after : List (List ℕ)) → IsText (pieces ++ after) → IsText (right ++ after)
+  pub after : (before : List (List ℕ)) → IsRopeText (before ++ pieces) → IsRopeText (before ++ left)
+  pub before : (after : List (List ℕ)) → IsRopeText (pieces ++ after) → IsRopeText (right ++ after)

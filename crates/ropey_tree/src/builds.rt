@@ -1,7 +1,7 @@
 //! Building a tree from its leaves, level by level.
 
-ghost use Rattle.std.specs.Prelude.{◌≡◌, ◌+◌, ◌<◌, ◌≤◌, ◌⊎◌, length, IfOk, vec_len};
-ghost use Rattle.ropey_tree.specs.Cutting.{IsText};
+ghost use Rattle.std.specs.Prelude.{◌≡◌, ◌+◌, ◌<◌, ◌≤◌, ◌⊎◌, IfOk, vec_len};
+ghost use Rattle.ropey_tree.specs.Cutting.{IsRopeText};
 ghost use Rattle.ropey_tree.specs.Nodes.{AreNodes, IsInner, all_pieces};
 ghost use Rattle.ropey_tree.specs.Siblings.{views, IsLevelOver};
 
@@ -55,7 +55,7 @@ fn level(alloc: Global, height: usize, nodes: &[Rc<Node>]) -> Result<Vec<Rc<Node
 pub fn build(alloc: Global, leaves: Vec<Rc<Node>>) -> Result<Rc<Node>, AllocError>
     requires some { 1 ≤ vec_len leaves }
     requires leaves { AreNodes 0 12 (views leaves.items) }
-    requires text { IsText (all_pieces (views leaves.items)) }
+    requires text { IsRopeText (all_pieces (views leaves.items)) }
     ensures { IfOk result (λ node. node.value.pieces ≡ all_pieces (views leaves.items)) }
 {
     let mut nodes = leaves;

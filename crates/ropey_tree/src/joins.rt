@@ -1,7 +1,7 @@
 //! Joining two trees of any heights.
 
 ghost use Rattle.std.specs.Prelude.{◌≡◌, ◌++◌, IfOk};
-ghost use Rattle.ropey_tree.specs.Cutting.{IsText};
+ghost use Rattle.ropey_tree.specs.Cutting.{IsRopeText};
 ghost use Rattle.ropey_tree.specs.Nodes.{AreJoined};
 ghost use Rattle.ropey_tree.specs.Siblings.{nodes_of};
 
@@ -14,7 +14,7 @@ use std::rc::Rc;
 /// The children of two nodes of one height, or two leaves.
 fn beside(alloc: Global, left: &Rc<Node>, right: &Rc<Node>) -> Result<Joined, AllocError>
     requires level { left.now.value.height ≡ right.now.value.height }
-    requires text { IsText (left.now.value.pieces ++ right.now.value.pieces) }
+    requires text { IsRopeText (left.now.value.pieces ++ right.now.value.pieces) }
     ensures { IfOk result (λ joined. AreJoined left.now.value right.now.value (nodes_of joined)) }
 {
     match left.parts() {
@@ -46,7 +46,7 @@ fn beside(alloc: Global, left: &Rc<Node>, right: &Rc<Node>) -> Result<Joined, Al
 /// One node or two, as high as the higher of two nodes, whose pieces are theirs in order. The path
 /// down the side of the higher one is copied, and all else is shared.
 pub fn join(alloc: Global, left: &Rc<Node>, right: &Rc<Node>) -> Result<Joined, AllocError>
-    requires { IsText (left.now.value.pieces ++ right.now.value.pieces) }
+    requires { IsRopeText (left.now.value.pieces ++ right.now.value.pieces) }
     ensures { IfOk result (λ joined. AreJoined left.now.value right.now.value (nodes_of joined)) }
 {
     let (l, r) = (left.height(), right.height());
@@ -74,7 +74,7 @@ pub fn join(alloc: Global, left: &Rc<Node>, right: &Rc<Node>) -> Result<Joined, 
 
 /// One tree of the pieces of two, in order. Neither of them changes.
 pub fn concat(alloc: Global, left: &Rc<Node>, right: &Rc<Node>) -> Result<Rc<Node>, AllocError>
-    requires { IsText (left.now.value.pieces ++ right.now.value.pieces) }
+    requires { IsRopeText (left.now.value.pieces ++ right.now.value.pieces) }
     ensures { IfOk result (λ node. node.value.pieces ≡ left.now.value.pieces ++
         right.now.value.pieces) }
 {

@@ -10,8 +10,8 @@ ghost use Rattle.std.specs.List.{concat};
 ghost use Rattle.std.specs.Str.{chars, IsCharBoundary};
 ghost use Rattle.str_indices.specs.Text.{byte_len};
 ghost use Rattle.ropey_tree.specs.Counts.{total};
-ghost use Rattle.ropey_tree.specs.Cutting.{IsText, cuts_cr_lf};
-ghost use Rattle.ropey_tree.specs.Seams.{IsBetween};
+ghost use Rattle.ropey_tree.specs.Cutting.{IsRopeText, cuts_cr_lf};
+ghost use Rattle.ropey_tree.specs.Seams.{StandsBetween};
 ghost use Rattle.ropey_tree.specs.Splits.{pieces_in};
 
 use crate::counts::By;
@@ -64,7 +64,7 @@ impl Seam {
     /// it, half of their text where either is short, and else a CR LF that lies across. There is
     /// none where they can stay as they are. What ends the whole text may be short.
     fn of(last: &Leaf, first: &Leaf, is_end: bool) -> Option<Seam>
-        ensures between { IfSome result (λ seam. IsBetween (last.now ∷ []) seam.from seam.leaf
+        ensures between { IfSome result (λ seam. StandsBetween (last.now ∷ []) seam.from seam.leaf
             (first.now ∷ []) seam.to) }
         ensures some { IfSome result (λ seam. 1 ≤ seam.to) }
         ensures leaf { IfSome result (λ seam. 1 ≤ byte_len seam.leaf) }
@@ -123,7 +123,7 @@ pub fn append(
 
 /// `joins::concat`, where the front may have no text.
 fn behind(alloc: Global, front: Option<Rc<Node>>, back: Rc<Node>) -> Result<Rc<Node>, AllocError>
-    requires { IsText (pieces_in front ++ back.value.pieces) }
+    requires { IsRopeText (pieces_in front ++ back.value.pieces) }
     ensures { IfOk result (λ node. node.value.pieces ≡ pieces_in front ++ back.value.pieces) }
 {
     match front {

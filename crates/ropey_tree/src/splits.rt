@@ -2,7 +2,7 @@
 
 ghost use Rattle.std.specs.Prelude.{◌≡◌, ◌+◌, ◌*◌, ◌≤◌, ◌++◌, IfOk, take, length};
 ghost use Rattle.std.specs.List.{concat};
-ghost use Rattle.ropey_tree.specs.Cutting.{IsText, IsBoundaryOf};
+ghost use Rattle.ropey_tree.specs.Cutting.{IsRopeText, IsBoundaryOf};
 ghost use Rattle.ropey_tree.specs.Nodes.{leaf_view, all_pieces, IsInner};
 ghost use Rattle.ropey_tree.specs.Splits.{pieces_in, IsSplit};
 
@@ -92,7 +92,7 @@ pub fn concat(
     left: Option<Rc<Node>>,
     right: Option<Rc<Node>>,
 ) -> Result<Option<Rc<Node>>, AllocError>
-    requires { IsText (pieces_in left ++ pieces_in right) }
+    requires { IsRopeText (pieces_in left ++ pieces_in right) }
     ensures { IfOk result (λ tree. pieces_in tree ≡ pieces_in left ++ pieces_in right) }
 {
     match (left, right) {

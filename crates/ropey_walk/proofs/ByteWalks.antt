@@ -7,7 +7,7 @@ use Rattle.std.proofs.lemmas.Str.{encodes-chars, encodes-append}
 use Rattle.str_indices.specs.Text.{byte_len}
 use Rattle.ropey_tree.specs.declared.counts.Counts.{Counts}
 use Rattle.ropey_tree.specs.declared.counts.By.TheVariants.{Bytes}
-use Rattle.ropey_tree.specs.Cutting.{IsText}
+use Rattle.ropey_tree.specs.Cutting.{IsRopeText}
 use Rattle.ropey_walk.specs.Chunks.{text_of}
 use Rattle.ropey_walk.specs.Standing.{StandsAt}
 use Rattle.ropey_walk.specs.TwoWay.{before_item}
@@ -36,7 +36,7 @@ pub record HoldsByte (items chunk : List ℕ) (start i : ℕ) : Type 0 where
   pub within : i - start ≤ length chunk
   pub inside : i < length items → i - start < length chunk
 
-pub chunk_at_byte : (pieces : List (List ℕ)) (i : ℕ) (bytes : List ℕ) (start : Counts) → IsUtf8 bytes → StandsAt pieces Bytes i (chars bytes) start → IsText pieces → i ≤ byte_len (text_of pieces)
+pub chunk_at_byte : (pieces : List (List ℕ)) (i : ℕ) (bytes : List ℕ) (start : Counts) → IsUtf8 bytes → StandsAt pieces Bytes i (chars bytes) start → IsRopeText pieces → i ≤ byte_len (text_of pieces)
     → HoldsByte (encode_utf8_all (text_of pieces)) bytes start.bytes i
 chunk_at_byte pieces i bytes start utf8 h text most =
     let chunk = chars bytes in

@@ -8,7 +8,7 @@ use Rattle.str_indices.specs.Text.{char_ends, end_place, byte_len}
 use Rattle.str_indices.proofs.TextLaws.{to_byte_idx_is_a_boundary-chars}
 use Rattle.ropey_tree.specs.declared.counts.Counts.{Counts}
 use Rattle.ropey_tree.specs.declared.counts.By.TheVariants.{Chars}
-use Rattle.ropey_tree.specs.Cutting.{IsText}
+use Rattle.ropey_tree.specs.Cutting.{IsRopeText}
 use Rattle.ropey_walk.specs.Chunks.{text_of}
 use Rattle.ropey_walk.specs.Standing.{StandsAt}
 use Rattle.ropey_walk.specs.TwoWay.{before_item}
@@ -80,7 +80,7 @@ pub record HoldsChar (text : List ℕ) (i k : ℕ) (chunk : List ℕ) (at : ℕ)
   pub ahead : i ≡ k → k < length text → at < length chunk
   pub behind : i < k → 0 < at
 
-pub char_held : (pieces : List (List ℕ)) (i k : ℕ) (bytes : List ℕ) (start : Counts) → IsUtf8 bytes → StandsAt pieces Chars i (chars bytes) start → IsText pieces → i ≤ k → k ≤ i + 1 → k ≤ length (text_of pieces)
+pub char_held : (pieces : List (List ℕ)) (i k : ℕ) (bytes : List ℕ) (start : Counts) → IsUtf8 bytes → StandsAt pieces Chars i (chars bytes) start → IsRopeText pieces → i ≤ k → k ≤ i + 1 → k ≤ length (text_of pieces)
     → HoldsChar (text_of pieces) i k bytes (end_place (char_ends (chars bytes)) (k - start.chars) (length bytes))
 char_held pieces i k bytes start utf8 h text low high most =
     let chunk = chars bytes in

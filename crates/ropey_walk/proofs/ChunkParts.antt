@@ -11,8 +11,8 @@ use Rattle.str_indices.specs.Text.{byte_len}
 use Rattle.ropey_tree.specs.declared.counts.Counts.{Counts}
 use Rattle.ropey_tree.specs.declared.counts.By.{By}
 use Rattle.ropey_tree.specs.Counts.{counts_of, zero_counts, plus, minus}
-use Rattle.ropey_tree.specs.Cutting.{IsPiece, IsCutting, IsText}
-use Rattle.ropey_walk.specs.Chunks.{text_of, piece_of}
+use Rattle.ropey_tree.specs.Cutting.{IsPiece, IsCutting, IsRopeText}
+use Rattle.ropey_walk.specs.Chunks.{text_of, lone_piece}
 use Rattle.ropey_walk.specs.Clips.{between, pieces_from_char, pieces_to_char, clip}
 use Rattle.ropey_walk.proofs.BreakLaws.{BreaksOfParts}
 use Rattle.ropey_walk.specs.Parts.{standing}
@@ -28,11 +28,11 @@ use Rattle.ropey_walk.proofs.Shows.{piece_by_itself, amount-nothing}
 use Rattle.ropey_walk.proofs.Slices.{standing-part, between-between}
 
 -- ---- a text in at most one piece
-pub text_of_piece : (chunk : List ℕ) → text_of (piece_of chunk) ≡ chunk
+pub text_of_piece : (chunk : List ℕ) → text_of (lone_piece chunk) ≡ chunk
 text_of_piece [] = refl
 text_of_piece (c ∷ cs) = append-nil (c ∷ cs)
 
-light_text : (text : List ℕ) → all_scalars text ≡ true → byte_len text ≤ 984 → IsText (piece_of text)
+light_text : (text : List ℕ) → all_scalars text ≡ true → byte_len text ≤ 984 → IsRopeText (lone_piece text)
 light_text [] scalars short = record { cut = tt; fits = omega arith }
 light_text (c ∷ cs) scalars short =
     let piece : IsPiece (c ∷ cs) = record { scalars = scalars; not_empty = omega (arith, length-le-encodes (c ∷ cs)); not_long = short } in
@@ -41,18 +41,15 @@ light_text (c ∷ cs) scalars short =
 pub light_utf8 : (slice : RopeSlice) (text : Bor (List ℕ)) → slice.source ≡ Light text → IsUtf8 text.now
 light_utf8 slice text is = IsUtf8-from_is_utf8 text.now (ap (λ s. is_utf8 (light_bytes s)) (sym is) ∙ slice.utf8)
 
-pub light_is_text : (slice : RopeSlice) (text : Bor (List ℕ)) → slice.source ≡ Light text → IsText (source_pieces slice.source)
+pub light_is_text : (slice : RopeSlice) (text : Bor (List ℕ)) → slice.source ≡ Light text → IsRopeText (source_pieces slice.source)
 light_is_text slice text is =
     let utf8 = light_utf8 slice text is in
     let short : byte_len (chars text.now) ≤ 984 = omega (arith, ap length (encodes-chars text.now utf8), slice.short, ap (λ s. length (light_bytes s)) is) in
-    subst IsText (ap source_pieces (sym is)) (light_text (chars text.now) (scalars-chars text.now utf8) short)
+    subst IsRopeText (ap source_pieces (sym is)) (light_text (chars text.now) (scalars-chars text.now utf8) short)
 
 -- nothing is told by an empty chunk
 pub nothing_of : (pieces : List (List ℕ)) → IsChunkOf pieces [] zero_counts
 nothing_of pieces = record { before = []; after = pieces; parts = refl; start_is = refl }
-
-pub chunk_of_place : (pieces : List (List ℕ)) (by : By) (i : ℕ) (chunk : List ℕ) (start : Counts) → StandsAt pieces by i chunk start → IsChunkOf pieces chunk start
-chunk_of_place pieces by i chunk start h = record { before = h.before; after = h.after; parts = h.parts; start_is = h.start_is }
 
 clip_one : (a e : ℕ) (chunk : List ℕ) → a < e → e ≤ length chunk → clip a e (chunk ∷ []) ≡ between a e chunk ∷ []
 clip_one a e chunk some within =
@@ -60,7 +57,7 @@ clip_one a e chunk some within =
     ∙ from-here a (take e chunk) [] (omega (arith, some, within, length-take e chunk))
 
 -- ---- the part of such a text
-module _ (chunk : List ℕ) (start len : Counts) (part : IsPart (text_of (piece_of chunk)) start len) (some : 0 < len.chars) where
+module _ (chunk : List ℕ) (start len : Counts) (part : IsPart (text_of (lone_piece chunk)) start len) (some : 0 < len.chars) where
   abbrev a : ℕ
   a = start.chars
 
@@ -70,21 +67,21 @@ module _ (chunk : List ℕ) (start len : Counts) (part : IsPart (text_of (piece_
   within : e ≤ length chunk
   within = omega (arith, part.within, ap length (text_of_piece chunk))
 
-  alone : piece_of chunk ≡ chunk ∷ []
+  alone : lone_piece chunk ≡ chunk ∷ []
   alone = piece_by_itself chunk (omega (arith, within, some, length-le-encodes chunk))
 
-  pub only_piece : clip a e (piece_of chunk) ≡ between a e chunk ∷ []
+  pub only_piece : clip a e (lone_piece chunk) ≡ between a e chunk ∷ []
   only_piece = ap (clip a e) alone ∙ clip_one a e chunk (omega (arith, some)) within
 
-  pub only_stands : (pieces : List (List ℕ)) (by : By) (i : ℕ) → pieces ≡ clip a e (piece_of chunk) → StandsAt pieces by i (between a e chunk) zero_counts
+  pub only_stands : (pieces : List (List ℕ)) (by : By) (i : ℕ) → pieces ≡ clip a e (lone_piece chunk) → StandsAt pieces by i (between a e chunk) zero_counts
   only_stands pieces by i same =
       let inner = between a e chunk in
       let long = length-between a e chunk (omega arith) within in
-      let one : piece_of inner ≡ inner ∷ [] = piece_by_itself inner (omega (arith, long, some, length-le-encodes inner)) in
+      let one : lone_piece inner ≡ inner ∷ [] = piece_by_itself inner (omega (arith, long, some, length-le-encodes inner)) in
       record {
         before = [];
         after = [];
-        parts = same ∙ only_piece ∙ sym one ∙ sym (append-nil (piece_of inner));
+        parts = same ∙ only_piece ∙ sym one ∙ sym (append-nil (lone_piece inner));
         some = λ none. absurd (omega (arith, long, some, ap length none));
         start_is = refl;
         not_past = omega (arith, amount-nothing by);
@@ -94,28 +91,28 @@ module _ (chunk : List ℕ) (start len : Counts) (part : IsPart (text_of (piece_
   pub only_cut : (bytes : List ℕ) → IsUtf8 bytes → chars bytes ≡ chunk → IsCutAt bytes start.bytes (start.bytes + len.bytes) (between a e chunk)
   only_cut bytes utf8 is =
       let t = chars bytes in
-      let same : text_of (piece_of chunk) ≡ t = text_of_piece chunk ∙ sym is in
+      let same : text_of (lone_piece chunk) ≡ t = text_of_piece chunk ∙ sym is in
       let here : IsPart t start len = subst (λ (u : List ℕ). IsPart u start len) same part in
       let cut = cut_text t a e start.bytes (start.bytes + len.bytes) (scalars-chars bytes utf8) (omega arith) (ap (λ c. c.bytes) here.starts) (sym (end-bytes t start len here)) in
       subst (λ (u : List ℕ). IsCutAt bytes start.bytes (start.bytes + len.bytes) (between a e u)) is (subst (λ (bs : List ℕ). IsCutAt bs start.bytes (start.bytes + len.bytes) (between a e t)) (encodes-chars bytes utf8) cut)
 
-pub chunk_fits : (pieces : List (List ℕ)) → IsText pieces → (chunk : List ℕ) (first : Counts) → IsChunkOf pieces chunk first → first.bytes + byte_len chunk < 2 ^ 63
+pub chunk_fits : (pieces : List (List ℕ)) → IsRopeText pieces → (chunk : List ℕ) (first : Counts) → IsChunkOf pieces chunk first → first.bytes + byte_len chunk < 2 ^ 63
 chunk_fits pieces text chunk first shown =
     let l = text_of shown.before in
     omega (
       arith,
       text_fits pieces text,
       ap (λ ps. byte_len (text_of ps)) shown.parts,
-      ap byte_len (concat-append (shown.before ++ piece_of chunk) shown.after),
-      byte_len-append (text_of (shown.before ++ piece_of chunk)) (text_of shown.after),
-      ap byte_len (concat-append shown.before (piece_of chunk)),
-      byte_len-append l (text_of (piece_of chunk)),
+      ap byte_len (concat-append (shown.before ++ lone_piece chunk) shown.after),
+      byte_len-append (text_of (shown.before ++ lone_piece chunk)) (text_of shown.after),
+      ap byte_len (concat-append shown.before (lone_piece chunk)),
+      byte_len-append l (text_of (lone_piece chunk)),
       ap byte_len (text_of_piece chunk),
       ap (λ c. c.bytes) shown.start_is,
     )
 
 -- ---- a part that lies in one of several pieces
-module _ (law : BreaksOfParts) (pieces : List (List ℕ)) (text : IsText pieces) (chunk : List ℕ) (first : Counts) (shown : IsChunkOf pieces chunk first)
+module _ (law : BreaksOfParts) (pieces : List (List ℕ)) (text : IsRopeText pieces) (chunk : List ℕ) (first : Counts) (shown : IsChunkOf pieces chunk first)
     (start len : Counts) (part : IsPart (text_of pieces) start len) (some : 0 < len.chars) (low : first.bytes ≤ start.bytes) (high : start.bytes + len.bytes ≤ first.bytes + byte_len chunk) where
   abbrev t : List ℕ
   t = text_of pieces
@@ -126,7 +123,7 @@ module _ (law : BreaksOfParts) (pieces : List (List ℕ)) (text : IsText pieces)
   abbrev m : List ℕ
   m = l ++ chunk
 
-  one_piece : piece_of chunk ≡ chunk ∷ []
+  one_piece : lone_piece chunk ≡ chunk ∷ []
   one_piece = piece_by_itself chunk (omega (arith, low, high, some, some_bytes t start len part))
 
   parts : pieces ≡ shown.before ++ chunk ∷ shown.after
@@ -146,9 +143,6 @@ module _ (law : BreaksOfParts) (pieces : List (List ℕ)) (text : IsText pieces)
 
   abbrev n : ℕ
   n = len.chars
-
-  first_chars : first.chars ≡ length l
-  first_chars = ap (λ c. c.chars) shown.start_is
 
   -- more characters are more bytes
   longer : (i j : ℕ) → i < j → j ≤ length t → byte_len (take i t) < byte_len (take j t)
@@ -214,7 +208,7 @@ module _ (law : BreaksOfParts) (pieces : List (List ℕ)) (text : IsText pieces)
       ap (λ c. minus c first) whole ∙ minus-plus first (standing chunk k)
 
   -- the part as one of the piece
-  pub in_piece : IsPart (text_of (piece_of chunk)) (minus start first) len
+  pub in_piece : IsPart (text_of (lone_piece chunk)) (minus start first) len
   in_piece =
       let chars_are : (minus start first).chars ≡ k = ap (λ c. c.chars) starts_are in
       let counted : len ≡ counts_of (between k (k + n) chunk) =
@@ -228,7 +222,7 @@ module _ (law : BreaksOfParts) (pieces : List (List ℕ)) (text : IsText pieces)
       } in
       subst (λ (s : List ℕ). IsPart s (minus start first) len) (sym (text_of_piece chunk)) here
 
-  pub piece_parts : clip (minus start first).chars ((minus start first).chars + n) (piece_of chunk) ≡ clip start.chars (start.chars + n) pieces
+  pub piece_parts : clip (minus start first).chars ((minus start first).chars + n) (lone_piece chunk) ≡ clip start.chars (start.chars + n) pieces
   piece_parts =
       let chars_are : (minus start first).chars ≡ k = ap (λ c. c.chars) starts_are in
       let none : length l - length l ≡ 0 = omega arith in
@@ -244,7 +238,7 @@ module _ (law : BreaksOfParts) (pieces : List (List ℕ)) (text : IsText pieces)
       ∙ ap (λ s. s ∷ pieces_to_char (length m - length l - length chunk) shown.after) (take_all (length chunk) chunk (omega arith))
       ∙ ap (λ i. chunk ∷ pieces_to_char i shown.after) rest ∙ ap (λ ps. chunk ∷ ps) (to-none shown.after) in
       let end : length l + (k + n) ≡ start.chars + n = omega (arith, sum) in
-      ap (λ i. clip i (i + n) (piece_of chunk)) chars_are ∙ ap (clip k (k + n)) (one_piece ∙ sym one)
+      ap (λ i. clip i (i + n) (lone_piece chunk)) chars_are ∙ ap (clip k (k + n)) (one_piece ∙ sym one)
       ∙ clip-clip k (k + n) (length l) (length m) pieces (omega (arith, inside, long)) ∙ ap (λ i. clip i (length l + (k + n)) pieces) sum ∙ ap (λ i. clip start.chars i pieces) end
 
   -- a piece is a text by itself
@@ -254,6 +248,6 @@ module _ (law : BreaksOfParts) (pieces : List (List ℕ)) (text : IsText pieces)
   pub piece_short : byte_len chunk ≤ 984
   piece_short = cut_alone.not_long
 
-  pub piece_text : IsText (piece_of chunk)
+  pub piece_text : IsRopeText (lone_piece chunk)
   piece_text =
-      subst IsText (sym one_piece) (record { cut = cut_alone; fits = omega (arith, bytes-concat (chunk ∷ []), ap byte_len (append-nil chunk), piece_short) })
+      subst IsRopeText (sym one_piece) (record { cut = cut_alone; fits = omega (arith, bytes-concat (chunk ∷ []), ap byte_len (append-nil chunk), piece_short) })

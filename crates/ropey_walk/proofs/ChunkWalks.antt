@@ -13,7 +13,7 @@ use Rattle.ropey_tree.specs.declared.counts.By.{By}
 use Rattle.ropey_tree.specs.declared.counts.By.TheVariants.{Bytes}
 use Rattle.ropey_tree.specs.Counts.{counts_of, amount}
 use Rattle.ropey_tree.specs.Cutting.{IsCutting}
-use Rattle.ropey_walk.specs.Chunks.{text_of, piece_of}
+use Rattle.ropey_walk.specs.Chunks.{text_of, lone_piece}
 use Rattle.ropey_walk.specs.Standing.{StandsAt}
 use Rattle.ropey_walk.specs.TwoWay.{before_item}
 use Rattle.ropey_walk.specs.Iter.{IsBetweenPieces, pieces_before, StandsBefore, CutsNoCrLf}
@@ -83,7 +83,7 @@ same_end (f ∷ front) rest (b ∷ before) chunk after cut e low high =
     cc
 
 -- a chunk of a text that is not empty is one of its pieces
-pub piece_shown : (pieces : List (List ℕ)) (chunk : List ℕ) (before after : List (List ℕ)) → pieces ≡ before ++ piece_of chunk ++ after → (chunk ≡ [] → pieces ≡ []) → 0 < byte_len (concat pieces) → pieces ≡ before ++ chunk ∷ after
+pub piece_shown : (pieces : List (List ℕ)) (chunk : List ℕ) (before after : List (List ℕ)) → pieces ≡ before ++ lone_piece chunk ++ after → (chunk ≡ [] → pieces ≡ []) → 0 < byte_len (concat pieces) → pieces ≡ before ++ chunk ∷ after
 piece_shown pieces [] before after parts some there = absurd (omega (arith, there, ap (λ ps. byte_len (concat ps)) (some refl)))
 piece_shown pieces (c ∷ cs) before after parts some there = parts ∙ append_assoc before ((c ∷ cs) ∷ []) after
 
@@ -155,12 +155,8 @@ none_ahead pieces byte h cut e =
     no_piece [] cut low = refl
     no_piece (p ∷ ps) cut low = absurd (omega (arith, low, (first_piece p ps cut).not_empty, byte_len-append p (concat ps)))
 
-pub none_behind : (pieces : List (List ℕ)) → (before_item (pieces_before 0 pieces) pieces).behind ≡ []
-none_behind [] = refl
-none_behind (p ∷ ps) = refl
-
 -- ---- the chunks from a place on
-some_piece : (pieces before : List (List ℕ)) (chunk : List ℕ) (after : List (List ℕ)) (by : By) (i : ℕ) → pieces ≡ before ++ piece_of chunk ++ after → (chunk ≡ [] → pieces ≡ []) → i < amount by (counts_of (text_of pieces))
+some_piece : (pieces before : List (List ℕ)) (chunk : List ℕ) (after : List (List ℕ)) (by : By) (i : ℕ) → pieces ≡ before ++ lone_piece chunk ++ after → (chunk ≡ [] → pieces ≡ []) → i < amount by (counts_of (text_of pieces))
     → pieces ≡ before ++ chunk ∷ after
 some_piece pieces before [] after by i parts some more = absurd (omega (arith, more, ap (λ ps. amount by (counts_of (text_of ps))) (some refl), amount-nothing by))
 some_piece pieces before (c ∷ cs) after by i parts some more = parts ∙ append_assoc before ((c ∷ cs) ∷ []) after
@@ -176,8 +172,8 @@ passes_chunk pieces before chunk after by i parts more (inr e) =
 pub chunk_parts : (pieces : List (List ℕ)) (by : By) (i : ℕ) (chunk : List ℕ) (start : Counts) → StandsAt pieces by i chunk start → IsBetweenPieces pieces start.bytes
 chunk_parts pieces by i chunk start h = record {
   front = h.before;
-  rest = piece_of chunk ++ h.after;
-  parts = h.parts ∙ append_assoc h.before (piece_of chunk) h.after;
+  rest = lone_piece chunk ++ h.after;
+  parts = h.parts ∙ append_assoc h.before (lone_piece chunk) h.after;
   place = ap (λ c. c.bytes) h.start_is;
 }
 

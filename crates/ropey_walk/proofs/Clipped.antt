@@ -6,7 +6,7 @@ use Rattle.std.proofs.lemmas.Bool.{cases_lt, and_parts, and_from}
 use Rattle.std.proofs.lemmas.List.{take-append-drop, take_all}
 use Rattle.std.proofs.lemmas.Str.{length-le-encodes}
 use Rattle.str_indices.specs.Text.{byte_len, cuts_cr_lf, starts_with_lf, ends_with_cr}
-use Rattle.ropey_tree.specs.Cutting.{IsPiece, IsCutting, IsText}
+use Rattle.ropey_tree.specs.Cutting.{IsPiece, IsCutting, IsRopeText}
 use Rattle.ropey_walk.specs.Chunks.{text_of}
 use Rattle.ropey_walk.specs.Clips.{between, pieces_from_char, pieces_to_char, clip}
 use Rattle.ropey_walk.proofs.Cuts.{byte_len-append, first_piece, rest_cut, bytes-concat, text_fits}
@@ -99,7 +99,7 @@ bytes-part a e t =
       ap byte_len (sym (take-append-drop a (take e t))) ∙ byte_len-append (take a (take e t)) (between a e t),
     )
 
-pub text-is : (a e : ℕ) (ps : List (List ℕ)) → IsText ps → IsText (clip a e ps)
+pub text-is : (a e : ℕ) (ps : List (List ℕ)) → IsRopeText ps → IsRopeText (clip a e ps)
 text-is a e ps h = record {
   cut = cut-clip a e ps h.cut;
   fits = omega (arith, bytes-concat (clip a e ps), ap byte_len (text-clip a e ps), bytes-part a e (text_of ps), text_fits ps h);

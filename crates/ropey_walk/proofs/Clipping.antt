@@ -154,10 +154,6 @@ no-take : (k : ℕ) → take {A = ℕ} k [] ≡ []
 no-take zero = refl
 no-take (suc k) = refl
 
-no-drop : (k : ℕ) → drop {A = ℕ} k [] ≡ []
-no-drop zero = refl
-no-drop (suc k) = refl
-
 pub drop-of-take : (a m : ℕ) (p : List ℕ) → drop a (take (a + m) p) ≡ take m (drop a p)
 drop-of-take zero m p = let same : 0 + m ≡ m = omega arith in ap (λ k. take k p) same
 drop-of-take (suc a) m [] = ap (drop (suc a)) (no-take (suc a + m)) ∙ sym (no-take m)

@@ -6,7 +6,7 @@ use Rattle.std.proofs.lemmas.List.Sums.{sum_by-cons}
 use Rattle.std.proofs.lemmas.Str.{encodes-append}
 use Rattle.str_indices.specs.Text.{starts_with_lf, byte_len, ends_with_cr}
 use Rattle.ropey_tree.specs.Counts.{total}
-use Rattle.ropey_tree.specs.Cutting.{IsPiece, IsCutting, IsText, cuts_cr_lf}
+use Rattle.ropey_tree.specs.Cutting.{IsPiece, IsCutting, IsRopeText, cuts_cr_lf}
 use Rattle.ropey_walk.specs.Chunks.{text_of}
 use Rattle.ropey_walk.specs.Laws.{NoCuttingCutsCrLf}
 
@@ -67,5 +67,5 @@ pub bytes-concat : (ps : List (List ℕ)) → (total ps).bytes ≡ byte_len (con
 bytes-concat [] = refl
 bytes-concat (p ∷ ps) = sum_by-cons byte_len p ps ∙ ap (λ n. byte_len p + n) (bytes-concat ps) ∙ sym (byte_len-append p (concat ps))
 
-pub text_fits : (ps : List (List ℕ)) → IsText ps → byte_len (text_of ps) < 2 ^ 63
+pub text_fits : (ps : List (List ℕ)) → IsRopeText ps → byte_len (text_of ps) < 2 ^ 63
 text_fits ps h = omega (arith, bytes-concat ps, h.fits)

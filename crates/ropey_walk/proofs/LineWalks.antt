@@ -252,9 +252,6 @@ module _ (law : LineStarts) (text : List ℕ) (from : LinePlace) (h : IsLinePlac
     cut_back : chars (take at chunk) ≡ chars (take to chunk) ++ chars (take (at - to) (drop to chunk))
     cut_back = ap chars taken_back ∙ chars-append (take to chunk) (take (at - to) (drop to chunk)) (IsUtf8-take chunk to h.utf8 boundary_back)
 
-    width_back : length (take (at - to) (drop to chunk)) ≡ at - to
-    width_back = length-take-le (at - to) (drop to chunk) (omega (arith, order, h.boundary.0, length-drop to chunk))
-
     pub one_byte_back : from.place.is_ascii ≡ true → length (chars (take (at - to) (drop to chunk))) ≡ at - to
     one_byte_back is =
         let f = chars (take to chunk) in

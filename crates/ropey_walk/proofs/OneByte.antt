@@ -12,7 +12,7 @@ use Rattle.str_indices.specs.Text.{byte_len, char_ends, unit_ends, unit_starts, 
 use Rattle.str_indices.specs.Laws.{AnyTexts, EndsAddUp, PlacesAddUp, UnitStartsAddUp, UnitsAreCharsAndPairs, NoMoreThanBytes}
 use Rattle.ropey_tree.specs.declared.counts.Counts.{Counts}
 use Rattle.ropey_tree.specs.Counts.{counts_of}
-use Rattle.ropey_walk.specs.Chunks.{text_of, piece_of}
+use Rattle.ropey_walk.specs.Chunks.{text_of, lone_piece}
 use Rattle.ropey_walk.proofs.Cuts.{byte_len-append}
 use Rattle.ropey_walk.proofs.ChunkParts.{text_of_piece}
 use Rattle.ropey_walk.proofs.Reading.{place_of_front}
@@ -54,13 +54,10 @@ between-bytes j k t one =
     let parts : take j (take k t) ++ drop j (take k t) ++ drop k t ≡ t = ap (λ s. s ++ drop k t) (take-append-drop j (take k t)) ∙ take-append-drop k t in
     middle-bytes (take j (take k t)) (drop j (take k t)) (drop k t) (subst IsOneByte (sym parts) one)
 
-pub front-one : (t : List ℕ) (k : ℕ) → IsOneByte t → IsOneByte (take k t)
-front-one t k one = between-bytes 0 k t one
-
-pub piece-bytes : (pieces before after : List (List ℕ)) (chunk : List ℕ) → pieces ≡ before ++ piece_of chunk ++ after → IsOneByte (text_of pieces) → IsOneByte chunk
+pub piece-bytes : (pieces before after : List (List ℕ)) (chunk : List ℕ) → pieces ≡ before ++ lone_piece chunk ++ after → IsOneByte (text_of pieces) → IsOneByte chunk
 piece-bytes pieces before after chunk parts one =
-    let front = concat-append before (piece_of chunk) ∙ ap (λ t. concat before ++ t) (text_of_piece chunk) in
-    let e : text_of pieces ≡ text_of before ++ chunk ++ text_of after = ap concat parts ∙ concat-append (before ++ piece_of chunk) after ∙ ap (λ t. t ++ concat after) front in
+    let front = concat-append before (lone_piece chunk) ∙ ap (λ t. concat before ++ t) (text_of_piece chunk) in
+    let e : text_of pieces ≡ text_of before ++ chunk ++ text_of after = ap concat parts ∙ concat-append (before ++ lone_piece chunk) after ∙ ap (λ t. t ++ concat after) front in
     middle-bytes (text_of before) chunk (text_of after) (subst IsOneByte e one)
 
 pub front-one-byte : (bytes : List ℕ) (at : ℕ) → IsUtf8 bytes → IsCharBoundary bytes at → length (chars bytes) ≡ length bytes → length (chars (take at bytes)) ≡ length (take at bytes)

@@ -6,7 +6,7 @@ use Rattle.str_indices.specs.Text.{byte_len}
 use Rattle.ropey_tree.specs.declared.counts.Counts.{Counts}
 use Rattle.ropey_tree.specs.declared.counts.By.TheVariants.{Bytes}
 use Rattle.ropey_tree.specs.Cutting.{IsCutting}
-use Rattle.ropey_walk.specs.Chunks.{text_of, piece_of}
+use Rattle.ropey_walk.specs.Chunks.{text_of, lone_piece}
 use Rattle.ropey_walk.specs.Standing.{StandsAt}
 use Rattle.ropey_walk.proofs.Cuts.{byte_len-append, first_piece, rest_cut}
 
@@ -15,7 +15,7 @@ pub record OneOrMore (pieces : List (List ℕ)) (chunk : List ℕ) : Type 0 wher
   pub all : length pieces ≤ 1 → chunk ≡ text_of pieces
   pub some : 1 < length pieces → byte_len chunk < byte_len (text_of pieces)
 
-first_is : (pieces : List (List ℕ)) (chunk : List ℕ) (after : List (List ℕ)) → pieces ≡ piece_of chunk ++ after → (chunk ≡ [] → pieces ≡ []) → IsCutting pieces → OneOrMore pieces chunk
+first_is : (pieces : List (List ℕ)) (chunk : List ℕ) (after : List (List ℕ)) → pieces ≡ lone_piece chunk ++ after → (chunk ≡ [] → pieces ≡ []) → IsCutting pieces → OneOrMore pieces chunk
 first_is pieces [] after parts some cut =
     let none = some refl in
     record { all = λ _. ap concat (sym none); some = λ more. absurd (omega (arith, more, ap length none)) }
@@ -35,6 +35,6 @@ front_cut (p ∷ front) rest cut h = absurd (omega (arith, h, (first_piece p (fr
 
 pub one_or_more : (pieces : List (List ℕ)) (chunk : List ℕ) (start : Counts) → StandsAt pieces Bytes 0 chunk start → IsCutting pieces → OneOrMore pieces chunk
 one_or_more pieces chunk start h cut =
-    let assoc : pieces ≡ h.before ++ (piece_of chunk ++ h.after) = h.parts ∙ append_assoc h.before (piece_of chunk) h.after in
-    let none = front_cut h.before (piece_of chunk ++ h.after) (subst IsCutting assoc cut) (omega (arith, h.not_past)) in
-    first_is pieces chunk h.after (assoc ∙ ap (λ ps. ps ++ (piece_of chunk ++ h.after)) none) h.some cut
+    let assoc : pieces ≡ h.before ++ (lone_piece chunk ++ h.after) = h.parts ∙ append_assoc h.before (lone_piece chunk) h.after in
+    let none = front_cut h.before (lone_piece chunk ++ h.after) (subst IsCutting assoc cut) (omega (arith, h.not_past)) in
+    first_is pieces chunk h.after (assoc ∙ ap (λ ps. ps ++ (lone_piece chunk ++ h.after)) none) h.some cut

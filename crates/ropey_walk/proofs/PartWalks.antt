@@ -10,7 +10,7 @@ use Rattle.std.specs.Ordering.{nat_cmp, ordering_then, is_ne}
 use Rattle.std.proofs.lemmas.List.{drop_at, drop-append-le, drop-drop, take_at, take_all, append-nil, append_cancel_left}
 use Rattle.std.proofs.lemmas.Str.{encodes-chars, chars_from_encodes}
 use Rattle.str_indices.specs.Text.{byte_len}
-use Rattle.ropey_walk.specs.Chunks.{text_of, IsText}
+use Rattle.ropey_walk.specs.Chunks.{text_of, IsRopeText}
 use Rattle.ropey_walk.proofs.Cuts.{first_piece}
 use Rattle.ropey_walk.proofs.ChunkWalks.{written}
 
@@ -25,10 +25,10 @@ behind_part part chunk len ahead after within whole e utf8 =
     next_bytes chunk ahead after e utf8 ∙ sym (drop_at part (encode_utf8_all (text_of ahead)) len (omega (arith, within, whole)))
 
 -- no chunk is empty
-pub no_empty_chunk : {G : Type 0} (chunk : List ℕ) (ahead after : List (List ℕ)) → IsText ahead → ahead ≡ chars chunk ∷ after → chunk ≡ [] → G
+pub no_empty_chunk : {G : Type 0} (chunk : List ℕ) (ahead after : List (List ℕ)) → IsRopeText ahead → ahead ≡ chars chunk ∷ after → chunk ≡ [] → G
 unfolding chars
 no_empty_chunk chunk ahead after text e empty =
-    let piece = first_piece (chars chunk) after (subst IsText e text).cut in
+    let piece = first_piece (chars chunk) after (subst IsRopeText e text).cut in
     let some : 1 ≤ 0 = subst (λ cs. 1 ≤ byte_len (chars cs)) empty piece.not_empty in
     absurd (omega (arith, some))
 

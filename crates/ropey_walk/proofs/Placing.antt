@@ -10,14 +10,14 @@ use Rattle.str_indices.specs.Laws.{AnyTexts, EndsAddUp, PlacesAddUp, UnitStartsA
 use Rattle.ropey_tree.specs.declared.counts.Counts.{Counts}
 use Rattle.ropey_tree.specs.declared.counts.By.TheVariants.{Bytes, Chars, Units, Breaks}
 use Rattle.ropey_tree.specs.Counts.{counts_of}
-use Rattle.ropey_tree.specs.Cutting.{IsCutting, IsText}
-use Rattle.ropey_walk.specs.Chunks.{text_of, line_breaks, piece_of, is_break}
+use Rattle.ropey_tree.specs.Cutting.{IsCutting, IsRopeText}
+use Rattle.ropey_walk.specs.Chunks.{text_of, line_breaks, lone_piece, is_break}
 use Rattle.ropey_walk.specs.Conversions.{char_of_byte, unit_of_byte, line_of_byte, byte_of_char, byte_of_unit, byte_of_line}
 use Rattle.ropey_walk.specs.Standing.{StandsAt, IsPlaceIn}
 use Rattle.ropey_walk.proofs.Cuts.{byte_len-append, cut-left, whole_seams, text_fits}
 
 -- ---- the chunk in the text
-piece_text : (chunk : List ℕ) → concat (piece_of chunk) ≡ chunk
+piece_text : (chunk : List ℕ) → concat (lone_piece chunk) ≡ chunk
 piece_text [] = refl
 piece_text (c ∷ cs) = append-nil (c ∷ cs)
 
@@ -29,15 +29,15 @@ pub record IsPart (text chunk before after : List ℕ) : Type 0 where
   pub fits : byte_len text < 2 ^ 63
   pub sums : byte_len text ≡ byte_len before + byte_len chunk + byte_len after
 
-pub is_part : (pieces before after : List (List ℕ)) (chunk : List ℕ) → pieces ≡ before ++ piece_of chunk ++ after → IsText pieces → IsPart (text_of pieces) chunk (text_of before) (text_of after)
+pub is_part : (pieces before after : List (List ℕ)) (chunk : List ℕ) → pieces ≡ before ++ lone_piece chunk ++ after → IsRopeText pieces → IsPart (text_of pieces) chunk (text_of before) (text_of after)
 is_part pieces before after chunk parts text =
-    let through : text_of (before ++ piece_of chunk) ≡ text_of before ++ chunk = concat-append before (piece_of chunk) ∙ ap (λ t. concat before ++ t) (piece_text chunk) in
-    let whole : text_of pieces ≡ text_of before ++ chunk ++ text_of after = ap concat parts ∙ concat-append (before ++ piece_of chunk) after ∙ ap (λ t. t ++ concat after) through in
-    let cut : IsCutting (before ++ piece_of chunk ++ after) = subst IsCutting parts text.cut in
+    let through : text_of (before ++ lone_piece chunk) ≡ text_of before ++ chunk = concat-append before (lone_piece chunk) ∙ ap (λ t. concat before ++ t) (piece_text chunk) in
+    let whole : text_of pieces ≡ text_of before ++ chunk ++ text_of after = ap concat parts ∙ concat-append (before ++ lone_piece chunk) after ∙ ap (λ t. t ++ concat after) through in
+    let cut : IsCutting (before ++ lone_piece chunk ++ after) = subst IsCutting parts text.cut in
     record {
       parts = whole;
-      whole_before = subst (NoCrLfBetween (text_of before)) (piece_text chunk) (whole_seams before (piece_of chunk) (cut-left (before ++ piece_of chunk) after cut));
-      whole_after = subst (λ (t : List ℕ). NoCrLfBetween t (text_of after)) through (whole_seams (before ++ piece_of chunk) after cut);
+      whole_before = subst (NoCrLfBetween (text_of before)) (piece_text chunk) (whole_seams before (lone_piece chunk) (cut-left (before ++ lone_piece chunk) after cut));
+      whole_after = subst (λ (t : List ℕ). NoCrLfBetween t (text_of after)) through (whole_seams (before ++ lone_piece chunk) after cut);
       fits = text_fits pieces text;
       sums = ap byte_len whole ∙ omega (arith, byte_len-append (text_of before ++ chunk) (text_of after), byte_len-append (text_of before) chunk);
     }
@@ -57,7 +57,7 @@ pub none_after : (after : List (List ℕ)) → after ≡ [] → text_of after �
 none_after after e = ap concat e
 
 -- by bytes
-pub byte_placed : (pieces : List (List ℕ)) (i : ℕ) (chunk : List ℕ) (start : Counts) → StandsAt pieces Bytes i chunk start → IsText pieces → i ≤ byte_len (text_of pieces) → IsPlaced (text_of pieces) chunk start (i - start.bytes) i
+pub byte_placed : (pieces : List (List ℕ)) (i : ℕ) (chunk : List ℕ) (start : Counts) → StandsAt pieces Bytes i chunk start → IsRopeText pieces → i ≤ byte_len (text_of pieces) → IsPlaced (text_of pieces) chunk start (i - start.bytes) i
 byte_placed pieces i chunk start h text within =
     let part = is_part pieces h.before h.after chunk h.parts text in
     let starts : start.bytes ≡ byte_len (text_of h.before) = ap (λ c. c.bytes) h.start_is in
@@ -101,7 +101,7 @@ last_after : {P : Type 0} (after : List (List ℕ)) → P ⊎ (after ≡ []) →
 last_after after (inl p) = inl p
 last_after after (inr e) = inr (none_after after e)
 
-module _ (pieces : List (List ℕ)) (bytes : List ℕ) (start : Counts) (utf8 : IsUtf8 bytes) (text : IsText pieces) where
+module _ (pieces : List (List ℕ)) (bytes : List ℕ) (start : Counts) (utf8 : IsUtf8 bytes) (text : IsRopeText pieces) where
   len : length bytes ≡ byte_len (chars bytes)
   len = sym (ap length (encodes-chars bytes utf8))
 

@@ -13,13 +13,13 @@ use Rattle.ropey_tree.specs.declared.counts.Counts.{Counts}
 use Rattle.ropey_tree.specs.declared.counts.By.{By}
 use Rattle.ropey_tree.specs.declared.counts.By.TheVariants.{Bytes, Chars, Units, Breaks}
 use Rattle.ropey_tree.specs.Counts.{counts_of, zero_counts, plus, minus, amount}
-use Rattle.ropey_tree.specs.Cutting.{IsCutting, IsText}
+use Rattle.ropey_tree.specs.Cutting.{IsCutting, IsRopeText}
 use Rattle.ropey_tree.specs.Nodes.{LiesIn}
 use Rattle.ropey_tree.specs.Laws.{CountsAreOfTheText}
 use Rattle.ropey_walk.specs.Chunks.{text_of}
 use Rattle.ropey_walk.specs.Clips.{between, pieces_from_char, pieces_to_char, clip}
 use Rattle.ropey_walk.specs.Conversions.{line_of_byte}
-use Rattle.ropey_walk.specs.Parts.{standing, IsReached}
+use Rattle.ropey_walk.specs.Parts.{standing, ReachesLeaf}
 use Rattle.ropey_walk.specs.Standing.{StandsAt}
 use Rattle.ropey_walk.proofs.BreakLaws.{BreaksOfParts}
 use Rattle.ropey_walk.proofs.Cuts.{byte_len-append, first_piece, cut-left, cut-right, whole_seams}
@@ -49,7 +49,7 @@ whole_part law pieces start len e h =
       counted = h ∙ ap counts_of (sym (ap (λ n. drop n (take (start.chars + len.chars) t)) first ∙ ap (λ n. take n t) end ∙ take_all (length t) t (omega arith)));
     }
 
-pub whole_clip : (pieces : List (List ℕ)) (start len : Counts) → start ≡ zero_counts → len ≡ counts_of (text_of pieces) → IsText pieces → clip start.chars (start.chars + len.chars) pieces ≡ pieces
+pub whole_clip : (pieces : List (List ℕ)) (start len : Counts) → start ≡ zero_counts → len ≡ counts_of (text_of pieces) → IsRopeText pieces → clip start.chars (start.chars + len.chars) pieces ≡ pieces
 whole_clip pieces start len e h text =
     let first : start.chars ≡ 0 = ap (λ c. c.chars) e in
     let end : start.chars + len.chars ≡ length (text_of pieces) = omega (arith, first, ap (λ c. c.chars) h) in
@@ -132,7 +132,7 @@ end-bytes t start len h =
     )
 
 -- ---- the leaf in which a place of a part lies
-module _ (law : BreaksOfParts) (counted : CountsAreOfTheText) (pieces : List (List ℕ)) (text : IsText pieces) (start len : Counts) (part : IsPart (text_of pieces) start len) (some : 0 < len.chars) where
+module _ (law : BreaksOfParts) (counted : CountsAreOfTheText) (pieces : List (List ℕ)) (text : IsRopeText pieces) (start len : Counts) (part : IsPart (text_of pieces) start len) (some : 0 < len.chars) where
   abbrev t : List ℕ
   t = text_of pieces
 
@@ -215,7 +215,7 @@ module _ (law : BreaksOfParts) (counted : CountsAreOfTheText) (pieces : List (Li
         ]
       ]
 
-  pub reached-within : (leaf : List ℕ) (by : By) (i : ℕ) (before : Counts) → i < amount by len → LiesIn pieces (leaf ∷ []) by (amount by start + i) before → IsReached pieces start len by i leaf before
+  pub reached-within : (leaf : List ℕ) (by : By) (i : ℕ) (before : Counts) → i < amount by len → LiesIn pieces (leaf ∷ []) by (amount by start + i) before → ReachesLeaf pieces start len by i leaf before
   reached-within leaf by i before inside h =
       let f = found leaf by (amount by start + i) before h in
       record {
@@ -232,7 +232,7 @@ module _ (law : BreaksOfParts) (counted : CountsAreOfTheText) (pieces : List (Li
         ];
       }
 
-  pub reached-last : (leaf : List ℕ) (by : By) (i : ℕ) (before : Counts) → amount by len ≤ i → LiesIn pieces (leaf ∷ []) Bytes (start.bytes + (len.bytes - 1)) before → IsReached pieces start len by i leaf before
+  pub reached-last : (leaf : List ℕ) (by : By) (i : ℕ) (before : Counts) → amount by len ≤ i → LiesIn pieces (leaf ∷ []) Bytes (start.bytes + (len.bytes - 1)) before → ReachesLeaf pieces start len by i leaf before
   reached-last leaf by i before past h =
       let byte = len.bytes - 1 in
       let bytes = some_bytes t start len part in
@@ -357,7 +357,7 @@ clipped_leaf l a e leaf = drop (a - length l) (take (e - length l) leaf)
 some_clipped : (a e : ℕ) (l leaf : List ℕ) → 0 < length leaf → length l < e → a < e → a < length (l ++ leaf) → 0 < length (clipped_leaf l a e leaf)
 some_clipped a e l leaf there low some high = omega (arith, there, low, some, high, length-append l leaf, length-drop (a - length l) (take (e - length l) leaf), length-take (e - length l) leaf)
 
-module _ (law : BreaksOfParts) (pieces : List (List ℕ)) (text : IsText pieces) (start len : Counts) (part : IsPart (text_of pieces) start len) (some : 0 < len.chars) (by : By) (i : ℕ) (leaf : List ℕ) (before : Counts) (r : IsReached pieces start len by i leaf before) where
+module _ (law : BreaksOfParts) (pieces : List (List ℕ)) (text : IsRopeText pieces) (start len : Counts) (part : IsPart (text_of pieces) start len) (some : 0 < len.chars) (by : By) (i : ℕ) (leaf : List ℕ) (before : Counts) (r : ReachesLeaf pieces start len by i leaf before) where
   abbrev whole : List ℕ
   whole = text_of pieces
 

@@ -9,7 +9,7 @@ use Rattle.str_indices.specs.Text.{char_ends, end_place, ends_up_to, byte_len}
 use Rattle.str_indices.proofs.TextLaws.{to_byte_idx_is_a_boundary-chars, boundaries_and_indices_agree-chars, place_there_and_back-chars, ends_of_a_part-chars}
 use Rattle.ropey_tree.specs.declared.counts.Counts.{Counts}
 use Rattle.ropey_tree.specs.declared.counts.By.TheVariants.{Bytes, Chars}
-use Rattle.ropey_tree.specs.Cutting.{IsText}
+use Rattle.ropey_tree.specs.Cutting.{IsRopeText}
 use Rattle.ropey_walk.specs.Chunks.{text_of}
 use Rattle.ropey_walk.specs.Standing.{StandsAt}
 use Rattle.ropey_walk.proofs.Cuts.{byte_len-append}
@@ -21,7 +21,7 @@ pub record IsByteAt (bytes all : List ℕ) (start i : ℕ) : Type 0 where
   pub within : i - start < length bytes
   pub is : get_or bytes (i - start) 0 ≡ get_or all i 0
 
-pub byte_read : (pieces : List (List ℕ)) (i : ℕ) (bytes : List ℕ) (start : Counts) → IsUtf8 bytes → StandsAt pieces Bytes i (chars bytes) start → IsText pieces → i < byte_len (text_of pieces)
+pub byte_read : (pieces : List (List ℕ)) (i : ℕ) (bytes : List ℕ) (start : Counts) → IsUtf8 bytes → StandsAt pieces Bytes i (chars bytes) start → IsRopeText pieces → i < byte_len (text_of pieces)
     → IsByteAt bytes (encode_utf8_all (text_of pieces)) start.bytes i
 byte_read pieces i bytes start utf8 h text inside =
     let chunk = chars bytes in
@@ -62,7 +62,7 @@ pub record IsCharAt (bytes : List ℕ) (at character : ℕ) : Type 0 where
   pub rest : List ℕ
   pub reads : drop at bytes ≡ encode_utf8 character ++ rest
 
-pub char_read : (pieces : List (List ℕ)) (k : ℕ) (bytes : List ℕ) (start : Counts) → IsUtf8 bytes → StandsAt pieces Chars k (chars bytes) start → IsText pieces → k < length (text_of pieces)
+pub char_read : (pieces : List (List ℕ)) (k : ℕ) (bytes : List ℕ) (start : Counts) → IsUtf8 bytes → StandsAt pieces Chars k (chars bytes) start → IsRopeText pieces → k < length (text_of pieces)
     → IsCharAt bytes (end_place (char_ends (chars bytes)) (k - start.chars) (length bytes)) (get_or (text_of pieces) k 0)
 char_read pieces k bytes start utf8 h text inside =
     let chunk = chars bytes in

@@ -5,7 +5,7 @@ use Rattle.str_indices.specs.Text.{byte_len, units}
 use Rattle.ropey_tree.specs.declared.counts.Counts.{Counts}
 use Rattle.ropey_tree.specs.declared.counts.By.{By}
 use Rattle.ropey_tree.specs.Counts.{counts_of, plus, amount}
-use Rattle.ropey_tree.specs.Cutting.{IsText}
+use Rattle.ropey_tree.specs.Cutting.{IsRopeText}
 use Rattle.ropey_walk.specs.Chunks.{text_of}
 use Rattle.ropey_walk.specs.Clips.{between, clip}
 use Rattle.ropey_walk.specs.Conversions.{line_of_byte}
@@ -28,8 +28,8 @@ nothing_in slice e =
     let same : slice.start.chars + slice.len.chars ≡ slice.start.chars = omega (arith, e) in
     ap (λ n. clip slice.start.chars n (source_pieces slice.source)) same ∙ clip-nothing slice.start.chars (source_pieces slice.source)
 
-pub no_text : (pieces : List (List ℕ)) → pieces ≡ [] → IsText pieces
-no_text pieces e = subst IsText (sym e) (record { cut = tt; fits = omega arith })
+pub no_text : (pieces : List (List ℕ)) → pieces ≡ [] → IsRopeText pieces
+no_text pieces e = subst IsRopeText (sym e) (record { cut = tt; fits = omega arith })
 
 -- ---- a part of a part of a text
 between-take : (k a e : ℕ) (t : List ℕ) → a ≤ e → k ≤ e - a → take k (between a e t) ≡ between a (a + k) t

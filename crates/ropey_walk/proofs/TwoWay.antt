@@ -1,5 +1,5 @@
 -- A place between the items of a list.
-use Rattle.std.proofs.Common.{◌≡◌, ℕ, suc, ◌+◌, List, [], ◌∷◌, ◌++◌, ◌-◌, ◌<◌, ◌≤◌, length, take, drop, map, get_or, refl, ap, arith, sym, ◌∙◌, length-append, length-drop, append_assoc, take-append-drop, length-take-le}
+use Rattle.std.proofs.Common.{◌≡◌, ℕ, suc, ◌+◌, List, [], ◌∷◌, ◌++◌, ◌-◌, ◌<◌, ◌≤◌, length, take, drop, map, get_or, ap, arith, sym, ◌∙◌, length-append, length-drop, append_assoc, take-append-drop, length-take-le}
 use Rattle.std.proofs.Math.Seq.{drop-cons}
 use Rattle.std.specs.Prelude.{reverse, Bool, true, false}
 use Rattle.std.specs.List.{range_with_len}
@@ -75,9 +75,6 @@ crosses_mapped item_of count n m within next =
 
 pub none_ahead : {A : Type 0} → (items : List A) (n : ℕ) → n ≡ length items → (before_item n items).ahead ≡ []
 none_ahead items n e = ahead_of items items [] n (sym (append-nil items)) e
-
-pub none_behind : {A : Type 0} → (items : List A) (n : ℕ) → n ≡ 0 → (before_item n items).behind ≡ []
-none_behind items n e = behind_of items [] items n refl e
 
 -- ---- how many there are
 pub ahead_count : {A : Type 0} → (items : List A) (n : ℕ) → length (before_item n items).ahead ≡ length items - n

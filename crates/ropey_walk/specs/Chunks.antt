@@ -3,7 +3,7 @@ use Rattle.std.specs.Prelude.{◌≡◌, ℕ, ◌-◌, ◌<◌, ◌≤◌, ◌�
 use Rattle.std.specs.List.{concat}
 use Rattle.str_indices.specs.Text.{breaks, byte_len}
 -- how a rope is cut, in the words of the tree
-pub use Rattle.ropey_tree.specs.Cutting.{IsPiece, IsCutting, IsText}
+pub use Rattle.ropey_tree.specs.Cutting.{IsPiece, IsCutting, IsRopeText}
 -- which characters break its lines
 pub use Rattle.ropey_tree.specs.Breaks.{is_break}
 
@@ -16,15 +16,15 @@ abbrev pub line_breaks : List ℕ → ℕ
 line_breaks text = breaks is_break text
 
 -- a piece by itself; an empty text has none
-abbrev pub piece_of : List ℕ → List (List ℕ)
-piece_of [] = []
-piece_of (c ∷ cs) = (c ∷ cs) ∷ []
+abbrev pub lone_piece : List ℕ → List (List ℕ)
+lone_piece [] = []
+lone_piece (c ∷ cs) = (c ∷ cs) ∷ []
 
 -- The chunk in which place i of a measure lies, with the byte, the character and the line at which it starts: the first up to whose end more than i stand, else the last. A text without pieces shows an empty chunk.
 pub record ShowsChunk (pieces : List (List ℕ)) (count : List ℕ → ℕ) (i : ℕ) (chunk : List ℕ) (byte char line : ℕ) : Type 0 where
   pub before : List (List ℕ)
   pub after : List (List ℕ)
-  pub parts : pieces ≡ before ++ piece_of chunk ++ after
+  pub parts : pieces ≡ before ++ lone_piece chunk ++ after
   pub some : chunk ≡ [] → pieces ≡ []
   pub byte_is : byte ≡ byte_len (text_of before)
   pub char_is : char ≡ length (text_of before)

@@ -19,7 +19,7 @@ abbrev pub standing : List ℕ → ℕ → Counts
 standing text char = record { bytes = byte_len (take char text); chars = char; units = units (take char text); breaks = line_of_byte text (byte_len (take char text)) }
 
 -- The leaf of a text in pieces into which a part of the text reaches, and what stands before it: the first up to whose end more than place i of a measure stands, counted from the part's start, else the one in which the part ends.
-pub record IsReached (pieces : List (List ℕ)) (start len : Counts) (by : By) (i : ℕ) (leaf : List ℕ) (before : Counts) : Type 0 where
+pub record ReachesLeaf (pieces : List (List ℕ)) (start len : Counts) (by : By) (i : ℕ) (leaf : List ℕ) (before : Counts) : Type 0 where
   pub left : List (List ℕ)
   pub right : List (List ℕ)
   pub parts : pieces ≡ left ++ leaf ∷ right

@@ -4,13 +4,13 @@ use Rattle.str_indices.specs.Text.{byte_len, NoCrLfBetween}
 use Rattle.ropey_tree.specs.declared.counts.Counts.{Counts}
 use Rattle.ropey_tree.specs.declared.counts.By.{By}
 use Rattle.ropey_tree.specs.Counts.{counts_of, amount}
-use Rattle.ropey_walk.specs.Chunks.{text_of, piece_of}
+use Rattle.ropey_walk.specs.Chunks.{text_of, lone_piece}
 
 -- the chunk in which place i of a measure lies, as `ShowsChunk` has it
 pub record StandsAt (pieces : List (List ℕ)) (by : By) (i : ℕ) (chunk : List ℕ) (start : Counts) : Type 0 where
   pub before : List (List ℕ)
   pub after : List (List ℕ)
-  pub parts : pieces ≡ before ++ piece_of chunk ++ after
+  pub parts : pieces ≡ before ++ lone_piece chunk ++ after
   pub some : chunk ≡ [] → pieces ≡ []
   pub start_is : start ≡ counts_of (text_of before)
   pub not_past : amount by (counts_of (text_of before)) ≤ i
@@ -31,5 +31,5 @@ pub record IsPlaceIn (text chunk : List ℕ) (start : Counts) (at : ℕ) : Type 
 pub record IsChunkOf (pieces : List (List ℕ)) (chunk : List ℕ) (start : Counts) : Type 0 where
   pub before : List (List ℕ)
   pub after : List (List ℕ)
-  pub parts : pieces ≡ before ++ piece_of chunk ++ after
+  pub parts : pieces ≡ before ++ lone_piece chunk ++ after
   pub start_is : start ≡ counts_of (text_of before)

@@ -3,7 +3,7 @@
 ghost use Rattle.std.specs.Prelude.{◌≡◌, ◌+◌, ◌-◌, ◌<◌, ◌≤◌, ◌↔◌, length, slice_index, SomeIff, IfSome, IsSome, IsNone, IfOk, IfErr, IsOk, encode_utf8_all};
 ghost use Rattle.std.specs.Str.{chars, IsUtf8};
 ghost use Rattle.str_indices.specs.Text.{byte_len};
-ghost use Rattle.ropey_walk.specs.Chunks.{line_breaks, IsText, ShowsChunk, ShowsChunkOfBreak};
+ghost use Rattle.ropey_walk.specs.Chunks.{line_breaks, IsRopeText, ShowsChunk, ShowsChunkOfBreak};
 
 use crate::ascii::byte_of_char;
 use crate::slice::RopeSlice;
@@ -67,7 +67,7 @@ impl<'a> RopeSlice<'a> {
         ensures chunk { ShowsChunk (slice_pieces self.now) byte_len byte_idx (chars result.0.now)
             result.1 result.2 result.3 }
         ensures utf8 { IsUtf8 result.0.now }
-        ensures cut { IsText (slice_pieces self.now) }
+        ensures cut { IsRopeText (slice_pieces self.now) }
     {
         let chunk = self.chunk(By::Bytes, byte_idx);
         (

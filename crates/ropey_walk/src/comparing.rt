@@ -8,7 +8,7 @@ ghost use Rattle.std.specs.Cmp.Rules.{comparing, hashing};
 ghost use Rattle.std.specs.Ordering.{nat_cmp, on, as_partial_cmp};
 ghost use Rattle.std.specs.Prelude.{nat_eq};
 ghost use Rattle.std.proofs.Common.{rules};
-ghost use Rattle.ropey_walk.specs.Chunks.{IsText};
+ghost use Rattle.ropey_walk.specs.Chunks.{IsRopeText};
 ghost use Rattle.ropey_walk.specs.Comparing.{slice_bytes, bytes_left, hash_writes};
 ghost use Rattle.ropey_walk.specs.Slices.{slice_text};
 
@@ -24,10 +24,10 @@ const BLOCK_LEN: usize = 256;
 /// What is left of a part of a text behind some of its bytes, or the next chunk where nothing is.
 fn part_behind<'a>(part: &'a [u8], len: usize, chunks: &mut Chunks<'a>) -> &'a [u8]
     requires within { len ≤ length part.now }
-    requires cut { IsText chunks.old.ahead }
+    requires cut { IsRopeText chunks.old.ahead }
     ensures bytes { bytes_left result.now chunks.new ≡ drop len (bytes_left part.now chunks.old) }
     ensures some { result.now ≡ [] → chunks.new.ahead ≡ [] }
-    ensures cut { IsText chunks.new.ahead }
+    ensures cut { IsRopeText chunks.new.ahead }
 {
     if len < part.len() {
         return &part[len..];
@@ -63,12 +63,12 @@ fn compare(left: RopeSlice<'_>, right: RopeSlice<'_>) -> Ordering
 fn copy_next<'a>(block: &mut [u8], part: &'a [u8], chunks: &mut Chunks<'a>) -> &'a [u8]
     requires some { length block.old ≤ length (bytes_left part.now chunks.old) }
     requires part { part.now ≡ [] → chunks.old.ahead ≡ [] }
-    requires cut { IsText chunks.old.ahead }
+    requires cut { IsRopeText chunks.old.ahead }
     ensures copied { bytes_left part.now chunks.old
         ≡ block.new ++ bytes_left result.now chunks.new }
     ensures len { length block.new ≡ length block.old }
     ensures part { result.now ≡ [] → chunks.new.ahead ≡ [] }
-    ensures cut { IsText chunks.new.ahead }
+    ensures cut { IsRopeText chunks.new.ahead }
 {
     let mut rest = part;
     let mut at = 0;

@@ -10,7 +10,7 @@
 ghost use Rattle.std.specs.Prelude.{◌≡◌, ◌+◌, ◌-◌, ◌<◌, ◌≤◌, ◌↔◌, length, SomeIff, IfOk, IfErr, IfSome, IsNone, encode_utf8_all, string_bytes};
 ghost use Rattle.str_indices.specs.Text.{byte_len};
 ghost use Rattle.ropey_tree.specs.Counts.{counts_of, amount};
-ghost use Rattle.ropey_walk.specs.Chunks.{line_breaks, IsText};
+ghost use Rattle.ropey_walk.specs.Chunks.{line_breaks, IsRopeText};
 ghost use Rattle.ropey_walk.specs.TwoWay.{before_item};
 ghost use Rattle.ropey_walk.specs.Iter.{StandsBefore, StandsBeforeBreak, CutsNoCrLf};
 ghost use Rattle.ropey_walk.specs.Lines.{lines_of};
@@ -120,7 +120,7 @@ impl<'a> RopeSlice<'a> {
     /// character and no CR LF cut between them. A text of no characters has none.
     pub fn chunks(&self) -> Chunks<'a>
         ensures pieces { result ≡ before_item 0 (slice_pieces self.now) }
-        ensures cut { IsText (slice_pieces self.now) }
+        ensures cut { IsRopeText (slice_pieces self.now) }
         ensures whole { CutsNoCrLf (slice_pieces self.now) }
     {
         Chunks::at(*self, 0)

@@ -5,8 +5,7 @@ ghost use Rattle.std.specs.Str.{chars, IsUtf8, IsCharBoundary};
 ghost use Rattle.str_indices.specs.Text.{units};
 ghost use Rattle.str_indices.specs.Text.{byte_len};
 ghost use Rattle.ropey_tree.specs.Counts.{counts_of};
-ghost use Rattle.ropey_tree.specs.Cutting.{IsText};
-ghost use Rattle.ropey_walk.specs.Chunks.{line_breaks};
+ghost use Rattle.ropey_tree.specs.Cutting.{IsRopeText};
 ghost use Rattle.ropey_walk.specs.Conversions.{char_of_byte, unit_of_byte, line_of_byte, byte_of_char, byte_of_unit, byte_of_line};
 ghost use Rattle.ropey_walk.specs.Parts.{standing};
 ghost use Rattle.ropey_walk.specs.Standing.{StandsAt, IsPlaceIn, IsChunkOf};
@@ -114,7 +113,7 @@ impl<'a> RopeSlice<'a> {
         ensures later { 0 < line_break_idx →
             StandsAt (slice_pieces self.now) By.Breaks (line_break_idx - 1) (chars result.text.now)
             result.start }
-        ensures cut { IsText (slice_pieces self.now) }
+        ensures cut { IsRopeText (slice_pieces self.now) }
         ensures utf8 { IsUtf8 result.text.now }
     {
         if line_break_idx == 0 {

@@ -4,7 +4,7 @@ ghost use Rattle.std.specs.Prelude.{◌≡◌, ◌+◌, ◌<◌, ◌≤◌, ◌^
 ghost use Rattle.std.specs.Str.{chars, is_utf8};
 ghost use Rattle.str_indices.specs.Text.{byte_len};
 ghost use Rattle.ropey_tree.specs.Counts.{counts_of};
-ghost use Rattle.ropey_tree.specs.Cutting.{IsText};
+ghost use Rattle.ropey_tree.specs.Cutting.{IsRopeText};
 ghost use Rattle.ropey_walk.specs.Chunks.{text_of};
 ghost use Rattle.ropey_walk.specs.Clips.{between};
 ghost use Rattle.ropey_walk.specs.Parts.{pieces_under, standing};
@@ -97,7 +97,7 @@ impl<'a> Source<'a> {
 /// What the text of a tree counts, or the empty text.
 fn counts_under(node: Option<&Node>) -> Counts
     ensures counts { result ≡ counts_of (text_of (pieces_under node.entry)) }
-    ensures cut { IsText (pieces_under node.entry) }
+    ensures cut { IsRopeText (pieces_under node.entry) }
 {
     match node {
         None => Counts::zero(),
@@ -116,8 +116,7 @@ impl<'a> RopeSlice<'a> {
     ghost use Rattle.ropey_walk.specs.Clips.{clip};
     ghost use Rattle.std.specs.Prelude.{ℕ, IfSome};
     ghost use Rattle.ropey_tree.specs.declared.counts.By.{By};
-    ghost use Rattle.ropey_walk.specs.Chunks.{piece_of};
-    ghost use Rattle.ropey_walk.specs.Parts.{IsReached};
+    ghost use Rattle.ropey_walk.specs.Parts.{ReachesLeaf};
     ghost use Rattle.ropey_walk.specs.Standing.{StandsAt, IsChunkOf};
     ghost use Rattle.ropey_walk.specs.Slices.{slice_pieces, slice_text, IsNear};
 
@@ -130,7 +129,7 @@ impl<'a> RopeSlice<'a> {
 
     /// `new` where it is known what the text counts, which isn't counted then. `O(1)`.
     pub fn with_counts(node: Option<&'a Node>, len: Counts) -> Self
-        requires cut { IsText (pieces_under node) }
+        requires cut { IsRopeText (pieces_under node) }
         requires counts { len ≡ counts_of (text_of (pieces_under node)) }
         ensures { slice_pieces result ≡ pieces_under node.entry }
     {
@@ -208,7 +207,7 @@ impl<'a> RopeSlice<'a> {
     pub fn len_bytes(&self) -> usize
         ensures bytes { result ≡ byte_len (slice_text self.now) }
         ensures fits { result < 2 ^ 63 }
-        ensures cut { IsText (slice_pieces self.now) }
+        ensures cut { IsRopeText (slice_pieces self.now) }
     {
         match self.source {
             Source::Light(_) => self.counts().bytes,
@@ -245,7 +244,7 @@ impl<'a> RopeSlice<'a> {
     fn leaf(&self, node: &'a Node, by: By, i: usize) -> Found<'a>
         requires some { 0 < self.now.len.chars }
         requires under { source_pieces self.now.source ≡ node.now.pieces }
-        ensures { IsReached node.now.pieces self.now.start self.now.len by i result.leaf.now
+        ensures { ReachesLeaf node.now.pieces self.now.start self.now.len by i result.leaf.now
             result.before }
     {
         // Laws, and the node's facts, for the proof alone.
@@ -268,7 +267,7 @@ impl<'a> RopeSlice<'a> {
         requires under { source_pieces self.now.source ≡ node.now.pieces }
         requires near { IsNear self.now near.old }
         ensures near { IsNear self.now near.new }
-        ensures reached { IsReached node.now.pieces self.now.start self.now.len By.Bytes byte_idx
+        ensures reached { ReachesLeaf node.now.pieces self.now.start self.now.len By.Bytes byte_idx
             result.leaf.now result.before }
     {
         // Laws, and the node's facts, for the proof alone.
@@ -284,10 +283,10 @@ impl<'a> RopeSlice<'a> {
     fn clipped(&self, node: &'a Node, found: &Found<'a>, by: By, i: usize) -> Chunk<'a>
         requires some { 0 < self.now.len.chars }
         requires under { source_pieces self.now.source ≡ node.now.pieces }
-        requires reached { IsReached node.now.pieces self.now.start self.now.len by i
+        requires reached { ReachesLeaf node.now.pieces self.now.start self.now.len by i
             found.now.leaf.now found.now.before }
         ensures stands { StandsAt (slice_pieces self.now) by i (chars result.text.now) result.start }
-        ensures cut { IsText (slice_pieces self.now) }
+        ensures cut { IsRopeText (slice_pieces self.now) }
         ensures utf8 { IsUtf8 result.text.now }
     {
         // A law, and the node's facts, for the proof alone.
@@ -323,7 +322,7 @@ impl<'a> RopeSlice<'a> {
     /// one. `O(log n)`.
     pub fn chunk(&self, by: By, i: usize) -> Chunk<'a>
         ensures stands { StandsAt (slice_pieces self.now) by i (chars result.text.now) result.start }
-        ensures cut { IsText (slice_pieces self.now) }
+        ensures cut { IsRopeText (slice_pieces self.now) }
         ensures utf8 { IsUtf8 result.text.now }
     {
         if self.len.chars == 0 {
@@ -342,7 +341,7 @@ impl<'a> RopeSlice<'a> {
         ensures near { IsNear self.now near.new }
         ensures stands { StandsAt (slice_pieces self.now) By.Bytes byte_idx (chars result.text.now)
             result.start }
-        ensures cut { IsText (slice_pieces self.now) }
+        ensures cut { IsRopeText (slice_pieces self.now) }
         ensures utf8 { IsUtf8 result.text.now }
     {
         if self.len.chars > 0 {

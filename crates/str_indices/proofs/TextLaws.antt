@@ -1,6 +1,6 @@
 -- The laws of the crate, each of every text: proofs here and in the crates above cite them. A name is
 -- that of the law in `laws`, with its clause.
-use Rattle.std.proofs.Common.{arith, length-append, cond, ◌≤◌, ℕ, Bool, length}
+use Rattle.std.proofs.Common.{arith, cond, ◌≤◌, ℕ, Bool, length}
 use Rattle.std.proofs.lemmas.Str.{length-le-encodes}
 use Rattle.std.proofs.lemmas.Bool.{cond_both}
 use Rattle.str_indices.specs.Text.{breaks, break_ends, char_ends, unit_ends, units, is_line_break, is_crlf_break, is_lf_break, NoCrLfBetween, ends_break, units_of}
@@ -31,9 +31,6 @@ break_ends_of_joined_texts = joined-ends
 
 pub breaks_behind_the_first : (is_break : ℕ → Bool) → GoesOnBehindFirstBreak is_break
 breaks_behind_the_first = goes_on
-
-pub counts_of_joined_texts-chars : AddsUp length
-counts_of_joined_texts-chars = length-append
 
 pub counts_of_joined_texts-units : AddsUp units
 counts_of_joined_texts-units = units-add

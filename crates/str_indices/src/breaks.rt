@@ -1,6 +1,6 @@
 //! Line breaks, which count at their last byte.
 
-ghost use Rattle.std.specs.Prelude.{refl, ◌≡◌, ◌+◌, ◌<◌, ◌≤◌, ◌&&◌, ◌||◌, not, ◌==◌, if◌then◌else◌, ◌∷◌, length, drop, slice_index};
+ghost use Rattle.std.specs.Prelude.{refl, ◌≡◌, ◌+◌, ◌<◌, ◌&&◌, ◌||◌, not, ◌==◌, ◌∷◌, length, drop, slice_index};
 ghost use Rattle.str_indices.specs.Text.{starts_with_lf, is_line_break, is_crlf_break, is_lf_break};
 ghost use Rattle.str_indices.specs.Bytes.{passes_at, is_cr_lf_end, ends_ascii_line, ends_two_byte_line, ends_three_byte_line, ends_line, ends_crlf_line, line_weights, crlf_line_weights, lf_line_weights};
 ghost use Rattle.str_indices.specs.Weights.{tested_len, tested_small, tested_sum};

@@ -1,6 +1,6 @@
 //! Chunks of bytes that are compared and added lane by lane.
 
-ghost use Rattle.std.specs.Prelude.{◌≡◌, ℕ, ◌+◌, ◌-◌, ◌<◌, ◌≤◌, ◌&&◌, ◌==◌, if◌then◌else◌, List, length, sum, slice_index, nat_le, bit_and};
+ghost use Rattle.std.specs.Prelude.{◌≡◌, ℕ, ◌+◌, ◌-◌, ◌<◌, ◌≤◌, ◌==◌, List, length, sum, slice_index, bit_and};
 ghost use Rattle.std.specs.List.{prefix_len};
 ghost use Rattle.str_indices.specs.Lanes.{HasLanes, MarksLanes, is_between, LanesUpTo};
 

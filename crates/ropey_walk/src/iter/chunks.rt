@@ -1,7 +1,7 @@
 //! The chunks of a text, both ways.
 
 ghost use Rattle.std.specs.Prelude.{◌≡◌, ⊤};
-ghost use Rattle.ropey_walk.specs.Chunks.{IsText};
+ghost use Rattle.ropey_walk.specs.Chunks.{IsRopeText};
 ghost use Rattle.ropey_walk.specs.TwoWay.{turned, before_item, GivesPrev};
 ghost use Rattle.ropey_walk.specs.Iter.{GivesChunk, IsBetweenPieces, pieces_before};
 ghost use Rattle.ropey_walk.specs.Slices.{slice_pieces};
@@ -32,7 +32,7 @@ pub struct Chunks<'a> {
 impl<'a> Model for Chunks<'a> {
     ghost use Rattle.std.specs.Prelude.{◌≡◌, ℕ, List};
     ghost use Rattle.str_indices.specs.Text.{byte_len};
-    ghost use Rattle.ropey_walk.specs.Chunks.{text_of, IsText};
+    ghost use Rattle.ropey_walk.specs.Chunks.{text_of, IsRopeText};
     ghost use Rattle.ropey_walk.specs.TwoWay.{TwoWay, facing};
     ghost use Rattle.ropey_walk.specs.Iter.{IsBetweenPieces, pieces_before};
     ghost use Rattle.ropey_walk.specs.Slices.{slice_pieces, IsNear};
@@ -44,7 +44,7 @@ impl<'a> Model for Chunks<'a> {
 
     ghost invariant = { λ chunks. IsBetweenPieces (slice_pieces chunks.slice) chunks.byte_idx ×
         (chunks.len ≡ byte_len (text_of (slice_pieces chunks.slice))) ×
-        IsText (slice_pieces chunks.slice) × IsNear chunks.slice chunks.near };
+        IsRopeText (slice_pieces chunks.slice) × IsNear chunks.slice chunks.near };
 }
 
 impl<'a> Chunks<'a> {
@@ -53,7 +53,7 @@ impl<'a> Chunks<'a> {
         requires { IsBetweenPieces (slice_pieces slice) byte_idx }
         ensures place { result ≡ before_item (pieces_before byte_idx (slice_pieces slice.entry))
             (slice_pieces slice.entry) }
-        ensures cut { IsText (slice_pieces slice.entry) }
+        ensures cut { IsRopeText (slice_pieces slice.entry) }
     {
         Chunks {
             slice,

@@ -1,6 +1,6 @@
 //! Sixteen bytes in a vector.
 
-ghost use Rattle.std.specs.Prelude.{◌≡◌, ℕ, ◌≤◌, ◌<◌, ◌==◌, if◌then◌else◌, slice_index, nat_le};
+ghost use Rattle.std.specs.Prelude.{◌≤◌, ◌<◌, ◌==◌, slice_index, nat_le};
 ghost use Rattle.std.proofs.Common.{«lit≤», «lit<»};
 ghost use Rattle.str_indices.specs.Lanes.{MarksLanes};
 

@@ -1,6 +1,6 @@
 //! Eight bytes in a number, the first byte lowest.
 
-ghost use Rattle.std.specs.Prelude.{◌≡◌, ℕ, ◌≤◌, ◌<◌, ◌/◌, ◌%◌, if◌then◌else◌, slice_index, nat_le};
+ghost use Rattle.std.specs.Prelude.{◌≤◌, ◌<◌, ◌/◌, ◌%◌, slice_index, nat_le};
 ghost use Rattle.std.proofs.Common.{«lit≤», «lit<»};
 ghost use Rattle.str_indices.specs.Lanes.{HasLanes, MarksLanes, low_bytes};
 

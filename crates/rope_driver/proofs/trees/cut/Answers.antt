@@ -1,8 +1,7 @@
 use Rattle.std.proofs.Common.{◌≡◌, ◌≤◌, length, ap, sym, ◌∙◌, arith}
 use Rattle.std.specs.List.{concat}
 use Rattle.ropey_walk.specs.Chunks.{text_of}
-use Rattle.ropey_walk.specs.Slices.{slice_pieces, slice_text}
-use Rattle.ropey_tree.specs.Cutting.{IsBoundaryOf}
+use Rattle.ropey_walk.specs.Slices.{slice_text}
 use Rattle.ropey.proofs.Editing.{place_of, boundary_of}
 use Rattle.rope_driver.proofs.trees.cut.Goals as goal
 

@@ -5,8 +5,8 @@ use Rattle.std.proofs.lemmas.List.Folds.{concat-append}
 use Rattle.std.proofs.lemmas.List.Sums.{sum_by-cons}
 use Rattle.str_indices.specs.Text.{byte_len}
 use Rattle.ropey_tree.specs.Counts.{total}
-use Rattle.ropey_tree.specs.Cutting.{cuts_cr_lf, IsText}
-use Rattle.ropey_tree.specs.Seams.{IsBetween}
+use Rattle.ropey_tree.specs.Cutting.{cuts_cr_lf, IsRopeText}
+use Rattle.ropey_tree.specs.Seams.{StandsBetween}
 use Rattle.ropey_tree.specs.Nodes.{leaf_view}
 use Rattle.ropey_tree.specs.Splits.{pieces_in}
 use Rattle.ropey_tree.proofs.Texts.{byte_len-append}
@@ -44,7 +44,7 @@ start_is t c =
     let parts = last_leaf_parts ps a c.counts-end.result.bytes c.leaf_at.result.before lies (omega (arith, end)) in
     omega (arith, end, ap length c.as_str.ensures.bytes, bytes-concat ps, ap byte_len parts.1, byte_len-append (concat lies.left) a)
 
-seam_is : (t : ℕ) (c : In-Some t) → IsBetween c.args.left.now.value.pieces (c.counts-end.result.bytes - length c.as_str.result.now + c.in-Some.field-0.from) c.in-Some.field-0.leaf c.args.right.now.value.pieces c.in-Some.field-0.to
+seam_is : (t : ℕ) (c : In-Some t) → StandsBetween c.args.left.now.value.pieces (c.counts-end.result.bytes - length c.as_str.result.now + c.in-Some.field-0.from) c.in-Some.field-0.leaf c.args.right.now.value.pieces c.in-Some.field-0.to
 seam_is t c =
     let ps = c.args.left.now.value.pieces in
     let qs = c.args.right.now.value.pieces in
@@ -90,10 +90,10 @@ append_both-requires t c =
     (omega (arith, c.decreases, low, rest_bytes), omega (arith, fits, rest_bytes, ap (λ ps. (total ps).bytes) leaf, sum_by-cons byte_len mid []))
 
 record Joins (t : ℕ) (c : After-height-3 t) : Type 0 where
-  whole : IsText (pieces_in c.in_ok-before.field-0.left ++ c.match-after-3.back.value.pieces)
+  whole : IsRopeText (pieces_in c.in_ok-before.field-0.left ++ c.match-after-3.back.value.pieces)
   text : concat (pieces_in c.in_ok-before.field-0.left ++ c.match-after-3.back.value.pieces) ≡ concat c.args.left.now.value.pieces ++ concat c.args.right.now.value.pieces
 
-joins : (t : ℕ) (c : After-height-3 t) → IsBetween c.args.left.now.value.pieces (c.counts-end.result.bytes - length c.as_str.result.now + c.in-Some.field-0.from) c.in-Some.field-0.leaf c.args.right.now.value.pieces c.in-Some.field-0.to → Joins t c
+joins : (t : ℕ) (c : After-height-3 t) → StandsBetween c.args.left.now.value.pieces (c.counts-end.result.bytes - length c.as_str.result.now + c.in-Some.field-0.from) c.in-Some.field-0.leaf c.args.right.now.value.pieces c.in-Some.field-0.to → Joins t c
 joins t c between =
     let ps = c.args.left.now.value.pieces in
     let qs = c.args.right.now.value.pieces in

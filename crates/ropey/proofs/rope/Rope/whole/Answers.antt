@@ -1,7 +1,7 @@
 use Rattle.std.proofs.Common.{◌≡◌, ℕ, List, [], ap, sym, subst, ◌∙◌}
 use Rattle.ropey_tree.specs.Counts.{counts_of}
 use Rattle.ropey_tree.specs.Splits.{pieces_in}
-use Rattle.ropey.specs.Chunks.{IsText, text_of}
+use Rattle.ropey.specs.Chunks.{IsRopeText, text_of}
 use Rattle.ropey.proofs.rope.Rope.whole.Goals as goal
 
 pub returns-in-None-clause-pieces : goal.returns-in-None-clause-pieces
@@ -12,7 +12,7 @@ returns-in-None-clause-pieces c =
 pub with_counts-requires-clause-cut : goal.with_counts-requires-clause-cut
 with_counts-requires-clause-cut c =
     let same = ap (λ v. v.pieces) c.deref-node.ensures ∙ sym (ap pieces_in c.in-Some.is) in
-    subst IsText (sym same) c.self.invariant.text
+    subst IsRopeText (sym same) c.self.invariant.text
 
 pub with_counts-requires-clause-counts : goal.with_counts-requires-clause-counts
 with_counts-requires-clause-counts c =

@@ -1,6 +1,5 @@
 use Rattle.std.proofs.Common.{◌++◌, ap, arith, ◌∙◌}
 use Rattle.std.specs.List.{concat}
-use Rattle.ropey_tree.specs.Cutter.{IsCutBefore}
 use Rattle.ropey_tree.specs.Nodes.{all_pieces}
 use Rattle.ropey_tree.proofs.Marks.{front_stays}
 use Rattle.ropey_tree.proofs.cutter.Marked.append.Goals as goal

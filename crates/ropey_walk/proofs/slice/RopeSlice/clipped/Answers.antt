@@ -3,7 +3,7 @@ use Rattle.std.specs.Str.{chars}
 use Rattle.std.proofs.lemmas.Str.{encodes-chars}
 use Rattle.str_indices.specs.Text.{byte_len}
 use Rattle.ropey_tree.specs.declared.counts.By.TheVariants.{Bytes}
-use Rattle.ropey_tree.specs.Cutting.{IsText}
+use Rattle.ropey_tree.specs.Cutting.{IsRopeText}
 use Rattle.ropey_walk.specs.Chunks.{text_of}
 use Rattle.ropey_walk.specs.Clips.{clip}
 use Rattle.ropey_walk.specs.Sources.{source_pieces}
@@ -65,7 +65,7 @@ returns-clause-stands c =
 pub returns-clause-cut : goal.returns-clause-cut
 returns-clause-cut c =
     let s = c.args.self.now in
-    let text : IsText (source_pieces s.source) = subst IsText (sym c.requires.under) c.height.ensures.tree.text in
+    let text : IsRopeText (source_pieces s.source) = subst IsRopeText (sym c.requires.under) c.height.ensures.tree.text in
     text-is s.start.chars (s.start.chars + s.len.chars) (source_pieces s.source) text
 
 pub invariant_of-result : goal.invariant_of-result

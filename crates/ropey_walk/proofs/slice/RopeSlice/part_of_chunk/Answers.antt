@@ -3,7 +3,7 @@ use Rattle.std.specs.Str.{chars}
 use Rattle.std.proofs.lemmas.Str.{encodes-chars, is_utf8-from_IsUtf8}
 use Rattle.str_indices.specs.Text.{byte_len}
 use Rattle.ropey_tree.specs.declared.counts.By.TheVariants.{Bytes}
-use Rattle.ropey_walk.specs.Chunks.{text_of, piece_of}
+use Rattle.ropey_walk.specs.Chunks.{text_of, lone_piece}
 use Rattle.ropey_walk.specs.Clips.{clip}
 use Rattle.ropey_walk.specs.Slices.{slice_pieces, slice_text}
 use Rattle.ropey_walk.proofs.ChunkParts.{chunk_fits, in_piece, piece_parts, piece_text, piece_short}
@@ -39,14 +39,14 @@ invariant_of-result c =
     let text = c.len_bytes.ensures.cut in
     let part : IsPart (slice_text c.args.self.now) c.args.start c.args.len = record { within = c.requires.within; starts = c.requires.starts; counted = c.requires.counted } in
     let inner = in_piece breaks_of_parts pieces text (chars chunk.text.now) chunk.start c.requires.chunk c.args.start c.args.len part c.requires.some c.if-start-chunk.false (high at) in
-    let here = subst (λ (n : _). IsPart (text_of (piece_of (chars chunk.text.now))) n c.args.len) (sym c.saturating_sub.ensures) inner in
+    let here = subst (λ (n : _). IsPart (text_of (lone_piece (chars chunk.text.now))) n c.args.len) (sym c.saturating_sub.ensures) inner in
     let alone = piece_text breaks_of_parts pieces text (chars chunk.text.now) chunk.start c.requires.chunk c.args.start c.args.len part c.requires.some c.if-start-chunk.false (high at) in
     let short = piece_short breaks_of_parts pieces text (chars chunk.text.now) chunk.start c.requires.chunk c.args.start c.args.len part c.requires.some c.if-start-chunk.false (high at) in
     record {
       within = here.within;
       starts = here.starts;
       counted = here.counted;
-      fits = text_fits (piece_of (chars chunk.text.now)) alone;
+      fits = text_fits (lone_piece (chars chunk.text.now)) alone;
       utf8 = is_utf8-from_IsUtf8 chunk.text.now c.requires.utf8;
       short = omega (arith, short, ap length (encodes-chars chunk.text.now c.requires.utf8));
     }
@@ -57,5 +57,5 @@ returns c =
     let pieces = slice_pieces c.args.self.now in
     let chunk = c.args.chunk.now in
     let part : IsPart (slice_text c.args.self.now) c.args.start c.args.len = record { within = c.requires.within; starts = c.requires.starts; counted = c.requires.counted } in
-    ap (λ n. clip n.chars (n.chars + c.args.len.chars) (piece_of (chars chunk.text.now))) c.saturating_sub.ensures
+    ap (λ n. clip n.chars (n.chars + c.args.len.chars) (lone_piece (chars chunk.text.now))) c.saturating_sub.ensures
     ∙ piece_parts breaks_of_parts pieces c.len_bytes.ensures.cut (chars chunk.text.now) chunk.start c.requires.chunk c.args.start c.args.len part c.requires.some c.if-start-chunk.false (high at)
