@@ -1,5 +1,5 @@
 -- What readers of flags, names and heads know.
-use Rattle.std.proofs.Common.{◌≡◌, ◌≢◌, ◌⊎◌, inl, inr, ℕ, ◌+◌, ◌≤◌, ◌<◌, ◌==◌, true, false, List, [], ◌∷◌, ◌++◌, length, map, get_or, drop, Some, None, ⊎_elim, append-nil, append_assoc, length-append, AllPairs, refl, sym, ap, ap₂, subst, ◌∙◌, arith, true≢false}
+use Rattle.std.proofs.Common.{◌≡◌, ◌≢◌, ◌⊎◌, inl, inr, ℕ, ◌+◌, ◌≤◌, ◌<◌, ◌==◌, true, false, List, [], ◌∷◌, ◌++◌, length, map, get_or, drop, Some, None, ⊎_elim, append_assoc, length-append, AllPairs, refl, sym, ap, ap₂, subst, ◌∙◌, arith, true≢false}
 use Rattle.std.proofs.lemmas.List.{get_or_append_left, drop_at, map-append}
 use Rattle.std.proofs.lemmas.List.Quantifiers.{all_pairs_push}
 use Rattle.std.proofs.lemmas.Bool.Decides.{nat_tests}
@@ -22,9 +22,6 @@ pub record ReadFlags (before all : List Flag) (text rest : List ℕ) : Type 0 wh
   pub whole : all ≡ before ++ flags
   pub text_is : text ≡ map letter_of flags ++ rest
   pub once : AllPairs (λ a b. a ≢ b) all
-
-pub ReadFlags-none : (flags : List Flag) (text : List ℕ) → AllPairs (λ a b. a ≢ b) flags → ReadFlags flags flags text text
-ReadFlags-none flags text once = record { flags = []; whole = sym (append-nil flags); text_is = refl; once = once }
 
 pub ReadFlags-more : {before all all' : List Flag} {text rest u : List ℕ} {flag : Flag} → ReadFlags before all text rest → rest ≡ letter_of flag ∷ u
     → all' ≡ all ++ flag ∷ [] → ((k : ℕ) (d : Flag) → k < length all → get_or all k d ≢ flag) → ReadFlags before all' text u
@@ -256,6 +253,3 @@ no_marked_head s none = record { setting = λ s' u one. none (setting_begins one
 
 pub plain_head : (s : Settings) {t u : List ℕ} → t ≡ 40 ∷ u → (Begins 63 u → ⊥) → Opening s t s (numbered None) u
 plain_head s e stop = plain e stop
-
-pub NoHead-along : {s : Settings} {t v w : List ℕ} → t ≡ 40 ∷ v → v ≡ 63 ∷ w → NoHead s (40 ∷ 63 ∷ w) → NoHead s t
-NoHead-along {s = s} e f none = subst (NoHead s) (sym (e ∙ ap (λ x. 40 ∷ x) f)) none

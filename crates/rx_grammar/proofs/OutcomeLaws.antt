@@ -5,7 +5,7 @@ use Rattle.rx_grammar.specs.declared.error.SyntaxError.TheVariants.{TooLong, Nes
 use Rattle.rx_grammar.specs.Settings.{Settings}
 use Rattle.rx_grammar.specs.Trees.{Tree}
 use Rattle.rx_grammar.specs.Grammar.{Spells, NeverSpells, IsTooDeep}
-use Rattle.rx_grammar.specs.Stacks.{IsRefusal, IsReason}
+use Rattle.rx_grammar.specs.Stacks.{IsRefusedWhere, IsReason}
 
 not_never : {text : List ℕ} {settings : Settings} → IsTooDeep text settings → NeverSpells text settings → ⊥
 not_never deep never = never deep.limit deep.tree deep.spells
@@ -30,7 +30,7 @@ outside_exactly text settings tree size (Err Outside) fits spells reason some = 
 outside_exactly text settings tree size (Err Memory) fits spells reason some = absurd (some refl)
 
 -- a reader's refusal is a reason
-pub reason_of : (text : List ℕ) (settings : Settings) {P : Type 0} (e : SyntaxError) → (P → NeverSpells text settings) → IsRefusal e P → IsReason e text settings
+pub reason_of : (text : List ℕ) (settings : Settings) {P : Type 0} (e : SyntaxError) → (P → NeverSpells text settings) → IsRefusedWhere e P → IsReason e text settings
 reason_of text settings TooLong f h = absurd h
 reason_of text settings Nesting f h = absurd h
 reason_of text settings Outside f h = f h

@@ -7,7 +7,7 @@ use Rattle.rx_grammar.specs.declared.parser.Heights.{Heights}
 use Rattle.rx_grammar.specs.declared.parser.Around.{Around}
 use Rattle.rx_grammar.specs.declared.parser.Parser.{Parser}
 use Rattle.rx_grammar.specs.Settings.{Settings}
-use Rattle.rx_grammar.specs.Trees.{Tree, concat_of}
+use Rattle.rx_grammar.specs.Trees.{Tree}
 use Rattle.rx_grammar.specs.Input.{Begins}
 use Rattle.rx_grammar.specs.Groups.{Setting, Capture, numbered, unnumbered, Opening, opened, grouped}
 use Rattle.rx_grammar.specs.Repetitions.{Postfixes}
@@ -15,13 +15,13 @@ use Rattle.rx_grammar.specs.Grammar.{PlainAtom, plain_atom}
 use Rattle.rx_grammar.specs.Heads.{NoHead, capture_of}
 use Rattle.rx_grammar.specs.Atoms.{NoPlainAtom}
 use Rattle.rx_grammar.specs.Weights.{held}
-use Rattle.rx_grammar.specs.Stacks.{captured, IsRefusal, NoPostfixes}
-use Rattle.rx_grammar.specs.Resuming.{Level, OpenGroup, Place, no_level, with_item, with_branch, tree_at, Resumes, SameEnds, NoEnds}
-use Rattle.rx_grammar.specs.Places.{IsLevel, Surround, outermost, further, IsAt, item_at, opened_at, ItemRead, PartRead, IsAtomPlace}
+use Rattle.rx_grammar.specs.Stacks.{captured, IsRefusedWhere, NoPostfixes}
+use Rattle.rx_grammar.specs.Resuming.{Level, OpenGroup, PatternPlace, no_level, with_item, with_branch, tree_at, Resumes, SameEnds, NoEnds}
+use Rattle.rx_grammar.specs.Places.{IsLevel, Surround, outermost, further, ParserIsAt, item_at, opened_at, ItemRead, PartRead, IsAtomPlace}
 use Rattle.rx_grammar.proofs.ShorterLaws.{plain_shorter, postfixes_shorter}
 use Rattle.rx_grammar.proofs.ResumeLaws.{setting_on, setting_back, item_on, item_back, branch_on, branch_back, open_on, open_back, close_on, close_back, no_item, no_close, no_open_group, no_head, no_atom}
 
-pub refusal_map : {P Q : Type 0} (e : SyntaxError) → (P → Q) → IsRefusal e P → IsRefusal e Q
+pub refusal_map : {P Q : Type 0} (e : SyntaxError) → (P → Q) → IsRefusedWhere e P → IsRefusedWhere e Q
 refusal_map TooLong f h = h
 refusal_map Nesting f h = h
 refusal_map Outside f h = f h
@@ -32,9 +32,9 @@ result_map P P' Q Q' (Ok x) f g h = f x h
 result_map P P' Q Q' (Err e) f g h = g e h
 
 -- an error that `?` passes on
-pub err_map : {T : Type 0} (P : T → Type 0) (Q : Type 0) (r : Result T SyntaxError) → IsErrAnd r (λ e. e ≡ Memory) → MatchResult r P (λ e. IsRefusal e Q)
+pub err_map : {T : Type 0} (P : T → Type 0) (Q : Type 0) (r : Result T SyntaxError) → IsErrAnd r (λ e. e ≡ Memory) → MatchResult r P (λ e. IsRefusedWhere e Q)
 err_map P Q (Ok x) h = absurd h
-err_map P Q (Err e) h = subst (λ x. IsRefusal x Q) (sym h) tt
+err_map P Q (Err e) h = subst (λ x. IsRefusedWhere x Q) (sym h) tt
 
 -- depths as they are kept
 pub held-max : (a b : ℕ) → max (held a) (held b) ≡ held (max a b)
@@ -48,10 +48,6 @@ pub group_within : {heights : Heights} {level : Level} {trees below : List Tree}
 group_within {level = level} {below = below} is =
     omega (arith, is.group_is, ap length is.trees_are, length-append (reverse level.items) (reverse level.branches ++ below), length-append (reverse level.branches) below)
 
-pub branch_within : {heights : Heights} {level : Level} {trees below : List Tree} → IsLevel heights level trees below → heights.branch ≤ length trees
-branch_within {level = level} {below = below} is =
-    omega (arith, is.branch_is, ap length is.trees_are, length-append (reverse level.items) (reverse level.branches ++ below))
-
 pub level_none : (trees : List Tree) (n : ℕ) → n ≡ length trees → IsLevel (record { group = n; branch = n; depth = 0 }) no_level trees trees
 level_none trees n is = record { trees_are = refl; group_is = is; branch_is = is; depth_is = refl }
 
@@ -64,18 +60,6 @@ level_item {level = level} {below = below} made deep is group branch depth kept_
   branch_is = branch ∙ is.branch_is;
   depth_is = depth ∙ ap₂ (λ x y. max x y) is.depth_is kept_is ∙ held-max level.depth deep;
 }
-
-pub level_branch : {heights heights' : Heights} {level : Level} {trees trees' below : List Tree} → IsLevel heights level trees below
-    → heights'.group ≡ heights.group → heights'.depth ≡ heights.depth → heights'.branch ≡ length trees' → trees' ≡ concat_of level.items ∷ (reverse level.branches ++ below)
-    → IsLevel heights' (with_branch level) trees' below
-level_branch {level = level} {below = below} is group depth branch trees =
-    let turned = ap (λ x. x ++ below) (sym (reverse-append level.branches (concat_of level.items ∷ []))) in
-    record {
-      trees_are = trees ∙ turned;
-      group_is = group ∙ is.group_is;
-      branch_is = branch ∙ ap length (trees ∙ turned);
-      depth_is = depth ∙ is.depth_is;
-    }
 
 -- the groups around a place
 pub record Innermost (around : Around) (arounds : List Around) (groups : List OpenGroup) (trees : List Tree) : Type 0 where
@@ -141,26 +125,26 @@ captured_grouped number n (numbered name) tree e = ap (λ x. captured x (numbere
 captured_grouped number n unnumbered tree e = refl
 
 -- how a place and the text there go on to the next place
-pub same_setting : {t u : List ℕ} {s' : Settings} (place : Place) → Setting place.settings t s' u → SameEnds place t (record place { settings = s' }) u
+pub same_setting : {t u : List ℕ} {s' : Settings} (place : PatternPlace) → Setting place.settings t s' u → SameEnds place t (record place { settings = s' }) u
 same_setting place one = record { on = λ tree depth r. setting_on one r; back = λ tree depth r. setting_back one r }
 
-pub same_opening : {t u : List ℕ} {s' : Settings} {k : Capture} (place : Place) → Opening place.settings t s' k u → SameEnds place t (opened_at place s' k) u
+pub same_opening : {t u : List ℕ} {s' : Settings} {k : Capture} (place : PatternPlace) → Opening place.settings t s' k u → SameEnds place t (opened_at place s' k) u
 same_opening place one = record { on = λ tree depth r. open_on one r; back = λ tree depth r. open_back one r }
 
-pub same_branch : {t u : List ℕ} (place : Place) → t ≡ 124 ∷ u → SameEnds place t (record place { level = with_branch place.level }) u
+pub same_branch : {t u : List ℕ} (place : PatternPlace) → t ≡ 124 ∷ u → SameEnds place t (record place { level = with_branch place.level }) u
 same_branch place e = record { on = λ tree depth r. branch_on e r; back = λ tree depth r. branch_back e r }
 
-pub same_atom : {t v u : List ℕ} {h g : Tree} {e : ℕ} (place : Place) → PlainAtom place.settings t h v → Postfixes place.settings.swap_greed h 0 v g e u → SameEnds place t (item_at place g e) u
+pub same_atom : {t v u : List ℕ} {h g : Tree} {e : ℕ} (place : PatternPlace) → PlainAtom place.settings t h v → Postfixes place.settings.swap_greed h 0 v g e u → SameEnds place t (item_at place g e) u
 same_atom place one postfixes = record {
   on = λ tree depth r. item_on (plain_atom one) postfixes r;
   back = λ tree depth r. item_back (plain_atom one) postfixes r;
 }
 
 -- the place after a group
-abbrev pub behind_group : Place → OpenGroup → List OpenGroup → Place
+abbrev pub behind_group : PatternPlace → OpenGroup → List OpenGroup → PatternPlace
 behind_group place group others = record { settings = group.settings; groups = place.groups; level = group.level; around = others }
 
-pub same_close : {v u : List ℕ} {o : OpenGroup} {os : List OpenGroup} {g : Tree} {e : ℕ} (place : Place) → place.around ≡ o ∷ os
+pub same_close : {v u : List ℕ} {o : OpenGroup} {os : List OpenGroup} {g : Tree} {e : ℕ} (place : PatternPlace) → place.around ≡ o ∷ os
     → Postfixes o.settings.swap_greed (grouped o.groups o.capture (tree_at place.level)) (place.level.depth + 1) v g e u
     → SameEnds place (41 ∷ v) (item_at (behind_group place o os) g e) u
 same_close {v = v} place is postfixes = record {
@@ -169,7 +153,7 @@ same_close {v = v} place is postfixes = record {
 }
 
 -- reads
-pub setting_read : {before after : Parser} {t u : List ℕ} {s' : Settings} (place : Place) → Setting place.settings t s' u → IsAt after [] (record place { settings = s' }) → length u < length t
+pub setting_read : {before after : Parser} {t u : List ℕ} {s' : Settings} (place : PatternPlace) → Setting place.settings t s' u → ParserIsAt after [] (record place { settings = s' }) → length u < length t
     → after.groups ≡ before.groups → PartRead before after place t u
 setting_read {s' = s'} place one stands shorter groups = record {
   next = record place { settings = s' };
@@ -179,7 +163,7 @@ setting_read {s' = s'} place one stands shorter groups = record {
   groups = omega (arith, groups, shorter);
 }
 
-pub opening_read : {before after : Parser} {t u : List ℕ} {s' : Settings} {k : Capture} (place : Place) → Opening place.settings t s' k u → IsAt after [] (opened_at place s' k) → length u < length t
+pub opening_read : {before after : Parser} {t u : List ℕ} {s' : Settings} {k : Capture} (place : PatternPlace) → Opening place.settings t s' k u → ParserIsAt after [] (opened_at place s' k) → length u < length t
     → after.groups ≤ before.groups + 1 → PartRead before after place t u
 opening_read {s' = s'} {k = k} place one stands shorter groups = record {
   next = opened_at place s' k;
@@ -189,7 +173,7 @@ opening_read {s' = s'} {k = k} place one stands shorter groups = record {
   groups = omega (arith, groups, shorter);
 }
 
-pub branch_read : {before after : Parser} {t u : List ℕ} (place : Place) → t ≡ 124 ∷ u → IsAt after [] (record place { level = with_branch place.level })
+pub branch_read : {before after : Parser} {t u : List ℕ} (place : PatternPlace) → t ≡ 124 ∷ u → ParserIsAt after [] (record place { level = with_branch place.level })
     → after.groups ≡ before.groups → PartRead before after place t u
 branch_read place e stands groups = record {
   next = record place { level = with_branch place.level };
@@ -199,7 +183,7 @@ branch_read place e stands groups = record {
   groups = omega (arith, groups, ap length e);
 }
 
-pub atom_read : {before middle after : Parser} {t v u : List ℕ} {h : Tree} (place : Place) → PlainAtom place.settings t h v → ItemRead middle after place h 0 v u
+pub atom_read : {before middle after : Parser} {t v u : List ℕ} {h : Tree} (place : PatternPlace) → PlainAtom place.settings t h v → ItemRead middle after place h 0 v u
     → middle.groups ≡ before.groups → PartRead before after place t u
 atom_read place one read groups = record {
   next = item_at place read.made read.deep;
@@ -209,16 +193,16 @@ atom_read place one read groups = record {
   groups = omega (arith, read.groups, groups, plain_shorter one, postfixes_shorter read.postfixes);
 }
 
-pub atom_refused : {t v : List ℕ} {h : Tree} (place : Place) → PlainAtom place.settings t h v → NoPostfixes place.settings.swap_greed h 0 v → NoEnds place t
+pub atom_refused : {t v : List ℕ} {h : Tree} (place : PatternPlace) → PlainAtom place.settings t h v → NoPostfixes place.settings.swap_greed h 0 v → NoEnds place t
 atom_refused place one none = λ tree depth r. no_item (plain_atom one) none r
 
-pub no_atom_here : {t : List ℕ} (place : Place) → IsAtomPlace t → NoPlainAtom place.settings t → NoEnds place t
+pub no_atom_here : {t : List ℕ} (place : PatternPlace) → IsAtomPlace t → NoPlainAtom place.settings t → NoEnds place t
 no_atom_here place at none = λ tree depth r. no_atom at.no_group at.inside none r
 
-pub no_head_here : {t : List ℕ} (place : Place) → Begins 40 t → NoHead place.settings t → NoEnds place t
+pub no_head_here : {t : List ℕ} (place : PatternPlace) → Begins 40 t → NoHead place.settings t → NoEnds place t
 no_head_here place begins none = λ tree depth r. no_head begins none r
 
-pub close_read : {before middle after : Parser} {v u : List ℕ} {o : OpenGroup} {os : List OpenGroup} (place : Place) → place.around ≡ o ∷ os
+pub close_read : {before middle after : Parser} {v u : List ℕ} {o : OpenGroup} {os : List OpenGroup} (place : PatternPlace) → place.around ≡ o ∷ os
     → ItemRead middle after (behind_group place o os) (grouped o.groups o.capture (tree_at place.level)) (place.level.depth + 1) v u
     → middle.groups ≡ before.groups → PartRead before after place (41 ∷ v) u
 close_read {o = o} {os = os} place is read groups = record {
@@ -229,11 +213,11 @@ close_read {o = o} {os = os} place is read groups = record {
   groups = omega (arith, read.groups, groups, postfixes_shorter read.postfixes);
 }
 
-pub close_refused : {v : List ℕ} {o : OpenGroup} {os : List OpenGroup} (place : Place) → place.around ≡ o ∷ os
+pub close_refused : {v : List ℕ} {o : OpenGroup} {os : List OpenGroup} (place : PatternPlace) → place.around ≡ o ∷ os
     → NoPostfixes o.settings.swap_greed (grouped o.groups o.capture (tree_at place.level)) (place.level.depth + 1) v → NoEnds place (41 ∷ v)
 close_refused {v = v} place is none = λ tree n r.
     no_close refl none (subst (λ x. Resumes x place.level place.settings place.groups (41 ∷ v) tree n) is r)
 
-pub close_unopened : (v : List ℕ) (place : Place) → place.around ≡ [] → NoEnds place (41 ∷ v)
+pub close_unopened : (v : List ℕ) (place : PatternPlace) → place.around ≡ [] → NoEnds place (41 ∷ v)
 close_unopened v place is = λ tree depth r.
     no_open_group refl (subst (λ x. Resumes x place.level place.settings place.groups (41 ∷ v) tree depth) is r)

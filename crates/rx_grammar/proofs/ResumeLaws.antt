@@ -7,11 +7,11 @@ use Rattle.rx_grammar.specs.Postorder.{alternate}
 use Rattle.rx_grammar.specs.Input.{Begins, Stops}
 use Rattle.rx_grammar.specs.Repetitions.{Postfixes}
 use Rattle.rx_grammar.specs.Groups.{Setting, Capture, Opening, opened, grouped}
-use Rattle.rx_grammar.specs.Grammar.{PlainAtom, Atom, plain_atom, group, Items, ended, setting, item, Branches, goes_on, goes_on_in_branches}
+use Rattle.rx_grammar.specs.Grammar.{Atom, plain_atom, group, Items, ended, setting, item, Branches, goes_on, goes_on_in_branches}
 use Rattle.rx_grammar.specs.Grammar as grammar
 use Rattle.rx_grammar.specs.Heads.{NoHead}
 use Rattle.rx_grammar.specs.Atoms.{NoPlainAtom}
-use Rattle.rx_grammar.specs.Resuming.{Level, OpenGroup, no_level, with_item, with_branch, tree_with, tree_at, Rest, last, bar, Ends, Closes, Resumes, whole, within}
+use Rattle.rx_grammar.specs.Resuming.{Level, OpenGroup, no_level, with_item, with_branch, tree_with, tree_at, Rest, last, bar, CompletesLevel, ClosesGroup, Resumes, whole, within}
 use Rattle.rx_grammar.proofs.InputLemmas.{rest_is, Stops-not}
 use Rattle.rx_grammar.proofs.RepetitionLaws.{postfixes_unique, postfixes_along}
 use Rattle.rx_grammar.proofs.GroupLaws.{setting_unique, opening_unique, setting_or_opening, setting_begins, opening_begins}
@@ -19,7 +19,7 @@ use Rattle.rx_grammar.proofs.GrammarLaws.{atom_unique, items_along, branches_alo
 
 -- what completes the level completes the pattern
 resume_by : {os : List OpenGroup} {l l' : Level} {s s' : Settings} {m m' depth : ℕ} {t t' : List ℕ} {tree : Tree}
-    → ((h : Tree) (d n : ℕ) (u : List ℕ) → Ends l s m t h d n u → Ends l' s' m' t' h d n u)
+    → ((h : Tree) (d n : ℕ) (u : List ℕ) → CompletesLevel l s m t h d n u → CompletesLevel l' s' m' t' h d n u)
     → Resumes os l s m t tree depth → Resumes os l' s' m' t' tree depth
 resume_by f (whole ends) = whole (f _ _ _ _ ends)
 resume_by f (within ends closes after) = within (f _ _ _ _ ends) closes after
@@ -30,7 +30,7 @@ record EndsSomehow (l : Level) (s : Settings) (m : ℕ) (t : List ℕ) : Type 0 
   depth : ℕ
   groups : ℕ
   after : List ℕ
-  ends : Ends l s m t tree depth groups after
+  ends : CompletesLevel l s m t tree depth groups after
 
 ends_in : {os : List OpenGroup} {l : Level} {s : Settings} {m depth : ℕ} {t : List ℕ} {tree : Tree} → Resumes os l s m t tree depth → EndsSomehow l s m t
 ends_in (whole ends) = record { tree = _; depth = _; groups = _; after = _; ends = ends }
@@ -60,8 +60,8 @@ record Parts (o : OpenGroup) (os : List OpenGroup) (l : Level) (s : Settings) (m
   g : Tree
   e : ℕ
   v : List ℕ
-  ends : Ends l s m t inside d n u
-  closes : Closes o inside d u g e v
+  ends : CompletesLevel l s m t inside d n u
+  closes : ClosesGroup o inside d u g e v
   after : Resumes os (with_item o.level g e) o.settings n v tree depth
 
 parts : {o : OpenGroup} {os : List OpenGroup} {l : Level} {s : Settings} {m depth : ℕ} {t : List ℕ} {tree : Tree} → Resumes (o ∷ os) l s m t tree depth → Parts o os l s m t tree depth
@@ -94,7 +94,7 @@ max-zero d = grind arith
 max_assoc : (a b c : ℕ) → max a (max b c) ≡ max (max a b) c
 max_assoc a b c = grind arith
 
-pub ends_branches : {s s' : Settings} {m n d : ℕ} {t u : List ℕ} {h : Tree} {hs : List Tree} → Branches s m t h hs d s' n u → Ends no_level s m t (alternation_of h hs) d n u
+pub ends_branches : {s s' : Settings} {m n d : ℕ} {t u : List ℕ} {h : Tree} {hs : List Tree} → Branches s m t h hs d s' n u → CompletesLevel no_level s m t (alternation_of h hs) d n u
 ends_branches {d = d} {hs = hs} branches =
     let rest = as_rest branches in
     record { items = rest.items; later = hs; deep = d; rest = rest.rest; tree_is = ap (λ x. alternation_of x hs) rest.first_is; depth_is = sym (max-of_zero d) }
@@ -106,7 +106,7 @@ pub record BranchesOf (s : Settings) (m : ℕ) (t : List ℕ) (tree : Tree) (d n
   pub branches : Branches s m t first others d after n u
   pub tree_is : tree ≡ alternation_of first others
 
-pub branches_of : {s : Settings} {m n d : ℕ} {t u : List ℕ} {h : Tree} → Ends no_level s m t h d n u → BranchesOf s m t h d n u
+pub branches_of : {s : Settings} {m n d : ℕ} {t u : List ℕ} {h : Tree} → CompletesLevel no_level s m t h d n u → BranchesOf s m t h d n u
 branches_of {s = s} {m = m} {n = n} {t = t} {u = u} ends =
     let made = as_branches ends.rest in
     let depth = ends.depth_is ∙ max-of_zero ends.deep in
@@ -198,7 +198,7 @@ tree_with-item : (l : Level) (g : Tree) (e : ℕ) (hs gs : List Tree) → tree_w
 tree_with-item l g e hs gs = ap (λ x. alternate (l.branches ++ concat_of x ∷ gs)) (append_assoc l.items (g ∷ []) hs)
 
 item_ends : {l : Level} {s : Settings} {m k n d e f : ℕ} {t v w u : List ℕ} {h g tree : Tree} → Atom s m t h d k v → Postfixes s.swap_greed h d v g e w
-    → Ends l s m t tree f n u → Ends (with_item l g e) s k w tree f n u
+    → CompletesLevel l s m t tree f n u → CompletesLevel (with_item l g e) s k w tree f n u
 item_ends {l = l} {e = e} {g = g} atom postfixes ends =
     let after = rest_after atom postfixes ends.rest in
     record {
@@ -211,7 +211,7 @@ item_ends {l = l} {e = e} {g = g} atom postfixes ends =
     }
 
 ends_item : {l : Level} {s : Settings} {m k n d e f : ℕ} {t v w u : List ℕ} {h g tree : Tree} → Atom s m t h d k v → Postfixes s.swap_greed h d v g e w
-    → Ends (with_item l g e) s k w tree f n u → Ends l s m t tree f n u
+    → CompletesLevel (with_item l g e) s k w tree f n u → CompletesLevel l s m t tree f n u
 ends_item {l = l} {e = e} {g = g} atom postfixes ends =
     let before = rest_before atom postfixes ends.rest in
     record {
@@ -259,7 +259,7 @@ tree_with-branch l hs gs =
     ap alternate (append_assoc l.branches (concat_of l.items ∷ []) (concat_of hs ∷ gs))
     ∙ ap (λ x. alternate (l.branches ++ concat_of x ∷ concat_of hs ∷ gs)) (sym (append-nil l.items))
 
-branch_ends : {l : Level} {s : Settings} {m n f : ℕ} {t w u : List ℕ} {tree : Tree} → t ≡ 124 ∷ w → Ends l s m t tree f n u → Ends (with_branch l) s m w tree f n u
+branch_ends : {l : Level} {s : Settings} {m n f : ℕ} {t w u : List ℕ} {tree : Tree} → t ≡ 124 ∷ w → CompletesLevel l s m t tree f n u → CompletesLevel (with_branch l) s m w tree f n u
 branch_ends {l = l} e ends =
     let branch = rest_in_branch e ends.rest in
     record {
@@ -271,7 +271,7 @@ branch_ends {l = l} e ends =
       depth_is = ends.depth_is ∙ ap (λ x. max l.depth x) branch.deep_is;
     }
 
-ends_branch : {l : Level} {s : Settings} {m n f : ℕ} {t w u : List ℕ} {tree : Tree} → t ≡ 124 ∷ w → Ends (with_branch l) s m w tree f n u → Ends l s m t tree f n u
+ends_branch : {l : Level} {s : Settings} {m n f : ℕ} {t w u : List ℕ} {tree : Tree} → t ≡ 124 ∷ w → CompletesLevel (with_branch l) s m w tree f n u → CompletesLevel l s m t tree f n u
 ends_branch {l = l} e ends =
     let made = as_branches ends.rest in
     record {
@@ -353,7 +353,7 @@ Stops-both (c ∷ cs) stops = both c stops
     both : (c : ℕ) → goes_on_in_branches c ≡ false → goes_on c ≡ false
     both c fails = grind (arith, nat_tests)
 
-pub ends_here : {t : List ℕ} (l : Level) (s : Settings) (m : ℕ) → Stops goes_on_in_branches t → Ends l s m t (tree_at l) l.depth m t
+pub ends_here : {t : List ℕ} (l : Level) (s : Settings) (m : ℕ) → Stops goes_on_in_branches t → CompletesLevel l s m t (tree_at l) l.depth m t
 ends_here {t = t} l s m stops = record {
   items = [];
   later = [];
@@ -384,7 +384,7 @@ pub record Ended (l : Level) (m : ℕ) (t : List ℕ) (tree : Tree) (d n : ℕ) 
   pub groups_is : n ≡ m
   pub text_is : u ≡ t
 
-pub ended_here : {l : Level} {s : Settings} {m n d : ℕ} {t u : List ℕ} {tree : Tree} → Stops goes_on_in_branches t → Ends l s m t tree d n u → Ended l m t tree d n u
+pub ended_here : {l : Level} {s : Settings} {m n d : ℕ} {t u : List ℕ} {tree : Tree} → Stops goes_on_in_branches t → CompletesLevel l s m t tree d n u → Ended l m t tree d n u
 ended_here {l = l} stops ends =
     let none = no_rest stops ends.rest in
     record {
@@ -395,7 +395,7 @@ ended_here {l = l} stops ends =
     }
 
 -- what closes the innermost group closes it with the tree that was read
-pub closes_with : {o : OpenGroup} {l : Level} {s : Settings} {m n d e : ℕ} {t u v w : List ℕ} {h g : Tree} → t ≡ 41 ∷ v → Ends l s m t h d n u → Closes o h d u g e w
+pub closes_with : {o : OpenGroup} {l : Level} {s : Settings} {m n d e : ℕ} {t u v w : List ℕ} {h g : Tree} → t ≡ 41 ∷ v → CompletesLevel l s m t h d n u → ClosesGroup o h d u g e w
     → Postfixes o.settings.swap_greed (grouped o.groups o.capture (tree_at l)) (l.depth + 1) v g e w
 closes_with {o = o} is ends closes =
     let end = ended_here (Stops-from goes_on_in_branches is refl) ends in

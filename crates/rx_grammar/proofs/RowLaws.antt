@@ -7,12 +7,12 @@ use Rattle.std.proofs.Math.Bool.{and_comm, or_comm, and_assoc, or_assoc}
 use Rattle.rx_grammar.specs.declared.properties.Properties.{Properties}
 use Rattle.rx_grammar.specs.declared.properties.RowProperties.{RowProperties}
 use Rattle.rx_grammar.specs.Trees.{Tree, Name, empty, one_of, look_at, group, concat, alternation, repeated, in_a_row, concat_of}
-use Rattle.rx_grammar.specs.Subtrees.{NodeKind, an_empty, a_set, a_look, a_group, a_concat, an_alternation, a_repetition, width_of, subtrees_of, all_subtrees_of}
+use Rattle.rx_grammar.specs.Subtrees.{NodeKind, an_empty, a_set, a_look, a_group, a_concat, an_alternation, a_repetition, child_count, subtrees_of, all_subtrees_of}
 use Rattle.rx_grammar.specs.Weights.{may_be_empty, all_may_be_empty, any_may_be_empty, weight_of, all_weights_of, size_of, all_sizes_of, pattern_weight, held}
 use Rattle.rx_grammar.specs.StaticGroups.{static_groups}
 use Rattle.rx_grammar.specs.Postorder.{alternate, after_node, first_of}
 use Rattle.rx_grammar.specs.Nodes.{properties_of}
-use Rattle.rx_grammar.specs.Rows.{row_subtrees, MayFollow, weights_in, sizes_in, all_empty_in, any_empty_in, groups_in, common_in, IsRowOf}
+use Rattle.rx_grammar.specs.Rows.{row_subtrees, MayFollow, weights_in, sizes_in, all_empty_in, any_empty_in, static_groups_in, common_in, AreRowProperties}
 use Rattle.rx_grammar.proofs.SubtreeLaws.{row_subtrees-cons, row_subtrees-split, length-last, subtrees_of-concat, subtrees_of-alternation}
 
 pub held-sum : (a b : ℕ) → min (held a + held b) (2 ^ 64 - 1) ≡ held (a + b)
@@ -68,12 +68,12 @@ any_empty_in-reverse (x ∷ xs) =
     ∙ ap₂ (λ a b. a || b) (any_empty_in-reverse xs) (or_false (may_be_empty x)) ∙ or_comm (any_empty_in xs) (may_be_empty x)
 
 -- a row with one tree more
-pub IsRowOf-more : {row row' : RowProperties} {part : Properties} {trees : List Tree} (tree : Tree) → IsRowOf row trees → part ≡ properties_of tree
+pub IsRowOf-more : {row row' : RowProperties} {part : Properties} {trees : List Tree} (tree : Tree) → AreRowProperties row trees → part ≡ properties_of tree
     → row'.extent ≡ row.extent + part.extent → row'.weight ≡ min (row.weight + part.weight) (2 ^ 64 - 1)
     → row'.size ≡ min (row.size + part.size) (2 ^ 64 - 1)
     → row'.all_may_be_empty ≡ (row.all_may_be_empty && part.may_be_empty) → row'.any_may_be_empty ≡ (row.any_may_be_empty || part.may_be_empty)
-    → row'.groups ≡ groups_in (trees ++ tree ∷ []) → row'.common_groups ≡ common_in (trees ++ tree ∷ [])
-    → IsRowOf row' (trees ++ tree ∷ [])
+    → row'.groups ≡ static_groups_in (trees ++ tree ∷ []) → row'.common_groups ≡ common_in (trees ++ tree ∷ [])
+    → AreRowProperties row' (trees ++ tree ∷ [])
 IsRowOf-more {row = row} {row' = row'} {part = part} {trees = trees} tree is known extent weight size all any groups common = record {
   extent =
       let turned : row_subtrees (trees ++ tree ∷ []) ≡ subtrees_of tree ++ row_subtrees trees = ap (flat_map subtrees_of) (reverse-append trees (tree ∷ [])) in
@@ -140,25 +140,25 @@ may_be_empty-alternation (first ∷ second ∷ others) some = any_empty first se
 pub some_last : (count : ℕ) (trees : List Tree) → count ≤ length trees → 2 ≤ count → 2 ≤ length (reverse (take count trees))
 some_last count trees fits two = omega (arith, length-last count trees fits)
 
-pub concat-weight : {row : RowProperties} (trees : List Tree) (count : ℕ) → MayFollow trees (a_concat count) → IsRowOf row (take count trees)
+pub concat-weight : {row : RowProperties} (trees : List Tree) (count : ℕ) → MayFollow trees (a_concat count) → AreRowProperties row (take count trees)
     → row.weight ≡ held (weight_of (first_of (after_node trees (a_concat count))))
 concat-weight trees count may is =
     let last = take count trees in
     is.weight ∙ ap held (sym (weights_in-reverse last) ∙ sym (weight_of-concat (reverse last) (some_last count trees may.fits may.over_two)))
 
-pub concat-size : {row : RowProperties} (trees : List Tree) (count : ℕ) → MayFollow trees (a_concat count) → IsRowOf row (take count trees)
+pub concat-size : {row : RowProperties} (trees : List Tree) (count : ℕ) → MayFollow trees (a_concat count) → AreRowProperties row (take count trees)
     → row.size ≡ held (size_of (first_of (after_node trees (a_concat count))))
 concat-size trees count may is =
     let last = take count trees in
     is.size ∙ ap held (sym (sizes_in-reverse last) ∙ sym (size_of-concat (reverse last) (some_last count trees may.fits may.over_two)))
 
-pub concat-empty : {row : RowProperties} (trees : List Tree) (count : ℕ) → MayFollow trees (a_concat count) → IsRowOf row (take count trees)
+pub concat-empty : {row : RowProperties} (trees : List Tree) (count : ℕ) → MayFollow trees (a_concat count) → AreRowProperties row (take count trees)
     → row.all_may_be_empty ≡ may_be_empty (first_of (after_node trees (a_concat count)))
 concat-empty trees count may is =
     let last = take count trees in
     is.all ∙ sym (all_empty_in-reverse last) ∙ sym (may_be_empty-concat (reverse last) (some_last count trees may.fits may.over_two))
 
-pub alternation-weight : {row : RowProperties} (trees : List Tree) (count : ℕ) → MayFollow trees (an_alternation count) → IsRowOf row (take count trees)
+pub alternation-weight : {row : RowProperties} (trees : List Tree) (count : ℕ) → MayFollow trees (an_alternation count) → AreRowProperties row (take count trees)
     → min (row.weight + 1) (2 ^ 64 - 1) ≡ held (weight_of (first_of (after_node trees (an_alternation count))))
 alternation-weight trees count may is =
     let last = take count trees in
@@ -168,7 +168,7 @@ alternation-weight trees count may is =
     more : (w : ℕ) → min (held w + 1) (2 ^ 64 - 1) ≡ held (1 + w)
     more w = grind arith
 
-pub alternation-size : {row : RowProperties} (trees : List Tree) (count : ℕ) → MayFollow trees (an_alternation count) → IsRowOf row (take count trees)
+pub alternation-size : {row : RowProperties} (trees : List Tree) (count : ℕ) → MayFollow trees (an_alternation count) → AreRowProperties row (take count trees)
     → min (row.size + 1) (2 ^ 64 - 1) ≡ held (size_of (first_of (after_node trees (an_alternation count))))
 alternation-size trees count may is =
     let last = take count trees in
@@ -178,7 +178,7 @@ alternation-size trees count may is =
     more : (w : ℕ) → min (held w + 1) (2 ^ 64 - 1) ≡ held (1 + w)
     more w = grind arith
 
-pub alternation-empty : {row : RowProperties} (trees : List Tree) (count : ℕ) → MayFollow trees (an_alternation count) → IsRowOf row (take count trees)
+pub alternation-empty : {row : RowProperties} (trees : List Tree) (count : ℕ) → MayFollow trees (an_alternation count) → AreRowProperties row (take count trees)
     → row.any_may_be_empty ≡ may_be_empty (first_of (after_node trees (an_alternation count)))
 alternation-empty trees count may is =
     let last = take count trees in
@@ -186,7 +186,7 @@ alternation-empty trees count may is =
 
 -- how many nodes the tree has that a node makes of the last trees
 pub made-extent : (trees : List Tree) (node : NodeKind) → MayFollow trees node
-    → length (subtrees_of (first_of (after_node trees node))) ≡ length (row_subtrees (take (width_of node) trees)) + 1
+    → length (subtrees_of (first_of (after_node trees node))) ≡ length (row_subtrees (take (child_count node) trees)) + 1
 made-extent trees an_empty may = refl
 made-extent trees (a_set ranges) may = refl
 made-extent trees (a_look look) may = refl
@@ -208,35 +208,35 @@ made-extent (tree ∷ trees) (a_repetition repetition) may =
     omega (arith, length-append (subtrees_of tree) (repeated repetition tree ∷ []), length-append (subtrees_of tree) [])
 
 -- the same of a node that is one of these
-pub concat-weight-at : {row : RowProperties} {node : NodeKind} (trees : List Tree) (count : ℕ) → node ≡ a_concat count → MayFollow trees node → IsRowOf row (take (width_of node) trees)
+pub concat-weight-at : {row : RowProperties} {node : NodeKind} (trees : List Tree) (count : ℕ) → node ≡ a_concat count → MayFollow trees node → AreRowProperties row (take (child_count node) trees)
     → row.weight ≡ held (weight_of (first_of (after_node trees node)))
 concat-weight-at {row = row} trees count e =
-    subst (λ n. MayFollow trees n → IsRowOf row (take (width_of n) trees) → row.weight ≡ held (weight_of (first_of (after_node trees n)))) (sym e) (concat-weight trees count)
+    subst (λ n. MayFollow trees n → AreRowProperties row (take (child_count n) trees) → row.weight ≡ held (weight_of (first_of (after_node trees n)))) (sym e) (concat-weight trees count)
 
-pub concat-size-at : {row : RowProperties} {node : NodeKind} (trees : List Tree) (count : ℕ) → node ≡ a_concat count → MayFollow trees node → IsRowOf row (take (width_of node) trees)
+pub concat-size-at : {row : RowProperties} {node : NodeKind} (trees : List Tree) (count : ℕ) → node ≡ a_concat count → MayFollow trees node → AreRowProperties row (take (child_count node) trees)
     → row.size ≡ held (size_of (first_of (after_node trees node)))
 concat-size-at {row = row} trees count e =
-    subst (λ n. MayFollow trees n → IsRowOf row (take (width_of n) trees) → row.size ≡ held (size_of (first_of (after_node trees n)))) (sym e) (concat-size trees count)
+    subst (λ n. MayFollow trees n → AreRowProperties row (take (child_count n) trees) → row.size ≡ held (size_of (first_of (after_node trees n)))) (sym e) (concat-size trees count)
 
-pub concat-empty-at : {row : RowProperties} {node : NodeKind} (trees : List Tree) (count : ℕ) → node ≡ a_concat count → MayFollow trees node → IsRowOf row (take (width_of node) trees)
+pub concat-empty-at : {row : RowProperties} {node : NodeKind} (trees : List Tree) (count : ℕ) → node ≡ a_concat count → MayFollow trees node → AreRowProperties row (take (child_count node) trees)
     → row.all_may_be_empty ≡ may_be_empty (first_of (after_node trees node))
 concat-empty-at {row = row} trees count e =
-    subst (λ n. MayFollow trees n → IsRowOf row (take (width_of n) trees) → row.all_may_be_empty ≡ may_be_empty (first_of (after_node trees n))) (sym e) (concat-empty trees count)
+    subst (λ n. MayFollow trees n → AreRowProperties row (take (child_count n) trees) → row.all_may_be_empty ≡ may_be_empty (first_of (after_node trees n))) (sym e) (concat-empty trees count)
 
-pub alternation-weight-at : {row : RowProperties} {node : NodeKind} (trees : List Tree) (count : ℕ) → node ≡ an_alternation count → MayFollow trees node → IsRowOf row (take (width_of node) trees)
+pub alternation-weight-at : {row : RowProperties} {node : NodeKind} (trees : List Tree) (count : ℕ) → node ≡ an_alternation count → MayFollow trees node → AreRowProperties row (take (child_count node) trees)
     → min (row.weight + 1) (2 ^ 64 - 1) ≡ held (weight_of (first_of (after_node trees node)))
 alternation-weight-at {row = row} trees count e =
-    subst (λ n. MayFollow trees n → IsRowOf row (take (width_of n) trees) → min (row.weight + 1) (2 ^ 64 - 1) ≡ held (weight_of (first_of (after_node trees n)))) (sym e) (alternation-weight trees count)
+    subst (λ n. MayFollow trees n → AreRowProperties row (take (child_count n) trees) → min (row.weight + 1) (2 ^ 64 - 1) ≡ held (weight_of (first_of (after_node trees n)))) (sym e) (alternation-weight trees count)
 
-pub alternation-size-at : {row : RowProperties} {node : NodeKind} (trees : List Tree) (count : ℕ) → node ≡ an_alternation count → MayFollow trees node → IsRowOf row (take (width_of node) trees)
+pub alternation-size-at : {row : RowProperties} {node : NodeKind} (trees : List Tree) (count : ℕ) → node ≡ an_alternation count → MayFollow trees node → AreRowProperties row (take (child_count node) trees)
     → min (row.size + 1) (2 ^ 64 - 1) ≡ held (size_of (first_of (after_node trees node)))
 alternation-size-at {row = row} trees count e =
-    subst (λ n. MayFollow trees n → IsRowOf row (take (width_of n) trees) → min (row.size + 1) (2 ^ 64 - 1) ≡ held (size_of (first_of (after_node trees n)))) (sym e) (alternation-size trees count)
+    subst (λ n. MayFollow trees n → AreRowProperties row (take (child_count n) trees) → min (row.size + 1) (2 ^ 64 - 1) ≡ held (size_of (first_of (after_node trees n)))) (sym e) (alternation-size trees count)
 
-pub alternation-empty-at : {row : RowProperties} {node : NodeKind} (trees : List Tree) (count : ℕ) → node ≡ an_alternation count → MayFollow trees node → IsRowOf row (take (width_of node) trees)
+pub alternation-empty-at : {row : RowProperties} {node : NodeKind} (trees : List Tree) (count : ℕ) → node ≡ an_alternation count → MayFollow trees node → AreRowProperties row (take (child_count node) trees)
     → row.any_may_be_empty ≡ may_be_empty (first_of (after_node trees node))
 alternation-empty-at {row = row} trees count e =
-    subst (λ n. MayFollow trees n → IsRowOf row (take (width_of n) trees) → row.any_may_be_empty ≡ may_be_empty (first_of (after_node trees n))) (sym e) (alternation-empty trees count)
+    subst (λ n. MayFollow trees n → AreRowProperties row (take (child_count n) trees) → row.any_may_be_empty ≡ may_be_empty (first_of (after_node trees n))) (sym e) (alternation-empty trees count)
 
 -- what is known of the last part of a row
 subtrees-end : (tree : Tree) → (front : List Tree) × (subtrees_of tree ≡ front ++ tree ∷ [])
@@ -284,9 +284,9 @@ next_part trees k d below =
       omega (arith, lengths),
     )
 
-pub IsRowOf-next : {row row' : RowProperties} {part : Properties} (trees : List Tree) (k : ℕ) → k < length trees → IsRowOf row (take k trees) → part ≡ properties_of (get_or trees k empty)
-    → ((list : List Tree) (tree : Tree) → IsRowOf row list → part ≡ properties_of tree → IsRowOf row' (list ++ tree ∷ [])) → IsRowOf row' (take (k + 1) trees)
-IsRowOf-next {row' = row'} trees k below is known more = subst (IsRowOf row') (sym (take_more trees k empty below)) (more (take k trees) (get_or trees k empty) is known)
+pub IsRowOf-next : {row row' : RowProperties} {part : Properties} (trees : List Tree) (k : ℕ) → k < length trees → AreRowProperties row (take k trees) → part ≡ properties_of (get_or trees k empty)
+    → ((list : List Tree) (tree : Tree) → AreRowProperties row list → part ≡ properties_of tree → AreRowProperties row' (list ++ tree ∷ [])) → AreRowProperties row' (take (k + 1) trees)
+IsRowOf-next {row' = row'} trees k below is known more = subst (AreRowProperties row') (sym (take_more trees k empty below)) (more (take k trees) (get_or trees k empty) is known)
 
 abbrev known : ℕ → ℕ → ℕ → Bool → Option ℕ → Properties
 known extent weight size may_be_empty groups =

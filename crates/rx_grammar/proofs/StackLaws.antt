@@ -1,12 +1,9 @@
 -- The trees that nodes make.
-use Rattle.std.proofs.Common.{◌≡◌, ℕ, ◌+◌, ◌-◌, ◌≤◌, Bool, List, [], ◌∷◌, ◌++◌, length, take, drop, map, reverse, Some, None, refl, sym, ap, ap₂, subst, ◌∙◌, arith, length-append, length-drop}
-use Rattle.std.proofs.lemmas.List.{take_at, drop_at, reverse-reverse, length-reverse}
+use Rattle.std.proofs.Common.{◌≡◌, ℕ, ◌+◌, ◌≤◌, Bool, List, [], ◌∷◌, ◌++◌, length, map, Some, None, refl, sym, ap, subst, ◌∙◌, arith, length-drop}
 use Rattle.rx_grammar.specs.declared.hir.Node.{Node}
 use Rattle.rx_grammar.specs.declared.hir.Node.TheVariants as node
-use Rattle.rx_grammar.specs.declared.groups.GroupKind.{GroupKind}
-use Rattle.rx_grammar.specs.declared.groups.GroupKind.TheVariants.{Numbered, Unnumbered}
 use Rattle.rx_grammar.specs.declared.hir.Repetition.{Repetition}
-use Rattle.rx_grammar.specs.Trees.{Tree, empty, repeated}
+use Rattle.rx_grammar.specs.Trees.{Tree, repeated}
 use Rattle.rx_grammar.specs.Subtrees.{NodeKind, an_empty, a_set, a_look, a_group, a_concat, an_alternation, a_repetition}
 use Rattle.rx_grammar.specs.Postorder.{after_node, after_nodes, trees_of}
 use Rattle.rx_grammar.specs.Nodes.{kind_of}
@@ -14,9 +11,8 @@ use Rattle.rx_grammar.specs.Input.{Stops}
 use Rattle.rx_grammar.specs.Repetitions.{Postfix, Postfixes, is_postfix_start}
 use Rattle.rx_grammar.specs.Readers.{NoPostfix}
 use Rattle.rx_grammar.specs.Repetitions as repetitions
-use Rattle.rx_grammar.specs.Heads.{capture_of}
 use Rattle.rx_grammar.specs.Weights.{held}
-use Rattle.rx_grammar.specs.Stacks.{captured, PostfixesRead, NoPostfixes}
+use Rattle.rx_grammar.specs.Stacks.{PostfixesRead, NoPostfixes}
 use Rattle.rx_grammar.proofs.RepetitionLaws.{postfix_unique, postfix_starts, postfixes_along}
 
 after_nodes-append : (trees : List Tree) (xs ys : List NodeKind) → after_nodes trees (xs ++ ys) ≡ after_nodes (after_nodes trees xs) ys
@@ -48,31 +44,6 @@ kinds_length (x ∷ xs) = omega (arith, kinds_length xs)
 
 pub length-trees_of : (nodes : List Node) → length (trees_of (map kind_of nodes)) ≤ length nodes
 length-trees_of nodes = omega (arith, length-after_nodes [] (map kind_of nodes), kinds_length nodes)
-
--- the last trees, as they stand in a row
-front_taken : (items below : List Tree) → reverse (take (length items) (reverse items ++ below)) ≡ items
-front_taken items below = ap reverse (take_at (reverse items) below (length items) (length-reverse items)) ∙ reverse-reverse items
-
-front_dropped : (items below : List Tree) → drop (length items) (reverse items ++ below) ≡ below
-front_dropped items below = drop_at (reverse items) below (length items) (length-reverse items)
-
-pub joined : (f : List Tree → Tree) (n : ℕ) (trees items below : List Tree) → trees ≡ reverse items ++ below → n ≡ length items
-    → f (reverse (take n trees)) ∷ drop n trees ≡ f items ∷ below
-joined f n trees items below e len =
-    ap₂ (λ x y. f (reverse (take x y)) ∷ drop x y) len e ∙ ap₂ (λ x y. f x ∷ y) (front_taken items below) (front_dropped items below)
-
-pub count_above : (trees items below : List Tree) (n height group : ℕ) → trees ≡ reverse items ++ below → n ≡ height - group → height ≡ length trees → group ≡ length below → n ≡ length items
-count_above trees items below n height group e is counted at =
-    omega (arith, ap length e, length-append (reverse items) below, length-reverse items)
-
-pub joined_none : (f : List Tree → Tree) → f [] ≡ empty → (trees items below : List Tree) → trees ≡ reverse items ++ below → 0 ≡ length items → empty ∷ trees ≡ f items ∷ below
-joined_none f none trees [] below e len = ap₂ (λ x y. x ∷ y) (sym none) e
-joined_none f none trees (item ∷ items) below e len = absurd (omega arith)
-
-pub joined_one : (f : List Tree → Tree) → ((h : Tree) → f (h ∷ []) ≡ h) → (trees items below : List Tree) → trees ≡ reverse items ++ below → 1 ≡ length items → trees ≡ f items ∷ below
-joined_one f one trees [] below e len = absurd (omega arith)
-joined_one f one trees (item ∷ []) below e len = e ∙ ap (λ x. x ∷ below) (sym (one item))
-joined_one f one trees (item ∷ second ∷ items) below e len = absurd (omega arith)
 
 -- postfixes that are read one by one
 pub record PostfixesSoFar (swap : Bool) (tree : Tree) (depth : ℕ) (t : List ℕ) (trees below : List Tree) (deep : ℕ) (u : List ℕ) : Type 0 where
@@ -127,17 +98,3 @@ over_one (tree ∷ trees) (node.Group number (Some name)) is some = refl
 over_one (tree ∷ trees) (node.Concat count) is some = absurd is
 over_one (tree ∷ trees) (node.Alternation count) is some = absurd is
 over_one (tree ∷ trees) (node.Repeat repetition) is some = refl
-
-abbrev group_node : ℕ → GroupKind → Node
-group_node number (Numbered name) = node.Group number name
-group_node number Unnumbered = node.Empty
-
-abbrev IsNumbered : GroupKind → Type 0
-IsNumbered (Numbered name) = Unit {0}
-IsNumbered Unnumbered = ⊥
-
-pub captured_made : (number : ℕ) (captures : GroupKind) (trees below : List Tree) (tree : Tree) → IsNumbered captures → trees ≡ tree ∷ below
-    → after_node trees (kind_of (group_node number captures)) ≡ captured number (capture_of captures) tree ∷ below
-captured_made number (Numbered None) trees below tree is e = ap (λ x. after_node x (kind_of (group_node number (Numbered None)))) e
-captured_made number (Numbered (Some name)) trees below tree is e = ap (λ x. after_node x (kind_of (group_node number (Numbered (Some name))))) e
-captured_made number Unnumbered trees below tree is e = absurd is

@@ -1,16 +1,16 @@
 -- How many groups stand in each match: of trees in a row, and never more than there are nodes.
-use Rattle.std.proofs.Common.{◌≡◌, ℕ, zero, suc, ◌+◌, ◌≤◌, ◌<◌, ◌==◌, cond, Bool, true, false, List, [], ◌∷◌, ◌++◌, length, reverse, take, Option, Some, None, refl, sym, ap, ap₂, subst, ◌∙◌, arith, length-append}
+use Rattle.std.proofs.Common.{◌≡◌, ℕ, zero, suc, ◌+◌, ◌≤◌, ◌<◌, ◌==◌, cond, Bool, true, false, List, [], ◌∷◌, ◌++◌, length, reverse, take, Option, Some, None, refl, sym, ap, subst, ◌∙◌, arith, length-append}
 use Rattle.std.proofs.lemmas.List.{reverse-append}
 use Rattle.std.specs.Option.{SomeIff}
 use Rattle.rx_grammar.specs.declared.hir.Node.{Node}
 use Rattle.rx_grammar.specs.declared.hir.Node.TheVariants as node
 use Rattle.rx_grammar.specs.Nodes.{kind_of}
 use Rattle.rx_grammar.specs.Trees.{Tree, Trees, Name, empty, one_of, look_at, group, concat, alternation, repeated, two, more, in_a_row, concat_of}
-use Rattle.rx_grammar.specs.Subtrees.{NodeKind, a_group, a_concat, an_alternation, width_of, subtrees_of, all_subtrees_of}
+use Rattle.rx_grammar.specs.Subtrees.{NodeKind, a_group, a_concat, an_alternation, child_count, subtrees_of, all_subtrees_of}
 use Rattle.rx_grammar.specs.StaticGroups.{both_groups, common_groups, repeated_groups, static_groups, all_static_groups, common_static_groups}
 use Rattle.rx_grammar.specs.Postorder.{alternate, after_node, first_of}
 use Rattle.rx_grammar.specs.declared.properties.RowProperties.{RowProperties}
-use Rattle.rx_grammar.specs.Rows.{row_subtrees, MayFollow, groups_in, common_with, common_in, IsRowOf}
+use Rattle.rx_grammar.specs.Rows.{row_subtrees, MayFollow, static_groups_in, common_with, common_in, AreRowProperties}
 use Rattle.rx_grammar.proofs.SubtreeLaws.{row_subtrees-cons}
 use Rattle.rx_grammar.proofs.RowLaws.{some_last}
 
@@ -43,18 +43,18 @@ common-assoc (Some n) (Some m) None = grind arith
 common-assoc (Some n) (Some m) (Some k) = grind arith
 
 -- of a row
-groups_in-append : (xs ys : List Tree) → groups_in (xs ++ ys) ≡ both_groups (groups_in xs) (groups_in ys)
-groups_in-append [] ys = sym (both-none (groups_in ys))
-groups_in-append (x ∷ xs) ys = ap (both_groups (static_groups x)) (groups_in-append xs ys) ∙ both-assoc (static_groups x) (groups_in xs) (groups_in ys)
+groups_in-append : (xs ys : List Tree) → static_groups_in (xs ++ ys) ≡ both_groups (static_groups_in xs) (static_groups_in ys)
+groups_in-append [] ys = sym (both-none (static_groups_in ys))
+groups_in-append (x ∷ xs) ys = ap (both_groups (static_groups x)) (groups_in-append xs ys) ∙ both-assoc (static_groups x) (static_groups_in xs) (static_groups_in ys)
 
-pub groups_in-last : (xs : List Tree) (x : Tree) → groups_in (xs ++ x ∷ []) ≡ both_groups (groups_in xs) (static_groups x)
-groups_in-last xs x = groups_in-append xs (x ∷ []) ∙ ap (both_groups (groups_in xs)) (both-comm (static_groups x) (Some 0) ∙ both-none (static_groups x))
+pub groups_in-last : (xs : List Tree) (x : Tree) → static_groups_in (xs ++ x ∷ []) ≡ both_groups (static_groups_in xs) (static_groups x)
+groups_in-last xs x = groups_in-append xs (x ∷ []) ∙ ap (both_groups (static_groups_in xs)) (both-comm (static_groups x) (Some 0) ∙ both-none (static_groups x))
 
-groups_in-reverse : (xs : List Tree) → groups_in (reverse xs) ≡ groups_in xs
+groups_in-reverse : (xs : List Tree) → static_groups_in (reverse xs) ≡ static_groups_in xs
 groups_in-reverse [] = refl
 groups_in-reverse (x ∷ xs) =
-    ap groups_in (reverse-append (x ∷ []) xs) ∙ groups_in-last (reverse xs) x
-    ∙ ap (λ a. both_groups a (static_groups x)) (groups_in-reverse xs) ∙ both-comm (groups_in xs) (static_groups x)
+    ap static_groups_in (reverse-append (x ∷ []) xs) ∙ groups_in-last (reverse xs) x
+    ∙ ap (λ a. both_groups a (static_groups x)) (groups_in-reverse xs) ∙ both-comm (static_groups_in xs) (static_groups x)
 
 pub common_in-last : (xs : List Tree) (x : Tree) → common_in (xs ++ x ∷ []) ≡ Some (common_with (static_groups x) (common_in xs))
 common_in-last [] x = refl
@@ -72,11 +72,11 @@ common_in-reverse (x ∷ xs) =
     ap common_in (reverse-append (x ∷ []) xs) ∙ common_in-last (reverse xs) x ∙ ap (λ a. Some (common_with (static_groups x) a)) (common_in-reverse xs)
 
 -- what trees in a row become
-all_groups : (first second : Tree) (others : List Tree) → all_static_groups (in_a_row first second others) ≡ groups_in (first ∷ second ∷ others)
+all_groups : (first second : Tree) (others : List Tree) → all_static_groups (in_a_row first second others) ≡ static_groups_in (first ∷ second ∷ others)
 all_groups first second [] = ap (both_groups (static_groups first)) (sym (both-none (static_groups second)) ∙ both-comm (Some 0) (static_groups second))
 all_groups first second (third ∷ others) = ap (both_groups (static_groups first)) (all_groups second third others)
 
-groups_of-concat : (items : List Tree) → 2 ≤ length items → static_groups (concat_of items) ≡ groups_in items
+groups_of-concat : (items : List Tree) → 2 ≤ length items → static_groups (concat_of items) ≡ static_groups_in items
 groups_of-concat [] some = absurd (omega arith)
 groups_of-concat (item ∷ []) some = absurd (omega arith)
 groups_of-concat (first ∷ second ∷ others) some = all_groups first second others
@@ -162,36 +162,36 @@ mutual
   all_common-below (more first others) =
       common_parts (static_groups first) (common_static_groups others) (subtrees_of first) (all_subtrees_of others) (static_groups-below first)
 
-groups_in-below : (trees : List Tree) → Below (groups_in trees) (length (row_subtrees trees) + 1)
+groups_in-below : (trees : List Tree) → Below (static_groups_in trees) (length (row_subtrees trees) + 1)
 groups_in-below [] = omega arith
 groups_in-below (tree ∷ trees) =
-    both-below (static_groups tree) (groups_in trees) (length (subtrees_of tree)) (length (row_subtrees trees) + 1) (length (row_subtrees (tree ∷ trees)) + 1)
+    both-below (static_groups tree) (static_groups_in trees) (length (subtrees_of tree)) (length (row_subtrees trees) + 1) (length (row_subtrees (tree ∷ trees)) + 1)
     (static_groups-below tree) (groups_in-below trees)
     (omega (arith, ap length (row_subtrees-cons tree trees), length-append (row_subtrees trees) (subtrees_of tree)))
 
 pub static_groups-less : {n : ℕ} (tree : Tree) → static_groups tree ≡ Some n → n < length (subtrees_of tree)
 static_groups-less tree is = below is (static_groups-below tree)
 
-pub groups_in-le : {n : ℕ} (trees : List Tree) → groups_in trees ≡ Some n → n ≤ length (row_subtrees trees)
+pub groups_in-le : {n : ℕ} (trees : List Tree) → static_groups_in trees ≡ Some n → n ≤ length (row_subtrees trees)
 groups_in-le trees is = omega (arith, below is (groups_in-below trees))
 
 -- of the last trees, which become one
-pub concat-groups : {row : RowProperties} {node : NodeKind} (trees : List Tree) (count : ℕ) → node ≡ a_concat count → MayFollow trees node → IsRowOf row (take (width_of node) trees)
+pub concat-groups : {row : RowProperties} {node : NodeKind} (trees : List Tree) (count : ℕ) → node ≡ a_concat count → MayFollow trees node → AreRowProperties row (take (child_count node) trees)
     → row.groups ≡ static_groups (first_of (after_node trees node))
 concat-groups {row = row} trees count e =
-    subst (λ n. MayFollow trees n → IsRowOf row (take (width_of n) trees) → row.groups ≡ static_groups (first_of (after_node trees n))) (sym e) (λ may is.
+    subst (λ n. MayFollow trees n → AreRowProperties row (take (child_count n) trees) → row.groups ≡ static_groups (first_of (after_node trees n))) (sym e) (λ may is.
     let last = take count trees in
     is.groups ∙ sym (groups_in-reverse last) ∙ sym (groups_of-concat (reverse last) (some_last count trees may.fits may.over_two)))
 
-pub alternation-groups : {row : RowProperties} {node : NodeKind} (trees : List Tree) (count : ℕ) → node ≡ an_alternation count → MayFollow trees node → IsRowOf row (take (width_of node) trees)
+pub alternation-groups : {row : RowProperties} {node : NodeKind} (trees : List Tree) (count : ℕ) → node ≡ an_alternation count → MayFollow trees node → AreRowProperties row (take (child_count node) trees)
     → row.common_groups ≡ Some (static_groups (first_of (after_node trees node)))
 alternation-groups {row = row} trees count e =
-    subst (λ n. MayFollow trees n → IsRowOf row (take (width_of n) trees) → row.common_groups ≡ Some (static_groups (first_of (after_node trees n)))) (sym e) (λ may is.
+    subst (λ n. MayFollow trees n → AreRowProperties row (take (child_count n) trees) → row.common_groups ≡ Some (static_groups (first_of (after_node trees n)))) (sym e) (λ may is.
     let last = take count trees in
     is.common ∙ sym (common_in-reverse last) ∙ sym (common_of-alternation (reverse last) (some_last count trees may.fits may.over_two)))
 
 -- of the last tree, which becomes a group
-group_of_last : {row : RowProperties} {number : ℕ} {name : Option Name} (trees : List Tree) → MayFollow trees (a_group number name) → IsRowOf row (take 1 trees)
+group_of_last : {row : RowProperties} {number : ℕ} {name : Option Name} (trees : List Tree) → MayFollow trees (a_group number name) → AreRowProperties row (take 1 trees)
     → both_groups row.groups (Some 1) ≡ static_groups (first_of (after_node trees (a_group number name)))
 group_of_last [] may is = absurd (omega (arith, may.fits))
 group_of_last (tree ∷ trees) may is =
@@ -201,7 +201,7 @@ abbrev pub IsGroup : Node → Type 0
 IsGroup (node.Group number name) = Unit {0}
 IsGroup _ = ⊥
 
-pub group-groups : {row : RowProperties} (trees : List Tree) (own : Node) → IsGroup own → MayFollow trees (kind_of own) → IsRowOf row (take (width_of (kind_of own)) trees)
+pub group-groups : {row : RowProperties} (trees : List Tree) (own : Node) → IsGroup own → MayFollow trees (kind_of own) → AreRowProperties row (take (child_count (kind_of own)) trees)
     → both_groups row.groups (Some 1) ≡ static_groups (first_of (after_node trees (kind_of own)))
 group-groups trees node.Empty one may is = absurd one
 group-groups trees (node.Set set) one may is = absurd one

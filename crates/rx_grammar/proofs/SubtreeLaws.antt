@@ -1,13 +1,13 @@
 -- The parts of trees that are made of nodes.
-use Rattle.std.proofs.Common.{◌≡◌, ℕ, ◌+◌, ◌≤◌, List, [], ◌∷◌, ◌++◌, length, take, drop, map, reverse, append_assoc, append-nil, refl, sym, ap, ap₂, subst, ◌∙◌, arith, length-drop}
+use Rattle.std.proofs.Common.{◌≡◌, ℕ, ◌+◌, ◌≤◌, List, [], ◌∷◌, ◌++◌, length, take, drop, map, reverse, append_assoc, append-nil, refl, sym, ap, ap₂, ◌∙◌, arith, length-drop}
 use Rattle.std.specs.List.{flat_map}
 use Rattle.std.proofs.lemmas.List.{reverse-append, take-append-drop, map-append, length-reverse, length-take-le}
 use Rattle.std.proofs.lemmas.List.Concat.{flat_map-append}
 use Rattle.rx_grammar.specs.declared.properties.Properties.{Properties}
 use Rattle.rx_grammar.specs.Trees.{Tree, empty, one_of, look_at, group, concat, alternation, repeated, in_a_row, concat_of}
-use Rattle.rx_grammar.specs.Subtrees.{NodeKind, an_empty, a_set, a_look, a_group, a_concat, an_alternation, a_repetition, width_of, how_many, root_of, subtrees_of, all_subtrees_of, IsWellFormed}
-use Rattle.rx_grammar.specs.Postorder.{alternate, after_node, trees_of, first_of, tree_of}
-use Rattle.rx_grammar.specs.Rows.{row_subtrees, MayFollow, AreStacked, AreNodesOf}
+use Rattle.rx_grammar.specs.Subtrees.{NodeKind, an_empty, a_set, a_look, a_group, a_concat, an_alternation, a_repetition, child_count, how_many, root_of, subtrees_of, all_subtrees_of}
+use Rattle.rx_grammar.specs.Postorder.{alternate, after_node, trees_of, first_of}
+use Rattle.rx_grammar.specs.Rows.{row_subtrees, MayFollow, AreStacked}
 use Rattle.rx_grammar.specs.Nodes.{properties_of}
 use Rattle.rx_grammar.proofs.StackLaws.{trees_of-push}
 
@@ -98,7 +98,7 @@ after_node-root trees (an_alternation count) may =
 after_node-root [] (a_repetition repetition) may = refl
 after_node-root (tree ∷ trees) (a_repetition repetition) may = refl
 
-after_node-length : (trees : List Tree) (node : NodeKind) → MayFollow trees node → length (after_node trees node) + width_of node ≡ length trees + 1
+after_node-length : (trees : List Tree) (node : NodeKind) → MayFollow trees node → length (after_node trees node) + child_count node ≡ length trees + 1
 after_node-length trees an_empty may = omega arith
 after_node-length trees (a_set ranges) may = omega arith
 after_node-length trees (a_look look) may = omega arith
@@ -111,7 +111,7 @@ after_node-length (tree ∷ trees) (a_repetition repetition) may = omega arith
 
 -- a stack of trees with one node more
 pub AreStacked-push : (nodes : List NodeKind) (node : NodeKind) (properties : List Properties) (own : Properties) (height height' : ℕ) → AreStacked nodes properties height → MayFollow (trees_of nodes) node
-    → height' + width_of node ≡ height + 1 → own ≡ properties_of (first_of (after_node (trees_of nodes) node)) → AreStacked (nodes ++ node ∷ []) (properties ++ own ∷ []) height'
+    → height' + child_count node ≡ height + 1 → own ≡ properties_of (first_of (after_node (trees_of nodes) node)) → AreStacked (nodes ++ node ∷ []) (properties ++ own ∷ []) height'
 AreStacked-push nodes node properties own height height' stacked may counted known =
     let trees = trees_of nodes in
     let all = nodes ++ node ∷ [] in
@@ -124,14 +124,3 @@ AreStacked-push nodes node properties own height height' stacked may counted kno
       known = ap₂ (λ x y. x ++ y ∷ []) stacked.known known
           ∙ sym (map-append properties_of (row_subtrees trees) (made ∷ [])) ∙ ap (map properties_of) (sym (after_node-subtrees trees node may)) ∙ ap (λ x. map properties_of (row_subtrees x)) (sym pushed);
     }
-
--- a stack of one tree has its nodes
-pub AreNodesOf-stacked : (nodes : List NodeKind) (properties : List Properties) (height : ℕ) (tree : Tree) → AreStacked nodes properties height → trees_of nodes ≡ tree ∷ [] → IsWellFormed tree
-    → AreNodesOf (tree_of nodes) nodes properties
-AreNodesOf-stacked nodes properties height tree stacked one well_formed =
-    subst (λ x. AreNodesOf x nodes properties) (sym (ap first_of one)) (record {
-      made = one;
-      exact = stacked.exact ∙ ap (λ x. map root_of (row_subtrees x)) one ∙ ap (map root_of) (append-nil (subtrees_of tree));
-      well_formed = well_formed;
-      known = stacked.known ∙ ap (λ x. map properties_of (row_subtrees x)) one ∙ ap (map properties_of) (append-nil (subtrees_of tree));
-    })

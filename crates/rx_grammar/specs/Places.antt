@@ -13,7 +13,7 @@ use Rattle.rx_grammar.specs.Repetitions.{Postfixes}
 use Rattle.rx_grammar.specs.Groups.{Capture, opened}
 use Rattle.rx_grammar.specs.Grammar.{goes_on}
 use Rattle.rx_grammar.specs.Heads.{capture_of}
-use Rattle.rx_grammar.specs.Resuming.{Level, OpenGroup, Place, SameEnds, no_level, with_item, tree_at}
+use Rattle.rx_grammar.specs.Resuming.{Level, OpenGroup, PatternPlace, SameEnds, no_level, with_item, tree_at}
 
 -- the trees of a level stand above those of the levels around it, the last one first
 pub record IsLevel (heights : Heights) (level : Level) (trees below : List Tree) : Type 0 where
@@ -30,7 +30,7 @@ pub data Surround : List Around → List OpenGroup → List Tree → Type 0 wher
       → capture_of around.captures ≡ group.capture → Surround arounds groups below → Surround (around ∷ arounds) (group ∷ groups) trees
 
 -- the parser stands at a place, with more trees that are no items yet, the last one first
-pub record IsAt (parser : Parser) (pending : List Tree) (place : Place) : Type 0 where
+pub record ParserIsAt (parser : Parser) (pending : List Tree) (place : PatternPlace) : Type 0 where
   pub trees : List Tree
   pub below : List Tree
   pub trees_are : trees_of parser.trees ≡ pending ++ trees
@@ -40,16 +40,16 @@ pub record IsAt (parser : Parser) (pending : List Tree) (place : Place) : Type 0
   pub around : Surround (reverse parser.around.items) place.around below
 
 abbrev pub IsAtSomePlace : Parser → Type 0
-IsAtSomePlace parser = (place : Place) × IsAt parser [] place
+IsAtSomePlace parser = (place : PatternPlace) × ParserIsAt parser [] place
 
 -- where a pattern begins
-abbrev pub start_of : Settings → Place
-start_of settings = record { settings = settings; groups = 0; level = no_level; around = [] }
+abbrev pub place_at_start : Settings → PatternPlace
+place_at_start settings = record { settings = settings; groups = 0; level = no_level; around = [] }
 
-abbrev pub item_at : Place → Tree → ℕ → Place
+abbrev pub item_at : PatternPlace → Tree → ℕ → PatternPlace
 item_at place tree depth = record place { level = with_item place.level tree depth }
 
-abbrev pub opened_at : Place → Settings → Capture → Place
+abbrev pub opened_at : PatternPlace → Settings → Capture → PatternPlace
 opened_at place inside capture = record {
   settings = inside;
   groups = opened place.groups capture;
@@ -58,15 +58,15 @@ opened_at place inside capture = record {
 }
 
 -- the postfixes after an atom were read, and it is an item with them
-pub record ItemRead (before after : Parser) (place : Place) (tree : Tree) (depth : ℕ) (t u : List ℕ) : Type 0 where
+pub record ItemRead (before after : Parser) (place : PatternPlace) (tree : Tree) (depth : ℕ) (t u : List ℕ) : Type 0 where
   pub made : Tree
   pub deep : ℕ
   pub postfixes : Postfixes place.settings.swap_greed tree depth t made deep u
-  pub stands : IsAt after [] (item_at place made deep)
+  pub stands : ParserIsAt after [] (item_at place made deep)
   pub groups : after.groups ≡ before.groups
 
 -- the branches of the level are one tree, and all else is as before
-pub record EndsLevel (before after : Parser) (place : Place) : Type 0 where
+pub record EndsLevel (before after : Parser) (place : PatternPlace) : Type 0 where
   pub below : List Tree
   pub trees_are : trees_of after.trees ≡ tree_at place.level ∷ below
   pub depth_is : after.heights.depth ≡ held place.level.depth
@@ -75,9 +75,9 @@ pub record EndsLevel (before after : Parser) (place : Place) : Type 0 where
   pub groups : after.groups ≡ before.groups
 
 -- a part of the text was read, and the rest completes the pattern as before
-pub record PartRead (before after : Parser) (place : Place) (t u : List ℕ) : Type 0 where
-  pub next : Place
-  pub stands : IsAt after [] next
+pub record PartRead (before after : Parser) (place : PatternPlace) (t u : List ℕ) : Type 0 where
+  pub next : PatternPlace
+  pub stands : ParserIsAt after [] next
   pub same : SameEnds place t next u
   pub shorter : length u < length t
   pub groups : after.groups + length u ≤ before.groups + length t
@@ -88,13 +88,13 @@ pub record IsAtomPlace (t : List ℕ) : Type 0 where
   pub inside : Stops goes_on t → ⊥
 
 -- the whole text was read
-pub record TextRead (after : Parser) (place : Place) (t : List ℕ) : Type 0 where
-  pub next : Place
-  pub stands : IsAt after [] next
+pub record TextRead (after : Parser) (place : PatternPlace) (t : List ℕ) : Type 0 where
+  pub next : PatternPlace
+  pub stands : ParserIsAt after [] next
   pub same : SameEnds place t next []
 
 -- no group is open, and the tree and its depth are what was read
-pub record IsFinished (place : Place) (nodes : List NodeKind) (depth : ℕ) : Type 0 where
+pub record IsFinished (place : PatternPlace) (nodes : List NodeKind) (depth : ℕ) : Type 0 where
   pub nothing_open : place.around ≡ []
   pub tree_is : trees_of nodes ≡ tree_at place.level ∷ []
   pub depth_is : depth ≡ held place.level.depth

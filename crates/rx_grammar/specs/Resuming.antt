@@ -25,7 +25,7 @@ pub record OpenGroup : Type 0 where
 
 -- a place in a pattern between two items: the settings there, how many groups were opened before it, what has
 -- been read of the innermost group, and the groups around that, the innermost one first
-pub record Place : Type 0 where
+pub record PatternPlace : Type 0 where
   pub settings : Settings
   pub groups : ℕ
   pub level : Level
@@ -56,7 +56,7 @@ pub data Rest : Settings → ℕ → List ℕ → List Tree → List Tree → �
       → Branches s' k w g gs e s'' n u → Rest s m t hs (g ∷ gs) (max d e) n u
 
 -- the text completes a level to a tree of this depth
-pub record Ends (level : Level) (s : Settings) (m : ℕ) (t : List ℕ) (tree : Tree) (depth n : ℕ) (u : List ℕ) : Type 0 where
+pub record CompletesLevel (level : Level) (s : Settings) (m : ℕ) (t : List ℕ) (tree : Tree) (depth n : ℕ) (u : List ℕ) : Type 0 where
   pub items : List Tree
   pub later : List Tree
   pub deep : ℕ
@@ -65,26 +65,27 @@ pub record Ends (level : Level) (s : Settings) (m : ℕ) (t : List ℕ) (tree : 
   pub depth_is : depth ≡ max level.depth deep
 
 -- the group ends, and postfixes follow it
-pub record Closes (around : OpenGroup) (inside : Tree) (depth : ℕ) (t : List ℕ) (tree : Tree) (deep : ℕ) (u : List ℕ) : Type 0 where
+pub record ClosesGroup (around : OpenGroup) (inside : Tree) (depth : ℕ) (t : List ℕ) (tree : Tree) (deep : ℕ) (u : List ℕ) : Type 0 where
   pub behind : List ℕ
   pub parenthesis : t ≡ 41 ∷ behind
   pub postfixes : Postfixes around.settings.swap_greed (grouped around.groups around.capture inside) (depth + 1) behind tree deep u
 
 -- the text completes the pattern to a tree of this depth
 pub data Resumes : List OpenGroup → Level → Settings → ℕ → List ℕ → Tree → ℕ → Type 0 where
-  whole : {level : Level} {s : Settings} {m depth n : ℕ} {t : List ℕ} {tree : Tree} → Ends level s m t tree depth n [] → Resumes [] level s m t tree depth
+  whole : {level : Level} {s : Settings} {m depth n : ℕ} {t : List ℕ} {tree : Tree} → CompletesLevel level s m t tree depth n [] → Resumes [] level s m t tree depth
   within : {around : OpenGroup} {others : List OpenGroup} {level : Level} {s : Settings} {m depth n d e : ℕ} {t u v : List ℕ} {tree h g : Tree}
-      → Ends level s m t h d n u → Closes around h d u g e v → Resumes others (with_item around.level g e) around.settings n v tree depth
+      → CompletesLevel level s m t h d n u → ClosesGroup around h d u g e v → Resumes others (with_item around.level g e) around.settings n v tree depth
       → Resumes (around ∷ others) level s m t tree depth
 
-abbrev pub Completes : Place → List ℕ → Tree → ℕ → Type 0
+abbrev pub Completes : PatternPlace → List ℕ → Tree → ℕ → Type 0
 Completes place t tree depth = Resumes place.around place.level place.settings place.groups t tree depth
 
 -- a rest at one place completes the pattern just as another rest does at another place
-pub record SameEnds (place : Place) (t : List ℕ) (place' : Place) (t' : List ℕ) : Type 0 where
+pub record SameEnds (place : PatternPlace) (t : List ℕ) (place' : PatternPlace)
+    (t' : List ℕ) : Type 0 where
   pub on : (tree : Tree) (depth : ℕ) → Completes place t tree depth → Completes place' t' tree depth
   pub back : (tree : Tree) (depth : ℕ) → Completes place' t' tree depth → Completes place t tree depth
 
 -- the text completes the pattern to no tree
-abbrev pub NoEnds : Place → List ℕ → Type 0
+abbrev pub NoEnds : PatternPlace → List ℕ → Type 0
 NoEnds place t = (tree : Tree) (depth : ℕ) → Completes place t tree depth → ⊥

@@ -3,7 +3,7 @@ use Rattle.std.specs.Prelude.{◌≡◌, ℕ, ◌+◌, ◌≤◌, Bool, true, fa
 use Rattle.rx_grammar.specs.declared.properties.Properties.{Properties}
 use Rattle.rx_grammar.specs.declared.properties.RowProperties.{RowProperties}
 use Rattle.rx_grammar.specs.Trees.{Tree}
-use Rattle.rx_grammar.specs.Subtrees.{NodeKind, a_group, a_concat, an_alternation, width_of, root_of, subtrees_of, nodes_of, IsWellFormed}
+use Rattle.rx_grammar.specs.Subtrees.{NodeKind, a_group, a_concat, an_alternation, child_count, root_of, subtrees_of, nodes_of, IsWellFormed}
 use Rattle.rx_grammar.specs.Weights.{may_be_empty, weight_of, size_of, held}
 use Rattle.rx_grammar.specs.StaticGroups.{static_groups, both_groups, common_groups}
 use Rattle.rx_grammar.specs.Postorder.{trees_of}
@@ -26,7 +26,7 @@ IsOverTwo _ = Unit {0}
 
 -- the node may follow the trees
 pub record MayFollow (trees : List Tree) (node : NodeKind) : Type 0 where
-  pub fits : width_of node ≤ length trees
+  pub fits : child_count node ≤ length trees
   pub over_two : IsOverTwo node
 
 abbrev pub weights_in : List Tree → ℕ
@@ -45,9 +45,9 @@ abbrev pub any_empty_in : List Tree → Bool
 any_empty_in [] = false
 any_empty_in (tree ∷ trees) = may_be_empty tree || any_empty_in trees
 
-abbrev pub groups_in : List Tree → Option ℕ
-groups_in [] = Some 0
-groups_in (tree ∷ trees) = both_groups (static_groups tree) (groups_in trees)
+abbrev pub static_groups_in : List Tree → Option ℕ
+static_groups_in [] = Some 0
+static_groups_in (tree ∷ trees) = both_groups (static_groups tree) (static_groups_in trees)
 
 abbrev pub common_with : Option ℕ → Option (Option ℕ) → Option ℕ
 common_with groups None = groups
@@ -59,13 +59,13 @@ common_in [] = None
 common_in (tree ∷ trees) = Some (common_with (static_groups tree) (common_in trees))
 
 -- this is known of the trees
-pub record IsRowOf (row : RowProperties) (trees : List Tree) : Type 0 where
+pub record AreRowProperties (row : RowProperties) (trees : List Tree) : Type 0 where
   pub extent : row.extent ≡ length (row_subtrees trees)
   pub weight : row.weight ≡ held (weights_in trees)
   pub size : row.size ≡ held (sizes_in trees)
   pub all : row.all_may_be_empty ≡ all_empty_in trees
   pub any : row.any_may_be_empty ≡ any_empty_in trees
-  pub groups : row.groups ≡ groups_in trees
+  pub groups : row.groups ≡ static_groups_in trees
   pub common : row.common_groups ≡ common_in trees
 
 -- the nodes are exactly those of the trees that they make, this is what is known of each, and this is the number

@@ -16,10 +16,10 @@ captured number unnumbered tree = tree
 
 -- a reader refuses a text as outside the grammar only where P says that it has no reading, and otherwise for want
 -- of memory
-abbrev pub IsRefusal : SyntaxError → Type 0 → Type 0
-IsRefusal Outside P = P
-IsRefusal Memory P = Unit {0}
-IsRefusal _ P = ⊥
+abbrev pub IsRefusedWhere : SyntaxError → Type 0 → Type 0
+IsRefusedWhere Outside P = P
+IsRefusedWhere Memory P = Unit {0}
+IsRefusedWhere _ P = ⊥
 
 -- why a whole text of at most 65,536 bytes is refused
 abbrev pub IsReason : SyntaxError → List ℕ → Settings → Type 0

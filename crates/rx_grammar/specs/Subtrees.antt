@@ -17,14 +17,14 @@ pub data NodeKind : Type 0 where
   a_repetition : Repetition → NodeKind
 
 -- how many trees stand right below a node
-abbrev pub width_of : NodeKind → ℕ
-width_of an_empty = 0
-width_of (a_set ranges) = 0
-width_of (a_look look) = 0
-width_of (a_group number name) = 1
-width_of (a_concat count) = count
-width_of (an_alternation count) = count
-width_of (a_repetition repetition) = 1
+abbrev pub child_count : NodeKind → ℕ
+child_count an_empty = 0
+child_count (a_set ranges) = 0
+child_count (a_look look) = 0
+child_count (a_group number name) = 1
+child_count (a_concat count) = count
+child_count (an_alternation count) = count
+child_count (a_repetition repetition) = 1
 
 abbrev pub how_many : Trees → ℕ
 how_many (two first second) = 2

@@ -1,6 +1,6 @@
 //! What stands between brackets.
 
-ghost use Rattle.std.specs.Prelude.{◌≡◌, ◌∷◌, MatchOption, IfOk, MatchBool, true, false, IsTrue, ◌↔◌};
+ghost use Rattle.std.specs.Prelude.{◌≡◌, ◌∷◌, MatchOption, IfOk, true, false};
 ghost use Rattle.rx_grammar.specs.Input.{Begins};
 ghost use Rattle.rx_grammar.specs.Escapes.{perl_letter};
 ghost use Rattle.rx_grammar.specs.Readers.{IsNoClassLetter, NoClassCharacter, NoLetterClass, RangeGoesOn, NoItem, NoItems, ItemsAfter, NoClassBody, NoClass};

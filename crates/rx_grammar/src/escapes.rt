@@ -1,6 +1,6 @@
 //! What a backslash spells with the characters after it.
 
-ghost use Rattle.std.specs.Prelude.{◌≡◌, ◌≤◌, length, MatchOption, ℕ};
+ghost use Rattle.std.specs.Prelude.{◌≡◌, ◌≤◌, MatchOption, ℕ};
 ghost use Rattle.rx_grammar.specs.Escapes.{SpellsScalar, EscapedCharacter, NumberOfLength, NumberInBraces, NumberAfter, escaped_by};
 ghost use Rattle.rx_grammar.specs.Readers.{SpellsNoCharacter, NoNumberOfLength, NoNumberInBraces, NoNumberAfter};
 

@@ -1,6 +1,6 @@
 //! What stands at the start of a group, and settings.
 
-ghost use Rattle.std.specs.Prelude.{◌≡◌, ◌≢◌, AllPairs, [], ◌∷◌, ◌++◌, MatchOption, IfOk};
+ghost use Rattle.std.specs.Prelude.{◌≡◌, ◌≢◌, AllPairs, ◌∷◌, ◌++◌, MatchOption, IfOk};
 ghost use Rattle.rx_grammar.specs.Groups.{is_name_start, IsName, opened};
 ghost use Rattle.rx_grammar.specs.Input.{Begins};
 ghost use Rattle.rx_grammar.specs.Heads.{capture_of, NameOpening, NoNameOpening, IsFlagLetter, NoFlagLetter, FlagsAfter, NoFlagsAfter, FlagsChange, NoFlags, NoName, IsHead, NoHead};

@@ -2,7 +2,7 @@
 
 ghost use Rattle.std.specs.Prelude.{◌≡◌, ◌≤◌, [], ◌∷◌, length, map, Some, MatchOption};
 ghost use Rattle.rx_grammar.specs.Trees.{Name, numbers_of};
-ghost use Rattle.rx_grammar.specs.Subtrees.{a_group, nodes_of, subtrees_of, width_of, HasName, IsWellFormed};
+ghost use Rattle.rx_grammar.specs.Subtrees.{a_group, nodes_of, subtrees_of, child_count, HasName, IsWellFormed};
 ghost use Rattle.rx_grammar.specs.Postorder.{own_names, tree_of};
 ghost use Rattle.rx_grammar.specs.Rows.{own_groups, AreNodesOf};
 ghost use Rattle.rx_grammar.specs.Weights.{pattern_weight, held};
@@ -93,7 +93,7 @@ impl Node {
 
     /// How many trees stand right below the node.
     pub fn width(&self) -> usize
-        ensures { result ≡ width_of (kind_of self.now) }
+        ensures { result ≡ child_count (kind_of self.now) }
     {
         match self {
             Node::Empty | Node::Set(_) | Node::Look(_) => 0,

@@ -2,12 +2,12 @@
 
 ghost use Rattle.std.specs.Prelude.{ℕ, ◌≡◌, ◌+◌, ◌≤◌, ◌<◌, ◌^◌, [], ◌∷◌, length, OnOk, MatchResult};
 ghost use Rattle.rx_grammar.specs.Trees.{Tree};
-ghost use Rattle.rx_grammar.specs.Stacks.{IsRefusal, NoPostfixes};
+ghost use Rattle.rx_grammar.specs.Stacks.{IsRefusedWhere, NoPostfixes};
 ghost use Rattle.rx_grammar.specs.Weights.{held};
-ghost use Rattle.rx_grammar.specs.Resuming.{Place, NoEnds, with_branch};
+ghost use Rattle.rx_grammar.specs.Resuming.{PatternPlace, NoEnds, with_branch};
 ghost use Rattle.rx_grammar.specs.Input.{Begins};
 ghost use Rattle.rx_grammar.specs.Heads.{capture_of};
-ghost use Rattle.rx_grammar.specs.Places.{start_of, opened_at, IsAt, IsAtSomePlace, ItemRead, EndsLevel, IsAtomPlace, PartRead, TextRead, IsFinished};
+ghost use Rattle.rx_grammar.specs.Places.{place_at_start, opened_at, ParserIsAt, IsAtSomePlace, ItemRead, EndsLevel, IsAtomPlace, PartRead, TextRead, IsFinished};
 
 use crate::atoms::plain_atom;
 use crate::error::SyntaxError;
@@ -51,7 +51,7 @@ pub(crate) struct Parser {
 impl Parser {
     /// Nothing is read yet.
     pub(crate) fn new(alloc: Global, config: &Config) -> Parser
-        ensures stands { IsAt result [] (start_of config.now) }
+        ensures stands { ParserIsAt result [] (place_at_start config.now) }
         ensures groups { result.groups ≡ 0 }
     {
         Parser {
@@ -72,11 +72,12 @@ impl Parser {
     /// The postfixes after an atom of this depth, which is an item with them. Answers the text
     /// after it.
     fn finish_item<'a>(&mut self, text: &'a [char], depth: usize) -> Result<&'a [char], SyntaxError>
-        requires stands { (place : Place) × (tree : Tree) × IsAt self.old (tree ∷ []) place }
-        ensures reads { (place : Place) (tree : Tree) (deep : ℕ)
-            → IsAt self.old (tree ∷ []) place → depth ≡ held deep → MatchResult result
+        requires stands { (place : PatternPlace) × (tree : Tree)
+            × ParserIsAt self.old (tree ∷ []) place }
+        ensures reads { (place : PatternPlace) (tree : Tree) (deep : ℕ)
+            → ParserIsAt self.old (tree ∷ []) place → depth ≡ held deep → MatchResult result
             (λ rest. ItemRead self.old self.new place tree deep text.now rest.now)
-            (λ e. IsRefusal e (NoPostfixes place.settings.swap_greed tree deep text.now)) }
+            (λ e. IsRefusedWhere e (NoPostfixes place.settings.swap_greed tree deep text.now)) }
     {
         let swap_greed = self.config.get_swap_greed();
         let (deep, rest) = self.trees.read_postfixes(text, depth, swap_greed)?;
@@ -88,9 +89,9 @@ impl Parser {
     fn read_atom<'a>(&mut self, text: &'a [char]) -> Result<&'a [char], SyntaxError>
         requires stands { IsAtSomePlace self.old }
         requires atom { IsAtomPlace text.now }
-        ensures reads { (place : Place) → IsAt self.old [] place → MatchResult result
+        ensures reads { (place : PatternPlace) → ParserIsAt self.old [] place → MatchResult result
             (λ rest. PartRead self.old self.new place text.now rest.now)
-            (λ e. IsRefusal e (NoEnds place text.now)) }
+            (λ e. IsRefusedWhere e (NoEnds place text.now)) }
     {
         let Some((tree, behind)) = plain_atom(self.alloc, &mut self.sets, text, &self.config)?
         else {
@@ -103,8 +104,8 @@ impl Parser {
     /// The branch ends.
     fn end_branch(&mut self) -> Result<(), AllocError>
         requires stands { IsAtSomePlace self.old }
-        ensures ends { (place : Place) → IsAt self.old [] place → OnOk result
-            (IsAt self.new [] (record place { level = with_branch place.level })) }
+        ensures ends { (place : PatternPlace) → ParserIsAt self.old [] place → OnOk result
+            (ParserIsAt self.new [] (record place { level = with_branch place.level })) }
         ensures kept { self.new.groups ≡ self.old.groups }
     {
         self.trees.join_items(self.heights.branch)?;
@@ -115,7 +116,7 @@ impl Parser {
     /// The group, or the whole pattern, ends, and its branches are one tree.
     fn end_level(&mut self) -> Result<(), AllocError>
         requires stands { IsAtSomePlace self.old }
-        ensures ends { (place : Place) → IsAt self.old [] place → OnOk result
+        ensures ends { (place : PatternPlace) → ParserIsAt self.old [] place → OnOk result
             (EndsLevel self.old self.new place) }
     {
         self.end_branch()?;
@@ -128,9 +129,9 @@ impl Parser {
         requires stands { IsAtSomePlace self.old }
         requires parenthesis { Begins 40 text.now }
         requires room { self.old.groups + length text.now < 2 ^ 32 }
-        ensures reads { (place : Place) → IsAt self.old [] place → MatchResult result
+        ensures reads { (place : PatternPlace) → ParserIsAt self.old [] place → MatchResult result
             (λ rest. PartRead self.old self.new place text.now rest.now)
-            (λ e. IsRefusal e (NoEnds place text.now)) }
+            (λ e. IsRefusedWhere e (NoEnds place text.now)) }
     {
         let Some((head, rest)) = group_head(self.alloc, text, &self.config)? else {
             return Err(SyntaxError::Outside);
@@ -151,8 +152,8 @@ impl Parser {
     fn open(&mut self, config: Config, captures: GroupKind) -> Result<(), AllocError>
         requires stands { IsAtSomePlace self.old }
         requires room { self.old.groups + 1 < 2 ^ 32 }
-        ensures opens { (place : Place) → IsAt self.old [] place → OnOk result
-            (IsAt self.new [] (opened_at place config (capture_of captures))) }
+        ensures opens { (place : PatternPlace) → ParserIsAt self.old [] place → OnOk result
+            (ParserIsAt self.new [] (opened_at place config (capture_of captures))) }
         ensures groups { OnOk result (self.new.groups ≤ self.old.groups + 1) }
     {
         self.groups += captures.count();
@@ -175,9 +176,9 @@ impl Parser {
     /// The innermost group ends, and postfixes follow it.
     fn close<'a>(&mut self, rest: &'a [char]) -> Result<&'a [char], SyntaxError>
         requires stands { IsAtSomePlace self.old }
-        ensures reads { (place : Place) → IsAt self.old [] place → MatchResult result
+        ensures reads { (place : PatternPlace) → ParserIsAt self.old [] place → MatchResult result
             (λ rest'. PartRead self.old self.new place (41 ∷ rest.now) rest'.now)
-            (λ e. IsRefusal e (NoEnds place (41 ∷ rest.now))) }
+            (λ e. IsRefusedWhere e (NoEnds place (41 ∷ rest.now))) }
     {
         self.end_level()?;
         let Some(
@@ -208,9 +209,9 @@ impl Parser {
         requires stands { IsAtSomePlace self.old }
         requires text { text.now ≡ c ∷ rest.now }
         requires room { self.old.groups + length text.now < 2 ^ 32 }
-        ensures reads { (place : Place) → IsAt self.old [] place → MatchResult result
+        ensures reads { (place : PatternPlace) → ParserIsAt self.old [] place → MatchResult result
             (λ after. PartRead self.old self.new place text.now after.now)
-            (λ e. IsRefusal e (NoEnds place text.now)) }
+            (λ e. IsRefusedWhere e (NoEnds place text.now)) }
     {
         match c {
             '|' => {
@@ -227,9 +228,9 @@ impl Parser {
     pub(crate) fn read(&mut self, text: &[char]) -> Result<(), SyntaxError>
         requires stands { IsAtSomePlace self.old }
         requires room { self.old.groups + length text.now < 2 ^ 32 }
-        ensures reads { (place : Place) → IsAt self.old [] place → MatchResult result
+        ensures reads { (place : PatternPlace) → ParserIsAt self.old [] place → MatchResult result
             (λ _. TextRead self.new place text.now)
-            (λ e. IsRefusal e (NoEnds place text.now)) }
+            (λ e. IsRefusedWhere e (NoEnds place text.now)) }
     {
         let mut rest = text;
         while let Some((c, behind)) = first(rest) {
@@ -242,8 +243,8 @@ impl Parser {
     /// `usize::MAX`.
     pub(crate) fn finish(mut self) -> Result<(TreeStack, usize), SyntaxError>
         requires stands { IsAtSomePlace self }
-        ensures ends { (place : Place) → IsAt self [] place → MatchResult result
-            (λ r. IsFinished place r.0 r.1) (λ e. IsRefusal e (NoEnds place [])) }
+        ensures ends { (place : PatternPlace) → ParserIsAt self [] place → MatchResult result
+            (λ r. IsFinished place r.0 r.1) (λ e. IsRefusedWhere e (NoEnds place [])) }
     {
         if !self.around.is_empty() {
             return Err(SyntaxError::Outside);

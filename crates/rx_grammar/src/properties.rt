@@ -2,11 +2,11 @@
 
 ghost use Rattle.std.specs.Prelude.{ℕ, ◌≡◌, ◌+◌, ◌<◌, ◌^◌, List, [], ◌∷◌, ◌++◌, take, Some};
 ghost use Rattle.rx_grammar.specs.Trees.{Tree};
-ghost use Rattle.rx_grammar.specs.Subtrees.{width_of};
+ghost use Rattle.rx_grammar.specs.Subtrees.{child_count};
 ghost use Rattle.rx_grammar.specs.Weights.{may_be_empty, weight_of, size_of, repeated_weight, held};
 ghost use Rattle.rx_grammar.specs.StaticGroups.{both_groups, common_groups, repeated_groups, static_groups};
 ghost use Rattle.rx_grammar.specs.Postorder.{first_of, after_node};
-ghost use Rattle.rx_grammar.specs.Rows.{MayFollow, IsRowOf, common_with};
+ghost use Rattle.rx_grammar.specs.Rows.{MayFollow, AreRowProperties, common_with};
 ghost use Rattle.rx_grammar.specs.Nodes.{kind_of, properties_of};
 
 use crate::hir::{Node, Repetition};
@@ -72,7 +72,7 @@ fn common_with(groups: Option<usize>, others: Option<Option<usize>>) -> Option<u
 impl RowProperties {
     /// What is known of no part.
     pub(crate) fn none() -> RowProperties
-        ensures { IsRowOf result [] }
+        ensures { AreRowProperties result [] }
     {
         RowProperties {
             extent: 0,
@@ -88,8 +88,9 @@ impl RowProperties {
     /// What is known with one part more.
     pub(crate) fn with(self, part: Properties) -> RowProperties
         requires { self.extent + part.extent < 2 ^ 64 }
-        ensures { (trees : List Tree) (tree : Tree) → IsRowOf self trees → part ≡ properties_of tree
-            → IsRowOf result (trees ++ tree ∷ []) }
+        ensures { (trees : List Tree) (tree : Tree) → AreRowProperties self trees
+            → part ≡ properties_of tree
+            → AreRowProperties result (trees ++ tree ∷ []) }
     {
         let groups = both(self.groups, part.static_groups);
         let common_groups = Some(common_with(part.static_groups, self.common_groups));
@@ -154,7 +155,7 @@ impl Node {
     /// What the node weighs, with what stands below it.
     fn weight(&self, below: RowProperties) -> usize
         ensures { (trees : List Tree) → MayFollow trees (kind_of self.now)
-            → IsRowOf below (take (width_of (kind_of self.now)) trees)
+            → AreRowProperties below (take (child_count (kind_of self.now)) trees)
             → result ≡ held (weight_of (first_of (after_node trees (kind_of self.now)))) }
     {
         match self {
@@ -170,7 +171,7 @@ impl Node {
     /// How many nodes the program has of the node with what stands below it.
     fn size(&self, below: RowProperties) -> usize
         ensures { (trees : List Tree) → MayFollow trees (kind_of self.now)
-            → IsRowOf below (take (width_of (kind_of self.now)) trees)
+            → AreRowProperties below (take (child_count (kind_of self.now)) trees)
             → result ≡ held (size_of (first_of (after_node trees (kind_of self.now)))) }
     {
         match self {
@@ -185,7 +186,7 @@ impl Node {
     /// Whether the node may be empty, with what stands below it.
     fn may_be_empty(&self, below: RowProperties) -> bool
         ensures { (trees : List Tree) → MayFollow trees (kind_of self.now)
-            → IsRowOf below (take (width_of (kind_of self.now)) trees)
+            → AreRowProperties below (take (child_count (kind_of self.now)) trees)
             → result ≡ may_be_empty (first_of (after_node trees (kind_of self.now))) }
     {
         match self {
@@ -202,7 +203,7 @@ impl Node {
     fn static_groups(&self, below: RowProperties) -> Option<usize>
         requires { below.extent + 1 < 2 ^ 64 }
         ensures { (trees : List Tree) → MayFollow trees (kind_of self.now)
-            → IsRowOf below (take (width_of (kind_of self.now)) trees)
+            → AreRowProperties below (take (child_count (kind_of self.now)) trees)
             → result ≡ static_groups (first_of (after_node trees (kind_of self.now))) }
     {
         match self {
@@ -218,7 +219,7 @@ impl Node {
     pub(crate) fn properties(&self, below: RowProperties) -> Properties
         requires { below.extent + 1 < 2 ^ 64 }
         ensures { (trees : List Tree) → MayFollow trees (kind_of self.now)
-            → IsRowOf below (take (width_of (kind_of self.now)) trees)
+            → AreRowProperties below (take (child_count (kind_of self.now)) trees)
             → result ≡ properties_of (first_of (after_node trees (kind_of self.now))) }
     {
         Properties {

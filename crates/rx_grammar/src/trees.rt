@@ -1,17 +1,17 @@
 //! Trees that grow: nodes, each after what stands below it, and how many trees they make.
 
-ghost use Rattle.std.specs.Prelude.{ℕ, ◌≡◌, ◌+◌, ◌≤◌, ◌<◌, ◌^◌, List, [], ◌∷◌, ◌++◌, length, map, reverse, take, OnOk, MatchBool, MatchOption, MatchResult};
+ghost use Rattle.std.specs.Prelude.{ℕ, ◌≡◌, ◌+◌, ◌≤◌, ◌<◌, ◌^◌, List, [], ◌∷◌, ◌++◌, length, map, reverse, take, OnOk, MatchBool, MatchResult};
 ghost use Rattle.rx_grammar.specs.Trees.{Tree, concat_of};
 ghost use Rattle.rx_grammar.specs.Subtrees.{IsWellFormed};
 ghost use Rattle.rx_grammar.specs.Postorder.{after_node, alternate, trees_of};
-ghost use Rattle.rx_grammar.specs.Rows.{MayFollow, IsRowOf};
+ghost use Rattle.rx_grammar.specs.Rows.{MayFollow, AreRowProperties};
 ghost use Rattle.rx_grammar.specs.Weights.{held};
 ghost use Rattle.rx_grammar.specs.Nodes.{kind_of};
 ghost use Rattle.rx_grammar.specs.Input.{Stops};
 ghost use Rattle.rx_grammar.specs.Repetitions.{is_postfix_start};
 ghost use Rattle.rx_grammar.specs.Heads.{capture_of};
 ghost use Rattle.rx_grammar.specs.Atoms.{atom_tree};
-ghost use Rattle.rx_grammar.specs.Stacks.{captured, IsRefusal, PostfixesRead, NoPostfixes};
+ghost use Rattle.rx_grammar.specs.Stacks.{captured, IsRefusedWhere, PostfixesRead, NoPostfixes};
 
 use crate::atoms::AtomTree;
 use crate::error::SyntaxError;
@@ -102,7 +102,7 @@ impl TreeStack {
     /// What is known of the last trees, so many of them.
     fn last_row(&self, count: usize) -> RowProperties
         requires { count ≤ length (trees_of self.now) }
-        ensures row { IsRowOf result (take count (trees_of self.now)) }
+        ensures row { AreRowProperties result (take count (trees_of self.now)) }
         ensures room { result.extent + 1 < 2 ^ 64 }
     {
         let mut row = RowProperties::none();
@@ -189,7 +189,7 @@ impl TreeStack {
         ensures reads { (tree : Tree) (below : List Tree) (deep : ℕ)
             → trees_of self.old ≡ tree ∷ below → depth ≡ held deep → MatchResult result
             (λ r. PostfixesRead swap_greed tree deep text.now (trees_of self.new) below r.0 r.1.now)
-            (λ e. IsRefusal e (NoPostfixes swap_greed tree deep text.now)) }
+            (λ e. IsRefusedWhere e (NoPostfixes swap_greed tree deep text.now)) }
     {
         let mut rest = text;
         while begins_postfix(rest) {

@@ -4,7 +4,7 @@ use Rattle.std.specs.Iterator.{size}
 use Rattle.rx_util.specs.declared.search.MatchError.{MatchError}
 use Rattle.rx_util.specs.Search.{HalfFound}
 use Rattle.rx_input.specs.Inputs.{InputState}
-use Rattle.rx_input.specs.Searchers.{SearcherState, Finder, IsSetTo, HasPassed, EndsInside, StaysInside, TellsNext, at_once, further, Advances, IsAtLast, end_of_half, StandsAtLast, items_at_most, half_matches_left}
+use Rattle.rx_input.specs.Searchers.{SearcherState, Finder, IsSetTo, HasPassedMatch, EndsInside, StaysInside, TellsNext, at_once, further, Advances, IsAtLast, end_of_half, StandsAtLast, items_at_most, half_matches_left}
 
 module _ {F A : Type 0} (tells : Finder F A) (end : A → ℕ) (passes : Option ℕ → A → Type 0) (p q : F) (old new : SearcherState) where
   -- ---- by one call
@@ -14,7 +14,7 @@ module _ {F A : Type 0} (tells : Finder F A) (end : A → ℕ) (passes : Option 
   pub none_told : (o : Option A) (j : InputState) → o ≡ None → tells p q old.input (Ok o) j → new ≡ record old { input = j } → Advances tells end passes p q old (Ok None) new
   none_told o j none told is = record { left = j; next = at_once (subst (λ x. tells p q old.input (Ok x) j) none told) (λ a same. absurd (cc same)); goes_on = is }
 
-  pub found_told : (o : Option A) (a : A) (j : InputState) → o ≡ Some a → tells p q old.input (Ok o) j → (passes old.last_match_end a → ⊥) → HasPassed j (end a) new
+  pub found_told : (o : Option A) (a : A) (j : InputState) → o ≡ Some a → tells p q old.input (Ok o) j → (passes old.last_match_end a → ⊥) → HasPassedMatch j (end a) new
       → Advances tells end passes p q old (Ok (Some a)) new
   found_told o a j some told not passed = record {
     left = j;
@@ -33,7 +33,7 @@ module _ {F A : Type 0} (tells : Finder F A) (end : A → ℕ) (passes : Option 
     pub none_further : (o : Option A) (j : InputState) → o ≡ None → tells m q l (Ok o) j → new ≡ record old { input = j } → Advances tells end passes p q old (Ok None) new
     none_further o j none second is = record { left = j; next = next_told (Ok None) j (subst (λ x. tells m q l (Ok x) j) none second); goes_on = is }
 
-    pub found_further : (o : Option A) (a : A) (j : InputState) → o ≡ Some a → tells m q l (Ok o) j → HasPassed j (end a) new → Advances tells end passes p q old (Ok (Some a)) new
+    pub found_further : (o : Option A) (a : A) (j : InputState) → o ≡ Some a → tells m q l (Ok o) j → HasPassedMatch j (end a) new → Advances tells end passes p q old (Ok (Some a)) new
     found_further o a j there second passed = record { left = j; next = next_told (Ok (Some a)) j (subst (λ x. tells m q l (Ok x) j) there second); goes_on = passed }
 
 -- ---- the span's start
@@ -66,7 +66,7 @@ fewer_further (Some k) start stop end on within = omega (arith, on, within)
 
 module _ {F : Type 0} (tells : Finder F HalfFound) (p q : F) (old new : SearcherState) (a : HalfFound) (stays : StaysInside tells end_of_half) (stands : StandsAtLast old) where
   -- what is left, by where the span starts and ends
-  left_is : (left : InputState) → left.asked.span.end ≡ old.input.asked.span.end → HasPassed left a.offset new
+  left_is : (left : InputState) → left.asked.span.end ≡ old.input.asked.span.end → HasPassedMatch left a.offset new
       → items_at_most false true (old.input.asked.span.end - a.offset) ≡ items_at_most false (is_some new.last_match_end) (new.input.asked.span.end - new.input.asked.span.start)
   left_is left same passed =
       let start : new.input.asked.span.start ≡ a.offset = ap (λ x. x.span.start) passed.0.asked_is in
@@ -74,7 +74,7 @@ module _ {F : Type 0} (tells : Finder F HalfFound) (p q : F) (old new : Searcher
       sym (ap (λ o. items_at_most false (is_some o) (new.input.asked.span.end - new.input.asked.span.start)) passed.1
       ∙ ap (λ k. items_at_most false true (new.input.asked.span.end - k)) start ∙ ap (λ k. items_at_most false true (k - a.offset)) end)
 
-  fewer_by : (left : InputState) → TellsNext tells (IsAtLast old.last_match_end) p q old.input (Ok (Some a)) left → HasPassed left a.offset new
+  fewer_by : (left : InputState) → TellsNext tells (IsAtLast old.last_match_end) p q old.input (Ok (Some a)) left → HasPassedMatch left a.offset new
       → items_at_most false (is_some new.last_match_end) (new.input.asked.span.end - new.input.asked.span.start)
       < items_at_most false (is_some old.last_match_end) (old.input.asked.span.end - old.input.asked.span.start)
   fewer_by left (at_once told not) passed =

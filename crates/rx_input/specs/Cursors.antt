@@ -36,5 +36,5 @@ pub record IsNext (first second : CursorState) : Type 0 where
   pub meets : second.start ≡ first.end
 
 -- a content in one piece
-abbrev pub whole : List ℕ → CursorState
-whole bytes = record { content = bytes; is_sized = true; start = 0; end = length bytes }
+abbrev pub whole_cursor : List ℕ → CursorState
+whole_cursor bytes = record { content = bytes; is_sized = true; start = 0; end = length bytes }

@@ -17,8 +17,8 @@ abbrev pub IsSetTo : InputState → InputState → ℕ → Type 0
 IsSetTo old new start = HasSpan old new (record old.asked.span { start = start })
 
 -- the span starts at the end of a match, which is kept
-abbrev pub HasPassed : InputState → ℕ → SearcherState → Type 0
-HasPassed old end new = IsSetTo old new.input end × (new.last_match_end ≡ Some end)
+abbrev pub HasPassedMatch : InputState → ℕ → SearcherState → Type 0
+HasPassedMatch old end new = IsSetTo old new.input end × (new.last_match_end ≡ Some end)
 
 -- what a finder, in a state before and a state after, tells of an input, and the input that it
 -- leaves
@@ -58,7 +58,7 @@ pub data TellsNext {F A : Type 0} (tells : Finder F A) (passes : A → Type 0) (
 -- behind a match the span starts at its end; else the searcher is as it was found
 abbrev pub GoesOn : {A : Type 0} → (A → ℕ) → SearcherState → Result (Option A) MatchError
     → SearcherState → Type 0
-GoesOn end found (Ok (Some a)) new = HasPassed found.input (end a) new
+GoesOn end found (Ok (Some a)) new = HasPassedMatch found.input (end a) new
 GoesOn end found (Ok None) new = new ≡ found
 GoesOn end found (Err e) new = new ≡ found
 
@@ -147,11 +147,11 @@ half_matches_left s is_over = at_most (items_at_most is_over (is_some s.last_mat
 
 -- what an iterator gives, by what a step of its searcher answers: none comes where none is
 -- answered, and after that and a refusal
-abbrev pub GivesItem : {A : Type 0} → (Result (Option A) MatchError → Type 0) → Bool
+abbrev pub GivesAnswer : {A : Type 0} → (Result (Option A) MatchError → Type 0) → Bool
     → Option (Result A MatchError) → Bool → Type 0
-GivesItem answers was_over None is_over =
+GivesAnswer answers was_over None is_over =
     ((was_over ≡ true) ⊎ answers (Ok None)) × (is_over ≡ true)
-GivesItem answers was_over (Some (Ok a)) is_over =
+GivesAnswer answers was_over (Some (Ok a)) is_over =
     (was_over ≡ false) × answers (Ok (Some a)) × (is_over ≡ false)
-GivesItem answers was_over (Some (Err e)) is_over =
+GivesAnswer answers was_over (Some (Err e)) is_over =
     (was_over ≡ false) × answers (Err e) × (is_over ≡ true)

@@ -1,6 +1,6 @@
 //! A cursor over a list of chunks.
 
-ghost use Rattle.std.specs.Prelude.{◌≡◌, ◌+◌, ◌≤◌, ◌<◌, ◌^◌, [], length, take, true, ⊤, MatchOption};
+ghost use Rattle.std.specs.Prelude.{◌≡◌, ◌+◌, ◌≤◌, ◌<◌, ◌^◌, [], length, true, ⊤, MatchOption};
 ghost use Rattle.rx_input.specs.Chunks.{joined, chunk_at, SameBefore};
 
 use crate::cursor::Cursor;

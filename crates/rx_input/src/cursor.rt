@@ -1,6 +1,6 @@
 //! Cursors: contents that are seen piece by piece.
 
-ghost use Rattle.std.specs.Prelude.{◌≡◌, ◌↔◌, ◌^◌, ◌<◌, length, true, false};
+ghost use Rattle.std.specs.Prelude.{◌≡◌, ◌↔◌, ◌<◌, length, true, false};
 ghost use Rattle.std.specs.Bool.{OnTrue, OnFalse};
 ghost use Rattle.rx_input.specs.Cursors.{CursorState, IsLawful, IsNext, piece_of, told_length};
 
@@ -76,9 +76,9 @@ impl<C: Cursor> Cursor for &mut C {
 }
 
 impl Cursor for &[u8] {
-    ghost use Rattle.rx_input.specs.Cursors.{whole};
+    ghost use Rattle.rx_input.specs.Cursors.{whole_cursor};
 
-    ghost state = { λ bytes. whole bytes.now };
+    ghost state = { λ bytes. whole_cursor bytes.now };
 
     fn chunk(&self) -> &[u8] {
         self
@@ -102,9 +102,9 @@ impl Cursor for &[u8] {
 }
 
 impl Cursor for &str {
-    ghost use Rattle.rx_input.specs.Cursors.{whole};
+    ghost use Rattle.rx_input.specs.Cursors.{whole_cursor};
 
-    ghost state = { λ text. whole text.now };
+    ghost state = { λ text. whole_cursor text.now };
 
     fn chunk(&self) -> &[u8] {
         self.as_bytes()

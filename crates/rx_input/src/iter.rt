@@ -1,7 +1,7 @@
 //! Matches one after the other.
 
 ghost use Rattle.std.specs.Prelude.{◌≡◌, ◌+◌, ◌^◌, ◌<◌, ◌≤◌, None, Some, true, false};
-ghost use Rattle.rx_input.specs.Searchers.{GivesHalfMatchBy, GivesItem, GivesNextHalfMatch, GivesNextMatch, HasPassed, IsEmptyAtLast, IsHalfMatchFinder, IsMatchFinder, IsSetTo, StandsAtLast, half_matches_left};
+ghost use Rattle.rx_input.specs.Searchers.{GivesHalfMatchBy, GivesAnswer, GivesNextHalfMatch, GivesNextMatch, HasPassedMatch, IsEmptyAtLast, IsHalfMatchFinder, IsMatchFinder, IsSetTo, StandsAtLast, half_matches_left};
 
 use crate::cursor::Cursor;
 use crate::input::Input;
@@ -202,7 +202,7 @@ impl<I: Searched> Searcher<I> {
     /// Searches further on from the end of a match.
     fn pass(&mut self, end: usize)
         requires inside { end ≤ self.old.input.asked.span.end + 1 }
-        ensures { HasPassed self.old.input end self.new }
+        ensures { HasPassedMatch self.old.input end self.new }
     {
         self.input.set_start(end);
         self.last_match_end = Some(end);
@@ -241,7 +241,7 @@ where
     ghost can_next = { λ it. IsHalfMatchFinder F.FnMut I.state it.finder
         × (it.is_over ≡ false → StandsAtLast it.searcher) };
 
-    ghost next_gives = { λ it item left. GivesItem (λ r. GivesHalfMatchBy F.FnMut I.state
+    ghost next_gives = { λ it item left. GivesAnswer (λ r. GivesHalfMatchBy F.FnMut I.state
         it.finder left.finder it.searcher r left.searcher) it.is_over item left.is_over };
 
     ghost remaining = { λ it. half_matches_left it.searcher it.is_over };

@@ -48,9 +48,6 @@ module _ {X : Type 0} (f : X → List ℕ) where
   abbrev pub AreLeft : List X → List X → List X → Type 0
   AreLeft needles left kept = (bytes : List ℕ) (i : ℕ) → OneOccursAt bytes i (map f needles) → OneOccursAt bytes i (map f left) ⊎ OneOccursAt bytes i (map f kept)
 
-  pub all_left : (needles kept : List X) → AreLeft needles needles kept
-  all_left needles kept bytes i h = inl h
-
   last_or : (left more : List X) (x : X) → left ≡ more ++ x ∷ [] → (bytes : List ℕ) (i : ℕ) → OneOccursAt bytes i (map f left) → OneOccursAt bytes i (map f more) ⊎ OccursAt bytes (f x) i
   last_or left more x is bytes i h =
       let parts : map f left ≡ map f more ++ (f x ∷ []) = ap (map f) is ∙ map-append f more (x ∷ []) in

@@ -1,10 +1,9 @@
 -- Lists that are made element by element, and characters that are put into them.
-use Rattle.std.proofs.Common.{◌≡◌, ℕ, ◌+◌, ◌<◌, ◌≤◌, Bool, true, false, ◌||◌, List, [], ◌∷◌, ◌++◌, map, take, get_or, length, refl, sym, ap, subst, ◌∙◌, arith, append_assoc}
+use Rattle.std.proofs.Common.{◌≡◌, ℕ, ◌+◌, ◌<◌, Bool, true, false, ◌||◌, List, [], ◌∷◌, ◌++◌, map, take, get_or, length, refl, sym, ap, ◌∙◌, arith, append_assoc}
 use Rattle.std.specs.Char.{IsScalar}
 use Rattle.std.specs.List.{Contains, list_any}
 use Rattle.std.proofs.lemmas.Grind.{take_at_read}
-use Rattle.std.proofs.lemmas.List.{append-nil, map-append, take_all}
-use Rattle.std.proofs.lemmas.List.Elements.{Contains-append_left, Contains-append_right}
+use Rattle.std.proofs.lemmas.List.{map-append}
 use Rattle.std.proofs.lemmas.List.Folds.{list_any-append}
 use Rattle.rx_sets.specs.Sets.{Range, in_range, ordinal}
 use Rattle.rx_literals.specs.Ways.{HasMembers}
@@ -13,16 +12,6 @@ pub nothing : {X : Type 0} (xs : List X) → length xs ≡ 0 → xs ≡ []
 nothing [] none = refl
 nothing (x ∷ xs) none = absurd (omega (arith, none))
 
-module _ {X Y : Type 0} (f : X → Y) (xs : List X) where
-  -- one element more
-  pub mapped_more : (k : ℕ) (x : X) (y : Y) (base items new : List Y) → k < length xs → x ≡ get_or xs k x → y ≡ f x → items ≡ base ++ map f (take k xs) → new ≡ items ++ y ∷ [] → new ≡ base ++ map f (take (k + 1) xs)
-  mapped_more k x y base items new below is made so_far more =
-      let longer : take (k + 1) xs ≡ take k xs ++ x ∷ [] = (take_at_read xs k x below).1 ∙ ap (λ z. take k xs ++ z ∷ []) (sym is) in
-      more ∙ ap (λ ys. ys ++ y ∷ []) so_far ∙ append_assoc base (map f (take k xs)) (y ∷ []) ∙ ap (λ ys. base ++ ys) (ap (λ z. map f (take k xs) ++ z ∷ []) made ∙ sym (map-append f (take k xs) (x ∷ [])) ∙ ap (map f) (sym longer))
-
-  pub mapped_all : (k : ℕ) (base items : List Y) → length xs ≤ k → items ≡ base ++ map f (take k xs) → items ≡ base ++ map f xs
-  mapped_all k base items over so_far = so_far ∙ ap (λ ys. base ++ map f ys) (take_all k xs over)
-
 module _ {X Y Z : Type 0} (f : X → Z) (g : Y → Z) where
   -- an element goes from the front of one list to the end of another
   pub moved_on : (xs new : List X) (ys left : List Y) (x : X) (y : Y) (whole : List Z) → new ≡ xs ++ x ∷ [] → ys ≡ y ∷ left → f x ≡ g y → map f xs ++ map g ys ≡ whole → map f new ++ map g left ≡ whole
@@ -30,16 +19,7 @@ module _ {X Y Z : Type 0} (f : X → Z) (g : Y → Z) where
       ap (λ zs. zs ++ map g left) (ap (map f) is ∙ map-append f xs (x ∷ [])) ∙ append_assoc (map f xs) (f x ∷ []) (map g left)
       ∙ ap (λ z. map f xs ++ z ∷ map g left) same ∙ ap (λ zs. map f xs ++ map g zs) (sym first) ∙ so_far
 
-  pub all_moved : (xs : List X) (ys : List Y) (whole : List Z) → ys ≡ [] → map f xs ++ map g ys ≡ whole → map f xs ≡ whole
-  all_moved xs ys whole none so_far = sym (append-nil (map f xs)) ∙ ap (λ zs. map f xs ++ map g zs) (sym none) ∙ so_far
-
 -- ---- members of sets
-
-pub contains_still : (old new : List ℕ) (c d : ℕ) → new ≡ old ++ d ∷ [] → Contains old c → Contains new c
-contains_still old new c d is has = subst (λ xs. Contains xs c) (sym is) (Contains-append_left old (d ∷ []) c has)
-
-pub contains_last : (old new : List ℕ) (c d : ℕ) → new ≡ old ++ d ∷ [] → d ≡ c → Contains new c
-contains_last old new c d is same = subst (λ xs. Contains xs c) (sym is) (Contains-append_right old (d ∷ []) c (0, omega arith, same))
 
 pub has_more : (ranges : List Range) (k : ℕ) (d : Range) (old new : List ℕ) → k < length ranges
     → ((c : ℕ) → Contains old c → Contains new c) → ((c : ℕ) → IsScalar c → in_range (ordinal c) (get_or ranges k d) ≡ true → Contains new c)
@@ -54,6 +34,3 @@ has_more ranges k d old new below kept put so_far c scalar is =
     by true e b e' either = kept c (so_far c scalar e)
     by false e true e' either = put c scalar e'
     by false e false e' either = absurd (cc either)
-
-pub has_all : (ranges : List Range) (k : ℕ) (members : List ℕ) → length ranges ≤ k → HasMembers (take k ranges) members → HasMembers ranges members
-has_all ranges k members over so_far = subst (λ xs. HasMembers xs members) (take_all k ranges over) so_far

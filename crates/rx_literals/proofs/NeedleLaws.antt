@@ -97,19 +97,6 @@ byte_there content needle stop at index byte below is occurs =
     slice_get-get_or content (at + index) 0 inside
     ∙ ap Some (sym (get_or-take stop content (at + index) 0 (omega (arith, occurs.fits, long, below))) ∙ occurs.reads index below ∙ sym is)
 
-pub all_read : (content needle : List ℕ) (stop at : ℕ) → 1 ≤ length needle → length needle ≤ stop - at
-    → ((j : ℕ) → j < length needle → at + j < length content) → ((j : ℕ) → j < length needle → get_or content (at + j) 0 ≡ get_or needle j 0) → OccursAt (take stop content) needle at
-all_read content needle stop at some fits inside reads =
-    let last = inside (length needle - 1) (omega (arith, some)) in
-    let back : at + (length needle - 1) + 1 ≡ at + length needle = omega (arith, some) in
-    record {
-      fits = omega (arith, length-take stop content, fits, some, last, back);
-      reads = λ j below. get_or-take stop content (at + j) 0 (omega (arith, fits, below)) ∙ reads j below;
-    }
-
-pub too_long : (content needle : List ℕ) (stop at : ℕ) → 1 ≤ length needle → stop - at < length needle → OccursAt (take stop content) needle at → ⊥
-too_long content needle stop at some long occurs = omega (arith, occurs.fits, length-take stop content, some, long)
-
 -- ---- needles that are kept as lists of bytes
 
 module _ {X : Type 0} (items : X → List ℕ) (bytes : List ℕ) (at : ℕ) (xs : List X) (k : ℕ) (x : X) (needle : List ℕ) (here : k < length xs) (at_k : x ≡ get_or xs k x) (is : needle ≡ items x) where

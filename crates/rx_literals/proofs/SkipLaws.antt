@@ -15,7 +15,7 @@ use Rattle.rx_walks.specs.Programs.{Program, Notes, fresh_notes}
 use Rattle.rx_walks.specs.ProgramFinds.{ProgramFinds, machine_of, haystack_of, holds_in, lowest, start_node, IfStarts}
 use Rattle.rx_walks.proofs.InsideLaws.{walk_keeps, inside_of}
 use Rattle.rx_literals.specs.Needles.{AreNeedles, IsNeedle, FoundAt, no_needle, this_needle, other_needle, FoundBetween, nowhere, at_least_place, OneOccursAt, this_occurs, other_occurs}
-use Rattle.rx_literals.specs.Beginnings.{BeginsWith, FirstNeedle, NoNeedleNoMatch, MatchesComeBehind}
+use Rattle.rx_literals.specs.Beginnings.{MatchesBeginWith, FirstNeedle, NoNeedleNoMatch, MatchesComeBehind}
 use Rattle.rx_literals.proofs.NeedleLaws.{found_start}
 use Rattle.rx_literals.proofs.LowLaws.{least_from}
 
@@ -42,7 +42,7 @@ one_below : {bytes : List ℕ} {i : ℕ} {needles : List (List ℕ)} → All IsN
 one_below all (this_occurs {needle = needle} {needles = needles} occurs) = let some = All-head IsNeedle needle needles all in omega (arith, occurs.fits, some.0)
 one_below all (other_occurs {needle = needle} {needles = needles} one) = one_below (All-tail IsNeedle needle needles all) one
 
-module _ (needles : List (List ℕ)) (p : Program Look (List Range)) (is_word : ℕ → Bool) (s : Search) (begins : BeginsWith needles p) where
+module _ (needles : List (List ℕ)) (p : Program Look (List Range)) (is_word : ℕ → Bool) (s : Search) (begins : MatchesBeginWith needles p) where
   -- a needle occurs where a start counts
   needle_there : {i : ℕ} {t : Outcome Notes} → Counts (machine_of is_in is_word p s) fresh_notes s p.start i t → OneOccursAt (take s.end s.content) i needles
   needle_there {i} {t} counts =

@@ -22,7 +22,7 @@ use Rattle.rx_walks.proofs.CharacterLaws.{member_stands, stands_first}
 use Rattle.rx_walks.proofs.PathLaws.{path_has_walk}
 use Rattle.rx_program.proofs.NoteLaws.{only_edge, read_not_ends, read_not_goes, ends_by, goes_by, reads_by, same_edges}
 use Rattle.rx_literals.specs.Literals.{IsLiteralOf, MatchesOnly, literal_match}
-use Rattle.rx_literals.specs.Spellings.{IsOnlyMember, ReadsOnly, GoesOver, Spells, NotesEnd}
+use Rattle.rx_literals.specs.Spellings.{IsOnlyMember, ReadsOnly, GoesOver, SpellsLiteral, NotesEnd}
 use Rattle.rx_literals.proofs.WayLaws.{occurs_longer, read_takes}
 
 only_first : (r c to : ℕ) → slice_get (r ∷ []) c ≡ Some to → c ≡ 0
@@ -150,7 +150,7 @@ occurs_parts bytes literal more i occurs =
 
 -- ---- how a literal is read
 
-pub spells_first : (p : Program Look (List Range)) (q : ℕ) → slice_get p.nodes p.start ≡ Some (note 0 q) → Spells p [] q
+pub spells_first : (p : Program Look (List Range)) (q : ℕ) → slice_get p.nodes p.start ≡ Some (note 0 q) → SpellsLiteral p [] q
 spells_first p q at = record { onward = onward; back = back }
   where
     at_once : (i : ℕ) → i ≡ i + 0
@@ -175,8 +175,8 @@ spells_first p q at = record { onward = onward; back = back }
         note_path is_word p s 0 p.start q i pattern e at (low_there is_word p s i inside) (high_there is_word p s i inside)
         (subst (λ n. Path (machine_of is_in is_word p s) q n pattern e) (sym (at_once i)) path)
 
-pub spells_on : (p : Program Look (List Range)) (literal more : List ℕ) (q c r : ℕ) → ReadsOnly (slice_get p.nodes q) c r → more ≡ literal ++ encode_utf8 c → Spells p literal q → Spells p more r
-spells_on p literal more q c r over is spells = subst (λ xs. Spells p xs r) (sym is) (record { onward = onward; back = back })
+pub spells_on : (p : Program Look (List Range)) (literal more : List ℕ) (q c r : ℕ) → ReadsOnly (slice_get p.nodes q) c r → more ≡ literal ++ encode_utf8 c → SpellsLiteral p literal q → SpellsLiteral p more r
+spells_on p literal more q c r over is spells = subst (λ xs. SpellsLiteral p xs r) (sym is) (record { onward = onward; back = back })
   where
     behind : (i : ℕ) → i + length literal + length (encode_utf8 c) ≡ i + length (literal ++ encode_utf8 c)
     behind i = omega (arith, length-append literal (encode_utf8 c))
@@ -203,7 +203,7 @@ spells_on p literal more q c r over is spells = subst (λ xs. Spells p xs r) (sy
 
 -- ---- the literal's match is all that there is
 
-module _ (p : Program Look (List Range)) (literal : List ℕ) (q : ℕ) (spells : Spells p literal q) (ending : NotesEnd p q) where
+module _ (p : Program Look (List Range)) (literal : List ℕ) (q : ℕ) (spells : SpellsLiteral p literal q) (ending : NotesEnd p q) where
   abbrev Here : ℕ → Outcome Notes
   Here i = literal_match (record { start = i; end = i + length literal })
 
@@ -249,5 +249,5 @@ module _ (p : Program Look (List Range)) (literal : List ℕ) (q : ℕ) (spells 
     λ told. least_there is_word s i inside t told.0 told.1,
   )
 
-pub literal_of : (p : Program Look (List Range)) (literal : List ℕ) (q : ℕ) → Spells p literal q → NotesEnd p q → IsLiteralOf (literal ∷ []) p
+pub literal_of : (p : Program Look (List Range)) (literal : List ℕ) (q : ℕ) → SpellsLiteral p literal q → NotesEnd p q → IsLiteralOf (literal ∷ []) p
 literal_of p literal q spells ending = record { literal = literal; needles_are = refl; matches_only = matches_only p literal q spells ending }

@@ -22,8 +22,8 @@ use Rattle.rx_walks.proofs.InsideLaws.{walk_keeps, inside_of}
 use Rattle.rx_walks.proofs.PathLaws.{walk_has_path}
 use Rattle.rx_program.proofs.NoteLaws.{only_edge, only_ends, only_goes, only_reads, read_not_ends, read_not_goes, ends_by, goes_by, reads_by}
 use Rattle.rx_literals.specs.Needles.{OneOccursAt, this_occurs, other_occurs}
-use Rattle.rx_literals.specs.Beginnings.{BeginsWith}
-use Rattle.rx_literals.specs.Ways.{Stem, OneOf, this_one, other_one, Takes, LeadsTo, GoesOn, HasMembers, StandFor, branches, readings}
+use Rattle.rx_literals.specs.Beginnings.{MatchesBeginWith}
+use Rattle.rx_literals.specs.Ways.{Stem, OneOf, this_one, other_one, TakesStem, StemsLeadTo, StemsGoOn, HasMembers, StandFor, branches, readings}
 
 -- what is known where nothing was refused may be said in other words
 pub on_ok : {T E : Type 0} {P Q : Type 0} (r : Result T E) → (P → Q) → OnOk r P → OnOk r Q
@@ -146,49 +146,49 @@ occurs_longer bytes literal more rest i occurs behind =
 
 -- ---- stems go on
 
-pub goes_on_there : (here : Option (Node Look (List Range))) (stem : Stem) (old new : List Stem) → new ≡ old ++ stem ∷ [] → GoesOn here stem old new
+pub goes_on_there : (here : Option (Node Look (List Range))) (stem : Stem) (old new : List Stem) → new ≡ old ++ stem ∷ [] → StemsGoOn here stem old new
 goes_on_there here stem old new is p at is_word s i pattern e inside =
-    replaced (Takes p is_word s i pattern e) stem old (stem ∷ []) new is (λ takes. this_one takes)
+    replaced (TakesStem p is_word s i pattern e) stem old (stem ∷ []) new is (λ takes. this_one takes)
 
-pub leads_there : (p : Program Look (List Range)) (stem : Stem) (old new : List Stem) → new ≡ old ++ stem ∷ [] → LeadsTo p (stem ∷ old) new
+pub leads_there : (p : Program Look (List Range)) (stem : Stem) (old new : List Stem) → new ≡ old ++ stem ∷ [] → StemsLeadTo p (stem ∷ old) new
 leads_there p stem old new is is_word s i pattern e inside =
-    replaced (Takes p is_word s i pattern e) stem old (stem ∷ []) new is (λ takes. this_one takes)
+    replaced (TakesStem p is_word s i pattern e) stem old (stem ∷ []) new is (λ takes. this_one takes)
 
-pub goes_on_by : (here : Option (Node Look (List Range))) (r : ℕ) → GoesTo here r → (stem : Stem) (old new : List Stem) → new ≡ old ++ (record { literal = stem.literal; node = r }) ∷ [] → GoesOn here stem old new
+pub goes_on_by : (here : Option (Node Look (List Range))) (r : ℕ) → GoesTo here r → (stem : Stem) (old new : List Stem) → new ≡ old ++ (record { literal = stem.literal; node = r }) ∷ [] → StemsGoOn here stem old new
 goes_on_by here r goes_ stem old new is p at is_word s i pattern e inside =
-    replaced (Takes p is_word s i pattern e) stem old (record { literal = stem.literal; node = r } ∷ []) new is
+    replaced (TakesStem p is_word s i pattern e) stem old (record { literal = stem.literal; node = r } ∷ []) new is
     (λ takes. this_one (takes.0, goes_at is_word p s pattern e stem.node r (i + length stem.literal) here at goes_ takes.1))
 
-pub goes_on_apart : (rs : List ℕ) (stem : Stem) (old new : List Stem) → new ≡ old ++ branches stem.literal rs → GoesOn (Some (pass rs)) stem old new
+pub goes_on_apart : (rs : List ℕ) (stem : Stem) (old new : List Stem) → new ≡ old ++ branches stem.literal rs → StemsGoOn (Some (pass rs)) stem old new
 goes_on_apart rs stem old new is p at is_word s i pattern e inside =
-    replaced (Takes p is_word s i pattern e) stem old (branches stem.literal rs) new is one
+    replaced (TakesStem p is_word s i pattern e) stem old (branches stem.literal rs) new is one
   where
-    one : Takes p is_word s i pattern e stem → OneOf (Takes p is_word s i pattern e) (branches stem.literal rs)
+    one : TakesStem p is_word s i pattern e stem → OneOf (TakesStem p is_word s i pattern e) (branches stem.literal rs)
     one takes =
         let taken = passes_at is_word p s pattern e stem.node (i + length stem.literal) rs at takes.1 in
-        one_of_map (Takes p is_word s i pattern e) (λ (node : ℕ). record { literal = stem.literal; node = node }) rs taken.index taken.to
+        one_of_map (TakesStem p is_word s i pattern e) (λ (node : ℕ). record { literal = stem.literal; node = node }) rs taken.index taken.to
         (slice_get_within rs taken.index taken.to taken.edge) (get_or_from_slice_get rs taken.index taken.to taken.to taken.edge) (takes.0, taken.path)
 
-pub goes_on_over : (ranges : List Range) (r : ℕ) (characters : List ℕ) → HasMembers ranges characters → (stem : Stem) (old new : List Stem) → new ≡ old ++ readings stem.literal characters r → GoesOn (Some (set ranges r)) stem old new
+pub goes_on_over : (ranges : List Range) (r : ℕ) (characters : List ℕ) → HasMembers ranges characters → (stem : Stem) (old new : List Stem) → new ≡ old ++ readings stem.literal characters r → StemsGoOn (Some (set ranges r)) stem old new
 goes_on_over ranges r characters has stem old new is p at is_word s i pattern e inside =
-    replaced (Takes p is_word s i pattern e) stem old (readings stem.literal characters r) new is one
+    replaced (TakesStem p is_word s i pattern e) stem old (readings stem.literal characters r) new is one
   where
-    one : Takes p is_word s i pattern e stem → OneOf (Takes p is_word s i pattern e) (readings stem.literal characters r)
+    one : TakesStem p is_word s i pattern e stem → OneOf (TakesStem p is_word s i pattern e) (readings stem.literal characters r)
     one takes =
         let literal = stem.literal in
         let read = reads_at is_word p s pattern e stem.node (i + length literal) r ranges at takes.1 in
         let there = has read.c read.scalar read.member in
         let width : i + length literal + length (encode_utf8 read.c) ≡ i + length (literal ++ encode_utf8 read.c) = omega (arith, length-append literal (encode_utf8 read.c)) in
-        one_of_map (Takes p is_word s i pattern e) (λ (c : ℕ). record { literal = literal ++ encode_utf8 c; node = r }) characters there.0 read.c there.1 there.2 (
+        one_of_map (TakesStem p is_word s i pattern e) (λ (c : ℕ). record { literal = literal ++ encode_utf8 c; node = r }) characters there.0 read.c there.1 there.2 (
           occurs_longer (take (highest s) s.content) literal (encode_utf8 read.c) read.rest i takes.0 read.stands,
           subst (λ n. Path (machine_of is_in is_word p s) r n pattern e) width read.path,
         )
 
-pub leads_on : (p : Program Look (List Range)) (stems others more : List Stem) → LeadsTo p stems others → LeadsTo p others more → LeadsTo p stems more
+pub leads_on : (p : Program Look (List Range)) (stems others more : List Stem) → StemsLeadTo p stems others → StemsLeadTo p others more → StemsLeadTo p stems more
 leads_on p stems others more first second is_word s i pattern e inside one = second is_word s i pattern e inside (first is_word s i pattern e inside one)
 
-pub leads_same : (p : Program Look (List Range)) (stems others : List Stem) → stems ≡ others → LeadsTo p stems others
-leads_same p stems others same is_word s i pattern e inside one = subst (OneOf (Takes p is_word s i pattern e)) same one
+pub leads_same : (p : Program Look (List Range)) (stems others : List Stem) → stems ≡ others → StemsLeadTo p stems others
+leads_same p stems others same is_word s i pattern e inside one = subst (OneOf (TakesStem p is_word s i pattern e)) same one
 
 -- ---- the literals begin each match
 
@@ -205,13 +205,13 @@ occurs_in_fewer content literal high e i ends_ below inside occurs = record {
       get_or-take e content (i + j) 0 (omega (arith, ends_, under)) ∙ sym (get_or-take high content (i + j) 0 (omega (arith, ends_, under, below))) ∙ occurs.reads j under;
 }
 
-one_begins : (p : Program Look (List Range)) (is_word : ℕ → Bool) (s : Search) (i pattern e : ℕ) → e ≤ highest s → e ≤ length s.content → {stems : List Stem} → OneOf (Takes p is_word s i pattern e) stems → OneOccursAt (take e s.content) i (map (λ stem. stem.literal) stems)
+one_begins : (p : Program Look (List Range)) (is_word : ℕ → Bool) (s : Search) (i pattern e : ℕ) → e ≤ highest s → e ≤ length s.content → {stems : List Stem} → OneOf (TakesStem p is_word s i pattern e) stems → OneOccursAt (take e s.content) i (map (λ stem. stem.literal) stems)
 one_begins p is_word s i pattern e top far (this_one {x = stem} takes) =
     let ends_ : i + length stem.literal ≤ e = path_grows (characters_forward put_note is_in p.nodes (haystack_of (holds_in is_word p.line_terminator s) s)) takes.1 in
     this_occurs (occurs_in_fewer s.content stem.literal (highest s) e i ends_ top far takes.0)
 one_begins p is_word s i pattern e top far (other_one one) = other_occurs (one_begins p is_word s i pattern e top far one)
 
-pub begin_with : (p : Program Look (List Range)) (stems : List Stem) (needles : List (List ℕ)) → LeadsTo p (record { literal = []; node = p.start } ∷ []) stems → StandFor needles (map (λ stem. stem.literal) stems) → BeginsWith needles p
+pub begin_with : (p : Program Look (List Range)) (stems : List Stem) (needles : List (List ℕ)) → StemsLeadTo p (record { literal = []; node = p.start } ∷ []) stems → StandFor needles (map (λ stem. stem.literal) stems) → MatchesBeginWith needles p
 begin_with p stems needles leads stand is_word s i choices t inside walk =
     let at : i ≡ i + 0 = omega arith in
     let low : i ≤ length (take (highest s) s.content) = omega (arith, length-take (highest s) s.content, inside.1, inside.3, inside.4) in
@@ -233,7 +233,7 @@ readings_of first second characters others next base items same alike is =
 -- ---- what is made of a program
 
 pub begin_if : {E : Type 0} (p : Program Look (List Range)) (stems : List Stem) (needles : List (List ℕ)) (r : Result (Option (List (List ℕ))) E)
-    → LeadsTo p (record { literal = []; node = p.start } ∷ []) stems → StandFor needles (map (λ stem. stem.literal) stems)
-    → IfOk r (λ made. ForSome made (λ prefilter. prefilter ≡ needles)) → IfOk r (λ made. ForSome made (λ prefilter. BeginsWith prefilter p))
-begin_if p stems needles (Ok made) leads stand is = λ prefilter e. subst (λ x. BeginsWith x p) (sym (is prefilter e)) (begin_with p stems needles leads stand)
+    → StemsLeadTo p (record { literal = []; node = p.start } ∷ []) stems → StandFor needles (map (λ stem. stem.literal) stems)
+    → IfOk r (λ made. ForSome made (λ prefilter. prefilter ≡ needles)) → IfOk r (λ made. ForSome made (λ prefilter. MatchesBeginWith prefilter p))
+begin_if p stems needles (Ok made) leads stand is = λ prefilter e. subst (λ x. MatchesBeginWith x p) (sym (is prefilter e)) (begin_with p stems needles leads stand)
 begin_if p stems needles (Err e) leads stand h = h

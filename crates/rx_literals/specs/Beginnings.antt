@@ -13,8 +13,8 @@ use Rattle.rx_literals.specs.Needles.{AreNeedles, FoundBetween, OneOccursAt}
 
 -- what a walk takes from the start node, at a place of the search, to the end of a match begins with
 -- one of the needles
-abbrev pub BeginsWith : List (List ℕ) → Program Look (List Range) → Type 0
-BeginsWith needles p =
+abbrev pub MatchesBeginWith : List (List ℕ) → Program Look (List Range) → Type 0
+MatchesBeginWith needles p =
     (is_word : ℕ → Bool) (s : Search) (i : ℕ) (choices : List ℕ) (t : Outcome Notes) → IsInside s i
     → Walk (machine_of is_in is_word p s) [] (fresh_notes i) p.start i choices t
     → OneOccursAt (take t.end s.content) i needles
@@ -27,14 +27,14 @@ FirstNeedle needles s out = FoundBetween (take s.end s.content) needles s.start 
 abbrev pub NoNeedleNoMatch : Type 0
 NoNeedleNoMatch = (needles : List (List ℕ)) (p : Program Look (List Range)) (is_word : ℕ → Bool)
     (s : Search)
-    → AreNeedles needles → BeginsWith needles p → s.anchoring ≡ unanchored
+    → AreNeedles needles → MatchesBeginWith needles p → s.anchoring ≡ unanchored
     → FirstNeedle needles s None → ProgramFinds is_in is_word p s None
 
 -- where one is found, the program finds what it finds from there on
 abbrev pub MatchesComeBehind : Type 0
 MatchesComeBehind = (needles : List (List ℕ)) (p : Program Look (List Range)) (is_word : ℕ → Bool)
     (s : Search) (span : Span) (out : Option (Outcome Notes))
-    → BeginsWith needles p → s.anchoring ≡ unanchored
+    → MatchesBeginWith needles p → s.anchoring ≡ unanchored
     → FirstNeedle needles s (Some span)
     → ProgramFinds is_in is_word p (from_place_on s span.start) out
     → ProgramFinds is_in is_word p s out

@@ -23,19 +23,19 @@ MayCome marks q = slice_get marks q ≡ Some false → ⊥
 
 -- no match ends at a node, and a walk may come to where its edges lead, but for one that asks for
 -- the slice's end
-abbrev pub LeadsOn : List Bool → Node Look (List Range) → Type 0
-LeadsOn marks (match k) = ⊥
-LeadsOn marks (pass rs) = (k r : ℕ) → slice_get rs k ≡ Some r → MayCome marks r
-LeadsOn marks (note slot r) = MayCome marks r
-LeadsOn marks (look end_text r) = Unit {0}
-LeadsOn marks (look l r) = MayCome marks r
-LeadsOn marks (set x r) = MayCome marks r
+abbrev pub LeadsToMarks : List Bool → Node Look (List Range) → Type 0
+LeadsToMarks marks (match k) = ⊥
+LeadsToMarks marks (pass rs) = (k r : ℕ) → slice_get rs k ≡ Some r → MayCome marks r
+LeadsToMarks marks (note slot r) = MayCome marks r
+LeadsToMarks marks (look end_text r) = Unit {0}
+LeadsToMarks marks (look l r) = MayCome marks r
+LeadsToMarks marks (set x r) = MayCome marks r
 
 -- so it is at each node to which a walk may come
-abbrev pub AreClosed : List (Node Look (List Range)) → List Bool → Type 0
-AreClosed nodes marks = (q : ℕ) (here : Node Look (List Range)) → slice_get nodes q ≡ Some here
-    → MayCome marks q → LeadsOn marks here
+abbrev pub MarksAreClosed : List (Node Look (List Range)) → List Bool → Type 0
+MarksAreClosed nodes marks = (q : ℕ) (here : Node Look (List Range)) → slice_get nodes q ≡ Some here
+    → MayCome marks q → LeadsToMarks marks here
 
 -- where one mark more can do no harm
-abbrev pub Grows : List Bool → List Bool → Type 0
-Grows old new = (q : ℕ) → MayCome old q → MayCome new q
+abbrev pub MarksGrow : List Bool → List Bool → Type 0
+MarksGrow old new = (q : ℕ) → MayCome old q → MayCome new q

@@ -41,14 +41,14 @@ pub data OneOccursAt (bytes : List ℕ) (i : ℕ) : List (List ℕ) → Type 0 w
       → OneOccursAt bytes i (needle ∷ needles)
 
 -- the content, cut at the end of an input's span
-abbrev pub bytes_of : InputState → List ℕ
-bytes_of i = take i.asked.span.end i.cursor.content
+abbrev pub bytes_to_end : InputState → List ℕ
+bytes_to_end i = take i.asked.span.end i.cursor.content
 
 -- what is found in an input's span
 abbrev pub FoundInSpan : List (List ℕ) → InputState → Option Span → Type 0
 FoundInSpan needles i out =
-    FoundBetween (bytes_of i) needles i.asked.span.start i.asked.span.end out
+    FoundBetween (bytes_to_end i) needles i.asked.span.start i.asked.span.end out
 
 -- what is found at its start
 abbrev pub FoundAtStart : List (List ℕ) → InputState → Option Span → Type 0
-FoundAtStart needles i out = FoundAt (bytes_of i) i.asked.span.start needles out
+FoundAtStart needles i out = FoundAt (bytes_to_end i) i.asked.span.start needles out

@@ -6,14 +6,14 @@ use Rattle.rx_literals.specs.Needles.{AreNeedles}
 use Rattle.rx_literals.specs.FirstBytes.{BeginAmong}
 
 -- a searcher finds these needles
-abbrev pub Searches : Searcher → List (List ℕ) → Type 0
-Searches (searcher.One finder) needles = needles ≡ finder ∷ []
-Searches (searcher.First first) needles = BeginAmong first needles
-Searches searcher.Several needles = Unit {0}
+abbrev pub SearchesNeedles : Searcher → List (List ℕ) → Type 0
+SearchesNeedles (searcher.One finder) needles = needles ≡ finder ∷ []
+SearchesNeedles (searcher.First first) needles = BeginAmong first needles
+SearchesNeedles searcher.Several needles = Unit {0}
 
 -- the needles are such, none is longer than is known, and this finds them
 pub record AreParts (needles : List (List ℕ)) (longest : ℕ) (searcher : Searcher) : Type 0 where
   pub are : AreNeedles needles
   pub some : 1 ≤ longest
   pub below : All (λ needle. length needle ≤ longest) needles
-  pub searches : Searches searcher needles
+  pub searches : SearchesNeedles searcher needles

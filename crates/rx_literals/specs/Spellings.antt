@@ -36,7 +36,7 @@ pub record GoesOver (is_word : ℕ → Bool) (p : Program Look (List Range)) (s 
 
 -- each walk from the start node, at a place of a search, goes so; and each path from the node,
 -- behind the literal, is the rest of one from the start node
-pub record Spells (p : Program Look (List Range)) (literal : List ℕ) (q : ℕ) : Type 0 where
+pub record SpellsLiteral (p : Program Look (List Range)) (literal : List ℕ) (q : ℕ) : Type 0 where
   pub onward : (is_word : ℕ → Bool) (s : Search) (i : ℕ) (choices : List ℕ) (t : Outcome Notes)
       → IsInside s i
       → Walk (machine_of is_in is_word p s) [] (fresh_notes i) p.start i choices t

@@ -23,21 +23,22 @@ pub data OneOf {X : Type 0} (P : X → Type 0) : List X → Type 0 where
 
 -- in a search a path from a place to the end of a match reads the literal of a stem, and goes on
 -- from its node
-abbrev pub Takes : Program Look (List Range) → (ℕ → Bool) → Search → ℕ → ℕ → ℕ → Stem → Type 0
-Takes p is_word s i pattern e stem =
+abbrev pub TakesStem : Program Look (List Range) → (ℕ → Bool) → Search → ℕ → ℕ → ℕ → Stem → Type 0
+TakesStem p is_word s i pattern e stem =
     OccursAt (take (highest s) s.content) stem.literal i
     × Path (machine_of is_in is_word p s) stem.node (i + length stem.literal) pattern e
 
 -- each path that takes one of these stems takes one of those
-abbrev pub LeadsTo : Program Look (List Range) → List Stem → List Stem → Type 0
-LeadsTo p stems others = (is_word : ℕ → Bool) (s : Search) (i pattern e : ℕ) → IsInside s i
-    → OneOf (Takes p is_word s i pattern e) stems
-    → OneOf (Takes p is_word s i pattern e) others
+abbrev pub StemsLeadTo : Program Look (List Range) → List Stem → List Stem → Type 0
+StemsLeadTo p stems others = (is_word : ℕ → Bool) (s : Search) (i pattern e : ℕ) → IsInside s i
+    → OneOf (TakesStem p is_word s i pattern e) stems
+    → OneOf (TakesStem p is_word s i pattern e) others
 
 -- where this is the node of a stem, which stood beside others, all of them lead to these
-abbrev pub GoesOn : Option (Node Look (List Range)) → Stem → List Stem → List Stem → Type 0
-GoesOn here stem others stems = (p : Program Look (List Range)) → slice_get p.nodes stem.node ≡ here
-    → LeadsTo p (stem ∷ others) stems
+abbrev pub StemsGoOn : Option (Node Look (List Range)) → Stem → List Stem → List Stem → Type 0
+StemsGoOn here stem others stems = (p : Program Look (List Range))
+    → slice_get p.nodes stem.node ≡ here
+    → StemsLeadTo p (stem ∷ others) stems
 
 -- these characters are all members of a set, and maybe more
 abbrev pub HasMembers : List Range → List ℕ → Type 0

@@ -4,10 +4,10 @@ ghost use Rattle.std.specs.Prelude.{◌≡◌, ◌++◌, ℕ, List, [], ◌∷�
 ghost use Rattle.std.specs.Option.{ForSome};
 ghost use Rattle.memchr.specs.Find.{OccursAt};
 ghost use Rattle.rx_walks.specs.Programs.{pass, set};
-ghost use Rattle.rx_program.specs.Programs.{characters_of, node_of};
-ghost use Rattle.rx_literals.specs.Beginnings.{BeginsWith};
+ghost use Rattle.rx_program.specs.Programs.{character_program, node_of};
+ghost use Rattle.rx_literals.specs.Beginnings.{MatchesBeginWith};
 ghost use Rattle.rx_literals.specs.Needles.{OneOccursAt};
-ghost use Rattle.rx_literals.specs.Ways.{GoesOn, LeadsTo, StandFor, branches, readings};
+ghost use Rattle.rx_literals.specs.Ways.{StemsGoOn, StemsLeadTo, StandFor, readings};
 
 use crate::first_bytes::{FirstBytes, is_common};
 use crate::members::few_members;
@@ -108,7 +108,7 @@ impl Beginnings {
 
     /// Follows empty edges to these states, if there is room. It answers whether it did.
     fn branch(&mut self, beginning: Beginning, states: &[StateID]) -> Result<bool, AllocError>
-        ensures { OnOk result (GoesOn (Some (pass states.now)) beginning self.old.list.items
+        ensures { OnOk result (StemsGoOn (Some (pass states.now)) beginning self.old.list.items
             self.new.list.items) }
     {
         if !self.has_room(&beginning.literal, states.len()) {
@@ -146,7 +146,7 @@ impl Beginnings {
         ranges: &[Range],
         next: StateID,
     ) -> Result<bool, AllocError>
-        ensures { OnOk result (GoesOn (Some (set ranges.now next)) beginning self.old.list.items
+        ensures { OnOk result (StemsGoOn (Some (set ranges.now next)) beginning self.old.list.items
             self.new.list.items) }
     {
         match few_members(self.alloc, ranges)? {
@@ -160,7 +160,7 @@ impl Beginnings {
 
     /// Goes on from a beginning, at whose end this state stands, and answers whether it leads on.
     fn go_on_at(&mut self, state: &State, beginning: Beginning) -> Result<bool, AllocError>
-        ensures { OnOk result (GoesOn (Some (node_of state.now)) beginning self.old.list.items
+        ensures { OnOk result (StemsGoOn (Some (node_of state.now)) beginning self.old.list.items
             self.new.list.items) }
     {
         match state {
@@ -176,7 +176,7 @@ impl Beginnings {
 
     /// Goes on from a beginning, and answers whether it leads on.
     fn go_on(&mut self, program: &Program, beginning: Beginning) -> Result<bool, AllocError>
-        ensures { OnOk result (LeadsTo (characters_of program.now)
+        ensures { OnOk result (StemsLeadTo (character_program program.now)
             (beginning ∷ self.old.list.items) self.new.list.items) }
     {
         match program.states().get(beginning.at.as_usize()) {
@@ -187,7 +187,7 @@ impl Beginnings {
 
     /// Goes on from the first one, and answers whether it leads on.
     fn step(&mut self, program: &Program) -> Result<bool, AllocError>
-        ensures { OnOk result (LeadsTo (characters_of program.now) self.old.list.items
+        ensures { OnOk result (StemsLeadTo (character_program program.now) self.old.list.items
             self.new.list.items) }
     {
         match self.list.pop_front() {
@@ -198,7 +198,7 @@ impl Beginnings {
 
     /// What the matches of a program begin with, as far as it is read.
     fn of(alloc: Global, program: &Program) -> Result<Beginnings, AllocError>
-        ensures { IfOk result (λ beginnings. LeadsTo (characters_of program.now)
+        ensures { IfOk result (λ beginnings. StemsLeadTo (character_program program.now)
             (record { literal = []; node = program.now.start } ∷ []) beginnings.list.items) }
     {
         let mut beginnings = Beginnings {
@@ -366,7 +366,7 @@ impl Prefilter {
         program: &Program,
     ) -> Result<Option<Prefilter>, AllocError>
         ensures { IfOk result (λ made. ForSome made
-            (λ prefilter. BeginsWith prefilter (characters_of program.now))) }
+            (λ prefilter. MatchesBeginWith prefilter (character_program program.now))) }
     {
         let beginnings = Beginnings::of(alloc, program)?;
         let literals = beginnings.literals()?;
@@ -385,7 +385,7 @@ impl Prefilter {
     /// states, and memory for the literals that are read. The one refusal is want of memory.
     pub fn serves(&self, alloc: Global, program: &Program) -> Result<bool, AllocError>
         ensures { IfOk result (λ serves. IsTrue serves
-            → BeginsWith self.now (characters_of program.now)) }
+            → MatchesBeginWith self.now (character_program program.now)) }
     {
         let beginnings = Beginnings::of(alloc, program)?;
         let literals = beginnings.literals()?;

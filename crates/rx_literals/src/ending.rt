@@ -1,9 +1,9 @@
 //! Whether all matches of a program end where the slice does.
 
 ghost use Rattle.std.specs.Prelude.{◌≡◌, ◌<◌, ℕ, false, map, slice_get, IfOk, IsTrue, Some};
-ghost use Rattle.rx_program.specs.Programs.{characters_of, node_of};
+ghost use Rattle.rx_program.specs.Programs.{character_program, node_of};
 ghost use Rattle.rx_literals.specs.declared.ending.Told.{Told};
-ghost use Rattle.rx_literals.specs.Endings.{AreClosed, EndsWithSlice, Grows, LeadsOn, MayCome};
+ghost use Rattle.rx_literals.specs.Endings.{MarksAreClosed, EndsWithSlice, MarksGrow, LeadsToMarks, MayCome};
 
 use rx_grammar::Look;
 use rx_program::{Program, State};
@@ -29,7 +29,7 @@ enum Told {
 fn mark(marks: &mut [bool], state: StateID) -> bool
     ensures kept { result ≡ false → marks.new ≡ marks.old }
     ensures marked { MayCome marks.new state }
-    ensures grows { Grows marks.old marks.new }
+    ensures grows { MarksGrow marks.old marks.new }
 {
     let at = state.as_usize();
     if at >= marks.len() || marks[at] {
@@ -43,7 +43,7 @@ fn mark(marks: &mut [bool], state: StateID) -> bool
 fn mark_all(marks: &mut [bool], states: &[StateID]) -> bool
     ensures kept { result ≡ false → marks.new ≡ marks.old }
     ensures marked { (k r : ℕ) → slice_get states.now k ≡ Some r → MayCome marks.new r }
-    ensures grows { Grows marks.old marks.new }
+    ensures grows { MarksGrow marks.old marks.new }
 {
     let mut more = false;
     for state in states {
@@ -57,8 +57,8 @@ fn mark_all(marks: &mut [bool], states: &[StateID]) -> bool
 /// Marks the states to which the edges of one lead at which no match ends.
 fn mark_next(marks: &mut [bool], state: &State) -> Told
     ensures closed { result ≡ Told.Closed → marks.new ≡ marks.old }
-    ensures leads { result ≡ Told.Closed → LeadsOn marks.new (node_of state.now) }
-    ensures grows { Grows marks.old marks.new }
+    ensures leads { result ≡ Told.Closed → LeadsToMarks marks.new (node_of state.now) }
+    ensures grows { MarksGrow marks.old marks.new }
 {
     let more = match state {
         State::Match(_) => return Told::Match,
@@ -75,8 +75,8 @@ fn mark_next(marks: &mut [bool], state: &State) -> Told
 
 /// Goes through the states once, and marks those to which the edges of marked ones lead.
 fn go_through(marks: &mut [bool], states: &[State]) -> Told
-    ensures closed { result ≡ Told.Closed → AreClosed (map node_of states.now) marks.new }
-    ensures grows { Grows marks.old marks.new }
+    ensures closed { result ≡ Told.Closed → MarksAreClosed (map node_of states.now) marks.new }
+    ensures grows { MarksGrow marks.old marks.new }
 {
     let mut told = Told::Closed;
     for (index, state) in states.iter().enumerate() {
@@ -97,7 +97,7 @@ fn go_through(marks: &mut [bool], states: &[State]) -> Told
 /// start from, all edges to a match pass a look for that end. The one error is want of memory, of
 /// which it takes a byte for each state. It takes time in proportion to the states.
 pub fn ends_with_slice(alloc: Global, program: &Program) -> Result<bool, AllocError>
-    ensures { IfOk result (λ ends. IsTrue ends → EndsWithSlice (characters_of program.now)) }
+    ensures { IfOk result (λ ends. IsTrue ends → EndsWithSlice (character_program program.now)) }
 {
     let states = program.states();
     let mut marks = vec![in alloc; false; states.len()]?;

@@ -3,9 +3,9 @@
 ghost use Rattle.std.specs.Prelude.{◌≡◌, [], ◌∷◌, IfOk, IfSome, IsTrue, OnOk, Some, slice_get, string_bytes};
 ghost use Rattle.std.specs.Option.{ForSome};
 ghost use Rattle.rx_walks.specs.Programs.{match, note};
-ghost use Rattle.rx_program.specs.Programs.{characters_of, node_of};
+ghost use Rattle.rx_program.specs.Programs.{character_program};
 ghost use Rattle.rx_literals.specs.Literals.{IsLiteralOf};
-ghost use Rattle.rx_literals.specs.Spellings.{IsOnlyMember, NotesEnd, ReadsOnly, Spells};
+ghost use Rattle.rx_literals.specs.Spellings.{IsOnlyMember, NotesEnd, ReadsOnly, SpellsLiteral};
 
 use crate::prefilter::Prefilter;
 use rx_program::{Program, State};
@@ -30,7 +30,7 @@ fn only_member(ranges: &[Range]) -> Option<char>
 /// to which it leads.
 fn read_at(program: &Program, at: StateID) -> Option<(char, StateID)>
     ensures { IfSome result (λ read. ReadsOnly
-        (slice_get (characters_of program.now).nodes at) read.0 read.1) }
+        (slice_get (character_program program.now).nodes at) read.0 read.1) }
 {
     match program.states().get(at.as_usize()) {
         Some(State::Ranges(automaton, next)) => {
@@ -43,7 +43,7 @@ fn read_at(program: &Program, at: StateID) -> Option<(char, StateID)>
 
 /// The state to which the state with this number leads, if it notes a place in this slot.
 fn behind_note(program: &Program, at: StateID, slot: usize) -> Option<StateID>
-    ensures { IfSome result (λ next. slice_get (characters_of program.now).nodes at
+    ensures { IfSome result (λ next. slice_get (character_program program.now).nodes at
         ≡ Some (note slot next)) }
 {
     match program.states().get(at.as_usize()) {
@@ -54,7 +54,7 @@ fn behind_note(program: &Program, at: StateID, slot: usize) -> Option<StateID>
 
 /// Whether a match of the first pattern ends at the state with this number.
 fn is_match(program: &Program, at: StateID) -> bool
-    ensures { IsTrue result → slice_get (characters_of program.now).nodes at ≡ Some (match 0) }
+    ensures { IsTrue result → slice_get (character_program program.now).nodes at ≡ Some (match 0) }
 {
     match program.states().get(at.as_usize()) {
         Some(State::Match(pattern)) => *pattern == PatternID::ZERO,
@@ -64,7 +64,7 @@ fn is_match(program: &Program, at: StateID) -> bool
 
 /// Whether the end is noted at the state with this number, and behind it the match ends.
 fn notes_end(program: &Program, at: StateID) -> bool
-    ensures { IsTrue result → NotesEnd (characters_of program.now) at }
+    ensures { IsTrue result → NotesEnd (character_program program.now) at }
 {
     match behind_note(program, at, 1) {
         Some(last) => is_match(program, last),
@@ -84,8 +84,10 @@ impl Spelling {
     /// Goes on from the state, and answers whether it reads one character alone.
     fn step(&mut self, program: &Program) -> Result<bool, AllocError>
         ensures { OnOk result
-            (Spells (characters_of program.now) (string_bytes self.old.literal) self.old.at
-            → Spells (characters_of program.now) (string_bytes self.new.literal) self.new.at) }
+            (SpellsLiteral (character_program program.now)
+            (string_bytes self.old.literal) self.old.at
+            → SpellsLiteral (character_program program.now)
+            (string_bytes self.new.literal) self.new.at) }
     {
         match read_at(program, self.at) {
             Some(read) => {
@@ -102,7 +104,8 @@ impl Spelling {
 /// don't note first where they begin.
 fn spelled(alloc: Global, program: &Program) -> Result<Option<Spelling>, AllocError>
     ensures { IfOk result (λ spelled. IfSome spelled (λ spelling.
-        Spells (characters_of program.now) (string_bytes spelling.literal) spelling.at)) }
+        SpellsLiteral (character_program program.now)
+        (string_bytes spelling.literal) spelling.at)) }
 {
     let at = match behind_note(program, program.start(), 0) {
         Some(at) => at,
@@ -123,7 +126,7 @@ fn spelled(alloc: Global, program: &Program) -> Result<Option<Spelling>, AllocEr
 /// The literal that each match is; `None` where that isn't found.
 fn only_literal(alloc: Global, program: &Program) -> Result<Option<String>, AllocError>
     ensures { IfOk result (λ made. IfSome made
-        (λ literal. IsLiteralOf (string_bytes literal ∷ []) (characters_of program.now))) }
+        (λ literal. IsLiteralOf (string_bytes literal ∷ []) (character_program program.now))) }
 {
     let spelling = match spelled(alloc, program)? {
         Some(spelling) => spelling,
@@ -141,7 +144,7 @@ impl Prefilter {
     /// look or repetition, and have at most 64 bytes. It takes time for at most 67 states.
     pub fn of_literal(alloc: Global, program: &Program) -> Result<Option<Prefilter>, AllocError>
         ensures { IfOk result (λ made. ForSome made
-            (λ prefilter. IsLiteralOf prefilter (characters_of program.now))) }
+            (λ prefilter. IsLiteralOf prefilter (character_program program.now))) }
     {
         match only_literal(alloc, program)? {
             Some(literal) => {

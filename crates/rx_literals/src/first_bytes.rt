@@ -1,6 +1,6 @@
 //! The bytes that needles begin with, where there are few.
 
-ghost use Rattle.std.specs.Prelude.{◌≡◌, ◌≤◌, ℕ, All, true, length, slice_index, map, IfSome};
+ghost use Rattle.std.specs.Prelude.{◌≡◌, ◌≤◌, ℕ, true, length, map, IfSome};
 ghost use Rattle.memchr.specs.Find.{IsFirst, IsFirstByte, Passes};
 ghost use Rattle.rx_literals.specs.FirstBytes.{BeginAmong, is_among};
 

@@ -4,7 +4,7 @@ ghost use Rattle.std.specs.Prelude.{◌≡◌, ◌+◌, ◌<◌, ◌≤◌, ◌�
 ghost use Rattle.memchr.specs.Find.{OccursAt};
 ghost use Rattle.rx_input.specs.Cursors.{IsSameContent};
 ghost use Rattle.rx_input.specs.Inputs.{HoldsPlace, between};
-ghost use Rattle.rx_literals.specs.Needles.{FoundAt, FoundBetween, FoundAtStart, FoundInSpan, bytes_of};
+ghost use Rattle.rx_literals.specs.Needles.{FoundAt, FoundBetween, FoundAtStart, FoundInSpan, bytes_to_end};
 
 use crate::prefilter::Prefilter;
 use rx_input::{Cursor, Input};
@@ -36,7 +36,7 @@ fn has_byte<C: Cursor>(input: &mut Input<C>, at: usize, byte: u8) -> bool
 /// Whether a needle, which mustn't be empty, occurs at a place in the span.
 fn occurs_at<C: Cursor>(input: &mut Input<C>, at: usize, needle: &[u8]) -> bool
     requires { 1 ≤ length needle.now }
-    ensures occurs { IsTrue result ↔ OccursAt (bytes_of input.old) needle.now at }
+    ensures occurs { IsTrue result ↔ OccursAt (bytes_to_end input.old) needle.now at }
     ensures fits { IsTrue result → at + length needle.now < 2 ^ 64 }
     ensures same { IsSameContent input.old.cursor input.new.cursor }
     ensures asked { input.new.asked ≡ input.old.asked }
@@ -54,7 +54,7 @@ fn occurs_at<C: Cursor>(input: &mut Input<C>, at: usize, needle: &[u8]) -> bool
 
 /// What is found at a place.
 fn find_at<C: Cursor>(prefilter: &Prefilter, input: &mut Input<C>, at: usize) -> Option<Span>
-    ensures found { FoundAt (bytes_of input.old) at prefilter.now result }
+    ensures found { FoundAt (bytes_to_end input.old) at prefilter.now result }
     ensures same { IsSameContent input.old.cursor input.new.cursor }
     ensures asked { input.new.asked ≡ input.old.asked }
 {
@@ -76,7 +76,7 @@ fn try_each<C: Cursor>(
     from: usize,
     to: usize,
 ) -> Option<Span>
-    ensures found { FoundBetween (bytes_of input.old) prefilter.now from to result }
+    ensures found { FoundBetween (bytes_to_end input.old) prefilter.now from to result }
     ensures same { IsSameContent input.old.cursor input.new.cursor }
     ensures asked { input.new.asked ≡ input.old.asked }
 {
@@ -93,7 +93,7 @@ fn try_each<C: Cursor>(
 /// start at the last places of it.
 fn find_in_piece<C: Cursor>(prefilter: &Prefilter, input: &mut Input<C>) -> Option<Span>
     requires { input.old.position ≤ min input.old.asked.span.end input.old.cursor.end }
-    ensures found { FoundBetween (bytes_of input.old) prefilter.now input.old.position
+    ensures found { FoundBetween (bytes_to_end input.old) prefilter.now input.old.position
         (min input.old.asked.span.end input.old.cursor.end) result }
     ensures same { IsSameContent input.old.cursor input.new.cursor }
     ensures asked { input.new.asked ≡ input.old.asked }

@@ -1,6 +1,6 @@
 //! The members of sets that have few.
 
-ghost use Rattle.std.specs.Prelude.{◌≡◌, ◌≤◌, ℕ, true, Contains, IfOk, IsTrue, OnOk};
+ghost use Rattle.std.specs.Prelude.{◌≡◌, ℕ, true, Contains, IfOk, IsTrue, OnOk};
 ghost use Rattle.std.specs.Char.{IsScalar};
 ghost use Rattle.std.specs.Option.{ForSome};
 ghost use Rattle.rx_sets.specs.Sets.{in_range, ordinal};

@@ -4,7 +4,7 @@ ghost use Rattle.std.specs.Prelude.{◌≡◌, ◌≤◌, ◌<◌, ◌↔◌, �
 ghost use Rattle.rx_util.specs.declared.search.MatchError.{MatchError};
 ghost use Rattle.rx_literals.specs.Needles.{AreNeedles, FoundAt, FoundBetween, IsNeedle};
 ghost use Rattle.rx_literals.specs.FirstBytes.{BeginAmong};
-ghost use Rattle.rx_literals.specs.Prefilters.{Searches, AreParts};
+ghost use Rattle.rx_literals.specs.Prefilters.{SearchesNeedles, AreParts};
 
 use crate::first_bytes::FirstBytes;
 use memchr::arch::all::is_prefix;
@@ -101,7 +101,8 @@ fn longest_of(needles: &[&[u8]]) -> usize
 
 /// What finds the needles.
 fn searcher_of(alloc: Global, needles: &[&[u8]]) -> Result<Searcher, AllocError>
-    ensures { IfOk result (λ searcher. Searches searcher (map (λ needle. needle.now) needles.now)) }
+    ensures { IfOk result (λ searcher. SearchesNeedles searcher
+        (map (λ needle. needle.now) needles.now)) }
 {
     if needles.len() == 1 {
         return Ok(Searcher::One(Finder::new(needles[0]).into_owned(alloc)?));

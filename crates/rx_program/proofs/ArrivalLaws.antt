@@ -1,11 +1,12 @@
 -- Lists of which some get a number at their end, and what is made of each item of a list.
-use Rattle.std.proofs.Common.{◌≡◌, ℕ, zero, suc, ◌+◌, ◌-◌, ◌<◌, ◌≤◌, ◌⊎◌, Bool, true, false, ◌||◌, ◌==◌, cond, is_some, List, [], ◌∷◌, ◌++◌, length, map, take, set, get_or, slice_get, Option, Some, None, Vec, refl, sym, ap, ap₂, ◌∙◌, arith, length-append, inl, inr}
+use Rattle.std.proofs.Common.{◌≡◌, ℕ, zero, suc, ◌+◌, ◌-◌, ◌<◌, ◌⊎◌, Bool, true, false, ◌||◌, ◌==◌, cond, is_some, List, [], ◌∷◌, ◌++◌, length, map, take, set, get_or, slice_get, Option, Some, None, Vec, refl, sym, ap, ap₂, ◌∙◌, arith, length-append, inl, inr}
 use Rattle.std.proofs.lemmas.Bool.{eq-eqb, cases_eq}
 use Rattle.std.proofs.lemmas.Bool.Decides.{nat_tests}
 use Rattle.std.proofs.lemmas.List.{append-nil, append_assoc, take_more, get_or-map, length-map}
 use Rattle.rx_walks.specs.Programs.{Node, match, pass, note, look, set as reads_set}
-use Rattle.rx_walks.specs.Reversed.{indexed, those, has, is_match, is_match_of}
-use Rattle.rx_program.specs.Arrivals.{lists_of, is_number, ends_with, with_last, Puts, AreLists, match_in, unions}
+use Rattle.rx_walks.specs.Reversed.{indexed, those, has, is_match}
+use Rattle.rx_utf8.specs.Subsets.{lists_of}
+use Rattle.rx_program.specs.Arrivals.{is_number, ends_with, with_last, PutsNumber, AreLists, match_in, unions}
 
 -- ---- a number at the end of a list
 
@@ -40,16 +41,13 @@ put_twice xs n = by_end (ends_with xs n) refl
 
 -- ---- lists of which some get it
 
-pub puts_none : (n : ℕ) (lists : List (List ℕ)) → Puts n (λ q. false) lists lists
-puts_none n lists = record { len = refl; each = λ q below. refl }
-
-pub puts_same : {n : ℕ} {lists lists' : List (List ℕ)} (test test' : ℕ → Bool) → ((q : ℕ) → test q ≡ test' q) → Puts n test lists lists' → Puts n test' lists lists'
+pub puts_same : {n : ℕ} {lists lists' : List (List ℕ)} (test test' : ℕ → Bool) → ((q : ℕ) → test q ≡ test' q) → PutsNumber n test lists lists' → PutsNumber n test' lists lists'
 puts_same {n = n} {lists = lists} test test' same puts = record {
   len = puts.len;
   each = λ q below. puts.each q below ∙ ap (λ b. cond b (with_last (get_or lists q []) n) (get_or lists q [])) (same q);
 }
 
-pub puts_both : {n : ℕ} {lists lists' lists'' : List (List ℕ)} (test other : ℕ → Bool) → Puts n test lists lists' → Puts n other lists' lists'' → Puts n (λ q. test q || other q) lists lists''
+pub puts_both : {n : ℕ} {lists lists' lists'' : List (List ℕ)} (test other : ℕ → Bool) → PutsNumber n test lists lists' → PutsNumber n other lists' lists'' → PutsNumber n (λ q. test q || other q) lists lists''
 puts_both {n = n} {lists = lists} test other one two = record {
   len = two.len ∙ one.len;
   each = λ q below. two.each q (omega (arith, below, one.len)) ∙ ap (λ xs. cond (other q) (with_last xs n) xs) (one.each q below) ∙ by_tests (test q) (other q) (get_or lists q []);
@@ -59,9 +57,6 @@ puts_both {n = n} {lists = lists} test other one two = record {
     by_tests true true xs = put_twice xs n
     by_tests true false xs = refl
     by_tests false y xs = refl
-
-length_lists : {Z : Type 0} (lists : List (Vec ℕ Z)) → length (lists_of lists) ≡ length lists
-length_lists lists = length-map lists (λ list. list.items)
 
 length_set : {Z : Type 0} (lists : List (Vec ℕ Z)) (at : ℕ) (list : Vec ℕ Z) → length (lists_of (set lists at list)) ≡ length (lists_of lists)
 length_set [] at list = refl
@@ -89,7 +84,7 @@ unequal : (at q : ℕ) → (at ≡ q → ⊥) → (at == q) ≡ false
 unequal at q other = grind (arith, nat_tests)
 
 pub put_here : {Z : Type 0} (n at : ℕ) (lists : List (Vec ℕ Z)) (list list' : Vec ℕ Z) → at < length lists → list ≡ get_or lists at list → list'.items ≡ with_last list.items n
-    → Puts n (λ q. at == q) (lists_of lists) (lists_of (set lists at list'))
+    → PutsNumber n (λ q. at == q) (lists_of lists) (lists_of (set lists at list'))
 put_here n at lists list list' within is put = record { len = length_set lists at list'; each = λ q below. by_place q (cases_eq at q) }
   where
     by_place : (q : ℕ) → (at ≡ q) ⊎ (at ≡ q → ⊥) → get_or (lists_of (set lists at list')) q [] ≡ cond (at == q) (with_last (get_or (lists_of lists) q []) n) (get_or (lists_of lists) q [])
@@ -99,12 +94,6 @@ put_here n at lists list list' within is put = record { len = length_set lists a
         ap (λ z. get_or (lists_of (set lists at list')) z []) (sym same)
         ∙ set_here lists at list' within ∙ put ∙ ap (λ xs. with_last xs n) (was ∙ ap (λ z. get_or (lists_of lists) z []) same)
         ∙ ap (λ b. cond b (with_last (get_or (lists_of lists) q []) n) (get_or (lists_of lists) q [])) (sym (eq-eqb at q same))
-
-pub put_nowhere : {Z : Type 0} (n at : ℕ) (lists : List (Vec ℕ Z)) → length lists ≤ at → Puts n (λ q. at == q) (lists_of lists) (lists_of lists)
-put_nowhere n at lists past = record {
-  len = refl;
-  each = λ q below. ap (λ b. cond b (with_last (get_or (lists_of lists) q []) n) (get_or (lists_of lists) q [])) (sym (unequal at q (λ same. omega (arith, same, below, past, length_lists lists))));
-}
 
 -- ---- numbers of the items that pass a test
 
@@ -137,7 +126,7 @@ below_both (x ∷ xs) ys n first second (suc d) y e = below_both xs ys n (λ d' 
 
 -- the number of one more item is put at the ends of those lists whose test it passes
 pub lists_next : {X : Type 0} (first : ℕ → List ℕ) (test : ℕ → X → Bool) (count at id : ℕ) (xs ys : List X) (x : X) (lists lists' : List (List ℕ)) → ((q : ℕ) → AllBelow (first q) at) → ys ≡ xs ++ x ∷ [] → id ≡ at + length xs
-    → AreLists count (λ q. first q ++ those (test q) at xs) lists → Puts id (λ q. test q x) lists lists' → AreLists count (λ q. first q ++ those (test q) at ys) lists'
+    → AreLists count (λ q. first q ++ those (test q) at xs) lists → PutsNumber id (λ q. test q x) lists lists' → AreLists count (λ q. first q ++ those (test q) at ys) lists'
 lists_next first test count at id xs ys x lists lists' before more number are puts = record {
   len = puts.len ∙ are.len;
   each = λ q below.
@@ -158,19 +147,6 @@ those_more test xs ys x id list list' more number are grown =
     let place : id ≡ 0 + length xs = omega (arith, number) in
     grown ∙ ap₂ (λ zs k. zs ++ cond (test x) (k ∷ []) []) are place ∙ sym (those_next test 0 xs x) ∙ ap (those test 0) (sym more)
 
--- empty lists, one more of them
-pub lists_more : {Z : Type 0} (count : ℕ) (lists : List (Vec ℕ Z)) (list : Vec ℕ Z) → list.items ≡ [] → AreLists count (λ q. []) (lists_of lists) → AreLists (count + 1) (λ q. []) (lists_of (lists ++ list ∷ []))
-lists_more {Z = Z} count lists list is are = record {
-  len = length_lists (lists ++ list ∷ []) ∙ length-append lists (list ∷ []) ∙ ap (λ k. k + 1) (sym (length_lists lists) ∙ are.len);
-  each = λ q below. all_empty lists q (λ q' less. are.each q' (omega (arith, less, are.len, length_lists lists)));
-}
-  where
-    all_empty : (xs : List (Vec ℕ Z)) (q : ℕ) → ((q' : ℕ) → q' < length xs → get_or (lists_of xs) q' [] ≡ []) → get_or (lists_of (xs ++ list ∷ [])) q [] ≡ []
-    all_empty [] zero each = is
-    all_empty [] (suc q) each = refl
-    all_empty (x ∷ xs) zero each = each 0 (omega arith)
-    all_empty (x ∷ xs) (suc q) each = all_empty xs q (λ q' less. each (suc q') (omega (arith, less)))
-
 -- ---- tests of nodes
 
 pub has_next : (xs : List ℕ) (x q : ℕ) → (has xs q || (x == q)) ≡ has (xs ++ x ∷ []) q
@@ -184,24 +160,6 @@ has_next (y ∷ xs) x q = by_test (y == q) (has xs q) (x == q) ∙ ap (λ b. (y 
     by_test : (a b c : Bool) → ((a || b) || c) ≡ (a || (b || c))
     by_test true b c = refl
     by_test false b c = refl
-
-pub or_none : (b : Bool) → b ≡ (b || false)
-or_none true = refl
-or_none false = refl
-
-pub of_match : {L S : Type 0} (node : Node L S) (k : ℕ) → match_in node ≡ Some k → (q : ℕ) → (k == q) ≡ is_match_of q node
-of_match (match p) k e q = let same : p ≡ k = cc e in ap (λ z. z == q) (sym same)
-of_match (pass rs) k e q = absurd (cc e)
-of_match (note slot r) k e q = absurd (cc e)
-of_match (look l r) k e q = absurd (cc e)
-of_match (reads_set x r) k e q = absurd (cc e)
-
-pub of_none : {L S : Type 0} (node : Node L S) → match_in node ≡ None → (q : ℕ) → false ≡ is_match_of q node
-of_none (match p) e q = absurd (cc e)
-of_none (pass rs) e q = refl
-of_none (note slot r) e q = refl
-of_none (look l r) e q = refl
-of_none (reads_set x r) e q = refl
 
 pub is_a_match : {L S : Type 0} (node : Node L S) → is_match node ≡ is_some (match_in node)
 is_a_match (match p) = refl

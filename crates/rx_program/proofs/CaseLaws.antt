@@ -11,7 +11,7 @@ use Rattle.rx_program.specs.declared.compiler.Job.{Job}
 use Rattle.rx_program.specs.declared.compiler.Job.TheVariants as job
 use Rattle.rx_program.specs.Code.{entry_of, fork, copies, optional, code_of, branches_code}
 use Rattle.rx_program.specs.Programs.{node_of, ReadsItsSet}
-use Rattle.rx_program.specs.Jobs.{part_at, trees_before, HasRow, sizes_of, in_row, in_branches, IsJob, work_of, row_work, Does}
+use Rattle.rx_program.specs.Jobs.{part_at, trees_before, HasPartsBefore, sizes_of, in_row, in_branches, IsJob, work_of, row_work, JobIsDone}
 use Rattle.rx_program.proofs.RowLaws.{in_row-last, in_branches-last, sizes_of-append, row_work-last, trees_in, row_is, branches_are, sizes_are, work_is}
 use Rattle.rx_program.proofs.PartLaws.{IsRow}
 
@@ -31,26 +31,22 @@ pub one_state : (s : State) → ReadsItsSet s → All ReadsItsSet (s ∷ [])
 one_state s h = All-cons ReadsItsSet s [] h no_states
 
 module _ {slots : ℕ} (parts : List Tree) (at : ℕ) where
-  -- a state by itself
-  pub does_state : (s : State) → ReadsItsSet s → Does slots parts at (job.State s) (s ∷ []) []
-  does_state s reads = record { code = refl; size = refl; work = omega arith; jobs = no_jobs parts; reads = one_state s reads }
-
   -- nothing is left of a row
-  pub does_no_row : (root size next : ℕ) → Does slots parts at (job.Row 0 root size next) [] []
+  pub does_no_row : (root size next : ℕ) → JobIsDone slots parts at (job.Row 0 root size next) [] []
   does_no_row root size next = record { code = refl; size = refl; work = omega arith; jobs = no_jobs parts; reads = no_states }
 
-  pub does_no_branches : (root next : ℕ) → Does slots parts at (job.Branches 0 root next) [] []
+  pub does_no_branches : (root next : ℕ) → JobIsDone slots parts at (job.Branches 0 root next) [] []
   does_no_branches root next = record { code = refl; size = refl; work = omega arith; jobs = no_jobs parts; reads = no_states }
 
-  pub does_no_copies : (root next : ℕ) → Does slots parts at (job.Copies 0 root next) [] []
+  pub does_no_copies : (root next : ℕ) → JobIsDone slots parts at (job.Copies 0 root next) [] []
   does_no_copies root next = record { code = refl; size = omega arith; work = omega arith; jobs = no_jobs parts; reads = no_states }
 
-  pub does_no_optional : (greedy : Bool) (root next : ℕ) → Does slots parts at (job.Optional greedy 0 root next) [] []
+  pub does_no_optional : (greedy : Bool) (root next : ℕ) → JobIsDone slots parts at (job.Optional greedy 0 root next) [] []
   does_no_optional greedy root next = record { code = refl; size = omega arith; work = omega arith; jobs = no_jobs parts; reads = no_states }
 
   -- a row: its last part, and before it the others
   pub does_row : (count root root' size size' start next : ℕ) → root' ≡ root - length (subtrees_of (part_at parts root)) → size' ≡ size - size_of (part_at parts root) → start ≡ at + size'
-      → IsJob parts (job.Row (suc count) root size next) → Does slots parts at (job.Row (suc count) root size next) [] (job.Row count root' size' start ∷ job.Part root next ∷ [])
+      → IsJob parts (job.Row (suc count) root size next) → JobIsDone slots parts at (job.Row (suc count) root size next) [] (job.Row count root' size' start ∷ job.Part root next ∷ [])
   does_row count root root' size size' start next root_is size_is start_is is =
       let t = part_at parts root in
       let ts = trees_before parts count (root - length (subtrees_of t)) in
@@ -68,12 +64,12 @@ module _ {slots : ℕ} (parts : List Tree) (at : ℕ) where
         size = omega (arith, sizes_of-append ts (t ∷ []), same_sizes);
         work = omega (arith, row_work-last ts t, ap row_work same);
         jobs = two_jobs parts (job.Row count root' size' start) (job.Part root next)
-            (subst (HasRow parts count) (sym root_is) is.0.1, omega (arith, size_is, total, same_sizes)) is.0.0;
+            (subst (HasPartsBefore parts count) (sym root_is) is.0.1, omega (arith, size_is, total, same_sizes)) is.0.0;
         reads = no_states;
       }
 
   pub does_branches : (count root root' next : ℕ) → root' ≡ root - length (subtrees_of (part_at parts root)) → IsJob parts (job.Branches (suc count) root next)
-      → Does slots parts at (job.Branches (suc count) root next) [] (job.Branches count root' next ∷ job.Part root next ∷ [])
+      → JobIsDone slots parts at (job.Branches (suc count) root next) [] (job.Branches count root' next ∷ job.Part root next ∷ [])
   does_branches count root root' next root_is is =
       let t = part_at parts root in
       let ts = trees_before parts count (root - length (subtrees_of t)) in
@@ -87,13 +83,13 @@ module _ {slots : ℕ} (parts : List Tree) (at : ℕ) where
             ∙ ap₂ (λ x y. x ++ y) (ap₂ (λ xs n. in_branches slots xs n next) same from) (ap (λ n. code_of slots t n next) end ∙ sym (append-nil (code_of slots t (at + 0 + sizes_of ts') next)));
         size = omega (arith, sizes_of-append ts (t ∷ []), same_sizes);
         work = omega (arith, row_work-last ts t, ap row_work same);
-        jobs = two_jobs parts (job.Branches count root' next) (job.Part root next) (subst (HasRow parts count) (sym root_is) is.1) is.0;
+        jobs = two_jobs parts (job.Branches count root' next) (job.Part root next) (subst (HasPartsBefore parts count) (sym root_is) is.1) is.0;
         reads = no_states;
       }
 
   -- copies: one, and then the others
   pub does_copies : (count root next on : ℕ) → on ≡ entry_of count (at + size_of (part_at parts root)) next → root < length parts
-      → Does slots parts at (job.Copies (suc count) root next) [] (job.Part root on ∷ job.Copies count root next ∷ [])
+      → JobIsDone slots parts at (job.Copies (suc count) root next) [] (job.Part root on ∷ job.Copies count root next ∷ [])
   does_copies count root next on on_is below =
       let t = part_at parts root in
       let s = size_of t in
@@ -108,7 +104,7 @@ module _ {slots : ℕ} (parts : List Tree) (at : ℕ) where
       }
 
   pub does_optional : (greedy : Bool) (count root next on : ℕ) (s : State) → node_of s ≡ fork greedy (at + 1) next → ReadsItsSet s → on ≡ entry_of count (at + 1 + size_of (part_at parts root)) next → root < length parts
-      → Does slots parts at (job.Optional greedy (suc count) root next) (s ∷ []) (job.Part root on ∷ job.Optional greedy count root next ∷ [])
+      → JobIsDone slots parts at (job.Optional greedy (suc count) root next) (s ∷ []) (job.Part root on ∷ job.Optional greedy count root next ∷ [])
   does_optional greedy count root next on s node reads on_is below =
       let t = part_at parts root in
       let z = size_of t in
@@ -122,7 +118,7 @@ module _ {slots : ℕ} (parts : List Tree) (at : ℕ) where
 
   -- a part that is one state
   pub does_leaf : (root next : ℕ) (s : State) (tree : Tree) → part_at parts root ≡ tree → code_of slots tree at next ≡ node_of s ∷ [] → size_of tree ≡ 1 → 0 < work_of tree → ReadsItsSet s
-      → Does slots parts at (job.Part root next) (s ∷ []) []
+      → JobIsDone slots parts at (job.Part root next) (s ∷ []) []
   does_leaf root next s tree is code size work reads = record {
     code = ap (λ t. code_of slots t at next) is ∙ code;
     size = ap size_of is ∙ size;
@@ -135,7 +131,7 @@ module _ {slots : ℕ} (parts : List Tree) (at : ℕ) where
   pub does_group : (root child number slot on next : ℕ) (name : Option Name) (tree : Tree) (first last : State) → part_at parts root ≡ group number name tree → part_at parts child ≡ tree → child < length parts
       → ((n : ℕ) → node_of first ∷ (code_of slots tree (at + 1) (at + 1 + size_of tree) ++ node_of last ∷ []) ≡ code_of slots (group number name tree) at next)
       → on ≡ at + 1 + size_of tree → ReadsItsSet first → ReadsItsSet last
-      → Does slots parts at (job.Part root next) (first ∷ []) (job.Part child on ∷ job.State last ∷ [])
+      → JobIsDone slots parts at (job.Part root next) (first ∷ []) (job.Part child on ∷ job.State last ∷ [])
   does_group root child number slot on next name tree first last is below_is below code on_is reads reads' = record {
     code = ap (λ t. code_of slots t at next) is ∙ sym (code 0) ∙ ap (λ x. node_of first ∷ (x ++ node_of last ∷ [])) (ap₂ (λ t n. code_of slots t (at + 1) n) (sym below_is) (sym on_is));
     size = omega (arith, ap size_of is, ap size_of below_is);
@@ -146,7 +142,7 @@ module _ {slots : ℕ} (parts : List Tree) (at : ℕ) where
 
   -- trees one after the other
   pub does_concat : (root child size next : ℕ) (trees : Trees) → part_at parts root ≡ concat trees → IsRow parts (how_many trees) child (trees_in trees) → size ≡ size_of (concat trees)
-      → Does slots parts at (job.Part root next) [] (job.Row (how_many trees) child size next ∷ [])
+      → JobIsDone slots parts at (job.Part root next) [] (job.Row (how_many trees) child size next ∷ [])
   does_concat root child size next trees is row size_is =
       let from : at ≡ at + 0 = omega arith in
       let sizes : size_of (concat trees) ≡ sizes_of (trees_before parts (how_many trees) child) = sizes_are trees ∙ ap sizes_of (sym row.is) in
@@ -161,7 +157,7 @@ module _ {slots : ℕ} (parts : List Tree) (at : ℕ) where
   -- trees beside one another
   pub does_alternation : (root child next : ℕ) (trees : Trees) (s : State) → part_at parts root ≡ alternation trees → IsRow parts (how_many trees) child (trees_in trees)
       → node_of s ∷ branches_code slots trees (at + 1) next ≡ code_of slots (alternation trees) at next → ReadsItsSet s
-      → Does slots parts at (job.Part root next) (s ∷ []) (job.Branches (how_many trees) child next ∷ [])
+      → JobIsDone slots parts at (job.Part root next) (s ∷ []) (job.Branches (how_many trees) child next ∷ [])
   does_alternation root child next trees s is row code reads =
       let sizes : size_of (alternation trees) ≡ 1 + sizes_of (trees_before parts (how_many trees) child) = ap (λ n. 1 + n) (sizes_are trees ∙ ap sizes_of (sym row.is)) in
       record {

@@ -22,25 +22,10 @@ pub record Known (tree : Tree) (part : Properties) : Type 0 where
 held_small : (n : ℕ) → n + 1 < 2 ^ 64 → held n ≡ n
 held_small n small = grind arith
 
-pub known_at : (parts : List Tree) (list : List Properties) (root : ℕ) (part : Properties) → list ≡ map properties_of parts → root < length parts → part ≡ get_or list root part → Known (part_at parts root) part
-known_at parts list root part same below at =
-    let is : part ≡ properties_of (part_at parts root) = at ∙ ap (λ xs. get_or xs root part) same ∙ get_mapped properties_of parts root empty part below in
-    record {
-      extent = ap (λ (p : Properties). p.extent) is;
-      size = λ small. ap (λ (p : Properties). p.size) is ∙ held_small (size_of (part_at parts root)) small;
-      may = ap (λ (p : Properties). p.may_be_empty) is;
-    }
-
-pub within_properties : (parts : List Tree) (list : List Properties) (root : ℕ) → list ≡ map properties_of parts → root < length parts → root < length list
-within_properties parts list root same below = omega (arith, ap length same, length-map parts properties_of, below)
-
 pub node_at : (parts : List Tree) (list : List Node) (root : ℕ) (node : Node) → map kind_of list ≡ map root_of parts → root < length parts → node ≡ get_or list root node → kind_of node ≡ root_of (part_at parts root)
 node_at parts list root node same below at =
     let long : root < length list = omega (arith, ap length same, length-map list kind_of, length-map parts root_of, below) in
     ap kind_of at ∙ sym (get_mapped kind_of list root node (kind_of node) long) ∙ ap (λ xs. get_or xs root (kind_of node)) same ∙ get_mapped root_of parts root empty (kind_of node) below
-
-pub within_nodes : (parts : List Tree) (list : List Node) (root : ℕ) → map kind_of list ≡ map root_of parts → root < length parts → root < length list
-within_nodes parts list root same below = omega (arith, ap length same, length-map list kind_of, length-map parts root_of, below)
 
 pub known_any : (parts : List Tree) (list : List Properties) (root : ℕ) (d : Properties) → list ≡ map properties_of parts → root < length parts → Known (part_at parts root) (get_or list root d)
 known_any parts list root d same below =

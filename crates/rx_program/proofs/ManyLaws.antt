@@ -1,16 +1,15 @@
 -- Patterns one after the other: their code, where they begin, and what they weigh.
-use Rattle.std.proofs.Common.{inl, inr, ◌≡◌, ◌⊎◌, ℕ, zero, suc, ◌+◌, ◌-◌, ◌*◌, ◌<◌, ◌≤◌, ◌^◌, List, [], ◌∷◌, ◌++◌, length, map, drop, min, get_or, Option, Some, None, refl, sym, ap, ap₂, ◌∙◌, arith, append_assoc, length-append}
-use Rattle.std.proofs.lemmas.Bool.{cases_lt}
+use Rattle.std.proofs.Common.{◌≡◌, ℕ, zero, suc, ◌+◌, ◌-◌, ◌*◌, ◌<◌, ◌≤◌, ◌^◌, List, [], ◌∷◌, ◌++◌, length, map, drop, min, get_or, refl, sym, ap, ap₂, ◌∙◌, arith, append_assoc, length-append}
 use Rattle.std.proofs.lemmas.List.{length-map}
 use Rattle.rx_sets.specs.Sets.{Range}
 use Rattle.rx_grammar.specs.Trees.{Tree, numbers_of}
 use Rattle.rx_grammar.specs.Weights.{held, pattern_weight, size_of}
 use Rattle.rx_walks.specs.Looks as walks
-use Rattle.rx_walks.specs.Programs.{Program, pass}
+use Rattle.rx_walks.specs.Programs.{Program}
 use Rattle.rx_program.specs.declared.states.State.{State}
 use Rattle.rx_program.specs.Code.{Code, pattern_code, patterns_code, pattern_starts, program_of}
-use Rattle.rx_program.specs.Programs.{ByteProgram, characters_of, node_of}
-use Rattle.rx_program.specs.Sizes.{sum_of_weights, weight_of_all, IsTooLarge}
+use Rattle.rx_program.specs.Programs.{ByteProgram, character_program, node_of}
+use Rattle.rx_program.specs.Sizes.{sum_of_weights}
 use Rattle.rx_program.proofs.ClosedLaws.{pattern_length}
 use Rattle.rx_program.proofs.SizeLaws.{size_le_weight}
 
@@ -26,12 +25,6 @@ pub first_left : {X : Type 0} (xs : List X) (f : X → Tree) (k : ℕ) (x : X) �
 first_left xs f k x lt e =
     let more : suc k ≡ k + 1 = omega arith in
     first_from xs f k x lt e ∙ ap (λ n. f x ∷ drop n (map f xs)) more
-
-pub none_left : {X : Type 0} (xs : List X) (f : X → Tree) (k : ℕ) → length xs ≤ k → drop k (map f xs) ≡ []
-none_left [] f zero le = refl
-none_left [] f (suc k) le = refl
-none_left (y ∷ xs) f zero le = absurd (omega (arith, le))
-none_left (y ∷ xs) f (suc k) le = none_left xs f k (omega (arith, le))
 
 -- ---- one pattern more
 
@@ -67,20 +60,6 @@ starts_on at at' starts left rest tree whole first further so_far =
     ∙ sym (ap (λ l. starts ++ pattern_starts l at) first)
     ∙ so_far
 
-pub none_after_code : (slots p : ℕ) (states : List State) (left : List Tree) (whole : Code) → left ≡ [] → map node_of states ++ patterns_code slots p left (length states) ≡ whole → map node_of states ≡ whole
-none_after_code slots p states left whole none so_far = sym (no_code (map node_of states) (patterns_code slots p left (length states)) (ap (λ l. patterns_code slots p l (length states)) none)) ∙ so_far
-  where
-    no_code : (xs ys : Code) → ys ≡ [] → xs ++ ys ≡ xs
-    no_code [] ys e = e
-    no_code (x ∷ xs) ys e = ap (λ zs. x ∷ zs) (no_code xs ys e)
-
-pub none_after_starts : (at : ℕ) (starts : List ℕ) (left : List Tree) (whole : List ℕ) → left ≡ [] → starts ++ pattern_starts left at ≡ whole → starts ≡ whole
-none_after_starts at starts left whole none so_far = sym (no_start starts (pattern_starts left at) (ap (λ l. pattern_starts l at) none)) ∙ so_far
-  where
-    no_start : (xs ys : List ℕ) → ys ≡ [] → xs ++ ys ≡ xs
-    no_start [] ys e = e
-    no_start (x ∷ xs) ys e = ap (λ zs. x ∷ zs) (no_start xs ys e)
-
 -- ---- weights
 
 pub weights_on : (left rest : List Tree) (tree : Tree) → left ≡ tree ∷ rest → sum_of_weights left ≡ pattern_weight tree + sum_of_weights rest
@@ -89,57 +68,11 @@ weights_on left rest tree first = ap sum_of_weights first
 pub size_of_first : (tree : Tree) → 3 + size_of tree ≤ pattern_weight tree
 size_of_first tree = omega (arith, size_le_weight tree)
 
--- each pattern weighs 3 at least
-pub few_patterns : (trees : List Tree) → 3 * length trees ≤ sum_of_weights trees
-few_patterns [] = omega arith
-few_patterns (tree ∷ trees) = omega (arith, few_patterns trees)
-
 pub weight_on : (weight weight' w : ℕ) (left rest : List Tree) (tree : Tree) (total : ℕ) → left ≡ tree ∷ rest → w ≡ held (pattern_weight tree) → weight' ≡ min (weight + w) (2 ^ 64 - 1) → held (weight + sum_of_weights left) ≡ held total
     → held (weight' + sum_of_weights rest) ≡ held total
 weight_on weight weight' w left rest tree total first is more so_far = omega (arith, weights_on left rest tree first, is, more, so_far)
 
-pub weight_told : (weight : ℕ) (left : List Tree) (total : ℕ) → left ≡ [] → weight < 2 ^ 64 → held (weight + sum_of_weights left) ≡ held total → weight ≡ held total
-weight_told weight left total none fits so_far = omega (arith, ap sum_of_weights none, fits, so_far)
-
-pub weighs_alone : (trees : List Tree) → length trees ≡ 1 → weight_of_all trees ≡ sum_of_weights trees
-weighs_alone [] e = absurd (omega (arith, e))
-weighs_alone (tree ∷ []) e = omega arith
-weighs_alone (tree ∷ other ∷ trees) e = absurd (omega (arith, e))
-
-pub weighs_under_one : (trees : List Tree) → (length trees ≡ 1 → ⊥) → weight_of_all trees ≡ 1 + sum_of_weights trees
-weighs_under_one [] several = refl
-weighs_under_one (tree ∷ []) several = absurd (several refl)
-weighs_under_one (tree ∷ other ∷ trees) several = refl
-
-pub at_most_weight : (trees : List Tree) → sum_of_weights trees ≤ weight_of_all trees
-at_most_weight [] = omega arith
-at_most_weight (tree ∷ []) = omega arith
-at_most_weight (tree ∷ other ∷ trees) = omega arith
-
 -- ---- the program
-
-pub nodes_of_one : (trees : List Tree) (tree : Tree) (terminator : ℕ) → trees ≡ tree ∷ [] → (program_of trees terminator).nodes ≡ pattern_code 0 0 tree 0
-nodes_of_one trees tree terminator is = ap (λ l. (program_of l terminator).nodes) is
-
-pub starts_of_one : (trees : List Tree) (terminator : ℕ) → length trees ≡ 1 → (program_of trees terminator).patterns ≡ pattern_starts trees 0
-starts_of_one [] terminator e = absurd (omega (arith, e))
-starts_of_one (tree ∷ []) terminator e = refl
-starts_of_one (tree ∷ other ∷ trees) terminator e = absurd (omega (arith, e))
-
-pub nodes_of_several : (trees : List Tree) (terminator : ℕ) → (length trees ≡ 1 → ⊥) → (program_of trees terminator).nodes ≡ pass (pattern_starts trees 1) ∷ patterns_code (2 * length trees - 2) 0 trees 1
-nodes_of_several [] terminator several = refl
-nodes_of_several (tree ∷ []) terminator several = absurd (several refl)
-nodes_of_several (tree ∷ other ∷ trees) terminator several = refl
-
-pub starts_of_several : (trees : List Tree) (terminator : ℕ) → (length trees ≡ 1 → ⊥) → (program_of trees terminator).patterns ≡ pattern_starts trees 1
-starts_of_several [] terminator several = refl
-starts_of_several (tree ∷ []) terminator several = absurd (several refl)
-starts_of_several (tree ∷ other ∷ trees) terminator several = refl
-
-pub rest_of_program : (trees : List Tree) (terminator : ℕ) → ((program_of trees terminator).start ≡ 0) × ((program_of trees terminator).line_terminator ≡ terminator)
-rest_of_program [] terminator = (refl, refl)
-rest_of_program (tree ∷ []) terminator = (refl, refl)
-rest_of_program (tree ∷ other ∷ trees) terminator = (refl, refl)
 
 abbrev made : Code → List ℕ → ℕ → ℕ → Program walks.Look (List Range)
 made nodes patterns start terminator = record { nodes = nodes; start = start; patterns = patterns; line_terminator = terminator }
@@ -151,31 +84,13 @@ made_whole (tree ∷ other ∷ trees) terminator = refl
 
 -- states and starts make the program
 pub program_is : (trees : List Tree) (terminator : ℕ) (p : ByteProgram) → map node_of p.states ≡ (program_of trees terminator).nodes → p.patterns ≡ (program_of trees terminator).patterns → p.start ≡ 0 → p.line_terminator ≡ terminator
-    → characters_of p ≡ program_of trees terminator
+    → character_program p ≡ program_of trees terminator
 program_is trees terminator p nodes starts first ends =
     ap₂ (λ a b. made a b p.start p.line_terminator) nodes starts
     ∙ ap₂ (λ a b. made (program_of trees terminator).nodes (program_of trees terminator).patterns a b) first ends
     ∙ made_whole trees terminator
 
--- the only one
-pub alone_is : {X : Type 0} (xs : List X) (f : X → Tree) (x : X) → length xs ≡ 1 → x ≡ get_or xs 0 x → map f xs ≡ f x ∷ []
-alone_is [] f x e is = absurd (omega (arith, e))
-alone_is (y ∷ []) f x e is = ap (λ z. f z ∷ []) (sym is)
-alone_is (y ∷ z ∷ xs) f x e is = absurd (omega (arith, e))
-
 -- ---- what is not too large
-
-pub is_small : (size_limit : Option ℕ) (w : ℕ) → (IsTooLarge size_limit w → ⊥) → ((limit : ℕ) → size_limit ≡ Some limit → limit < 2 ^ 64) → w < 2 ^ 63
-is_small None w small fits = by (cases_lt 2147483646 w)
-  where
-    by : (2147483646 < w) ⊎ (w ≤ 2147483646) → w < 2 ^ 63
-    by (inl above) = absurd (small above)
-    by (inr below) = omega (arith, below)
-is_small (Some limit) w small fits = by (cases_lt limit (40 * w))
-  where
-    by : (limit < 40 * w) ⊎ (40 * w ≤ limit) → w < 2 ^ 63
-    by (inl above) = absurd (small above)
-    by (inr below) = omega (arith, below, fits limit refl)
 
 -- the first of those left is one tree, however it was read
 pub same_first : (a b : Tree) (left rest others : List Tree) → left ≡ a ∷ rest → left ≡ b ∷ others → a ≡ b

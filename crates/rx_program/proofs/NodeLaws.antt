@@ -19,7 +19,7 @@ use Rattle.rx_program.specs.declared.compiler.Job.{Job}
 use Rattle.rx_program.specs.declared.compiler.Job.TheVariants as job
 use Rattle.rx_program.specs.Code.{code_of, place_of, branch_starts, branches_code}
 use Rattle.rx_program.specs.Programs.{node_of, ReadsItsSet}
-use Rattle.rx_program.specs.Jobs.{part_at, trees_before, HasRow, sizes_of, starts_of, Does, DoesJob}
+use Rattle.rx_program.specs.Jobs.{part_at, trees_before, HasPartsBefore, sizes_of, starts_of, JobIsDone, DoesJob}
 use Rattle.rx_program.proofs.PartLaws.{Stands, IsRow}
 use Rattle.rx_program.proofs.RowLaws.{trees_in, starts_are, sizes_are}
 use Rattle.rx_program.proofs.ShapeLaws.{empty_by, set_by, look_by, group_by, concat_by, alternation_by, repetition_by, group_child, repeated_child, concat_children, alternation_children}
@@ -44,7 +44,7 @@ module _ (parts : List Tree) (root : ℕ) (stands : Stands parts root (subtrees_
   concat_some count kind = let by = concat_by (part_at parts root) count kind in (concat_children parts root by.0 by.1 stands).some
 
   pub alternation_row : (count : ℕ) → root_of (part_at parts root) ≡ an_alternation count
-      → (1 ≤ root) × HasRow parts count (root - 1) × (1 + sizes_of (trees_before parts count (root - 1)) ≡ size_of (part_at parts root))
+      → (1 ≤ root) × HasPartsBefore parts count (root - 1) × (1 + sizes_of (trees_before parts count (root - 1)) ≡ size_of (part_at parts root))
   alternation_row count kind =
       let by = alternation_by (part_at parts root) count kind in
       let below = alternation_children parts root by.0 by.1 stands in
@@ -90,7 +90,7 @@ module _ (parts : List Tree) (root : ℕ) (stands : Stands parts root (subtrees_
         let by = concat_by (part_at parts root) count kind in
         let below = concat_children parts root by.0 by.1 stands in
         let does = does_concat parts (length states) root (root - 1) size next by.0 by.1 below.row (size_is ∙ ap size_of by.1) in
-        done [] (job.Row count (root - 1) size next ∷ []) (no_more states) f (subst (λ n. Does slots parts (length states) (job.Part root next) [] (job.Row n (root - 1) size next ∷ [])) by.2 does)
+        done [] (job.Row count (root - 1) size next ∷ []) (no_more states) f (subst (λ n. JobIsDone slots parts (length states) (job.Part root next) [] (job.Row n (root - 1) size next ∷ [])) by.2 does)
 
     pub alternation_done : (count base : ℕ) (s : State) (starts : List ℕ) → root_of (part_at parts root) ≡ an_alternation count → node_of s ≡ programs.pass starts → ReadsItsSet s
         → starts ≡ starts_of (trees_before parts count (root - 1)) base → base ≡ length states + 1 → more ≡ states ++ s ∷ [] → one ≡ jobs ++ job.Branches count (root - 1) next ∷ [] → DoesJob slots parts (job.Part root next) states more jobs one
@@ -102,4 +102,4 @@ module _ (parts : List Tree) (root : ℕ) (stands : Stands parts root (subtrees_
         let same : trees_before parts count (root - 1) ≡ trees_in trees = ap (λ n. trees_before parts n (root - 1)) (sym by.2) ∙ below.row.is in
         let entries : starts ≡ branch_starts trees (at + 1) = starts_is ∙ ap₂ starts_of same base_is ∙ sym (starts_are trees (at + 1)) in
         let does = does_alternation parts at root (root - 1) next trees s by.1 below.row (ap (λ x. x ∷ branches_code slots trees (at + 1) next) (node ∙ ap programs.pass entries)) reads in
-        done (s ∷ []) (job.Branches count (root - 1) next ∷ []) more_is f (subst (λ n. Does slots parts at (job.Part root next) (s ∷ []) (job.Branches n (root - 1) next ∷ [])) by.2 does)
+        done (s ∷ []) (job.Branches count (root - 1) next ∷ []) more_is f (subst (λ n. JobIsDone slots parts at (job.Part root next) (s ∷ []) (job.Branches n (root - 1) next ∷ [])) by.2 does)

@@ -3,7 +3,7 @@ use Rattle.std.proofs.Common.{◌≡◌, ℕ, ◌+◌, ◌-◌, ◌<◌, ◌≤�
 use Rattle.std.proofs.lemmas.List.{reverse-append, append-nil, get_or-append-add}
 use Rattle.rx_grammar.specs.Trees.{Tree, Trees, empty, one_of, look_at, group, concat, alternation, repeated, two, more}
 use Rattle.rx_grammar.specs.Subtrees.{subtrees_of, all_subtrees_of}
-use Rattle.rx_program.specs.Jobs.{part_at, trees_before, HasRow}
+use Rattle.rx_program.specs.Jobs.{part_at, trees_before, HasPartsBefore}
 
 -- the parts of a tree stand in a row among others, up to a root
 pub record Stands (parts : List Tree) (k : ℕ) (some : List Tree) : Type 0 where
@@ -117,7 +117,7 @@ rev_subtrees [] = []
 rev_subtrees (tree ∷ trees) = rev_subtrees trees ++ subtrees_of tree
 
 pub record IsRow (parts : List Tree) (count k : ℕ) (trees : List Tree) : Type 0 where
-  pub has : HasRow parts count k
+  pub has : HasPartsBefore parts count k
   pub is : trees_before parts count k ≡ trees
 
 pub row_back : (parts : List Tree) (k : ℕ) (trees : List Tree) → Stands parts k (rev_subtrees trees) → IsRow parts (length trees) k (reverse trees)

@@ -17,7 +17,7 @@ use Rattle.rx_walks.proofs.ProgramLaws.{bytes_refine}
 use Rattle.rx_walks.proofs.RefinementLaws.{refined, unrefined, least_refined}
 use Rattle.rx_program.specs.declared.states.State.{State}
 use Rattle.rx_program.specs.declared.states.State.TheVariants as state
-use Rattle.rx_program.specs.Programs.{node_of, automaton_of, automata_of, characters_of, ReadsItsSet, ByteProgram, IsByteProgram, HasWalksOfProgram}
+use Rattle.rx_program.specs.Programs.{node_of, automaton_of, automata_of, character_program, ReadsItsSet, ByteProgram, IsByteProgram, HasWalksOfProgram}
 
 -- a state whose node is over a set
 of_state : (s : State) (x : List Range) (r : ℕ) → ReadsItsSet s → node_of s ≡ set x r → (bytes : List ℕ) → run (automaton_of (Some s)) 0 bytes ≡ member_len (is_in x) bytes
@@ -53,9 +53,9 @@ reads_members p all q r x e bytes =
     ap (λ o. run (automaton_of o) 0 bytes) on.at ∙ of_state on.state x r reads on.is bytes
 
 -- so its walks over bytes are those over characters
-pub walks_of : (p : ByteProgram) → All ReadsItsSet p.states → HasWalksOfProgram p (characters_of p)
+pub walks_of : (p : ByteProgram) → All ReadsItsSet p.states → HasWalksOfProgram p (character_program p)
 walks_of p all is_word s =
-    let characters = characters_of p in
+    let characters = character_program p in
     let step = automata_of p in
     let refines : Refines (machine_of is_in is_word characters s) (byte_machine_of is_word characters step s) (λ q. (q, 0)) =
     bytes_refine put_note (first_by is_in) step characters.nodes (haystack_of (holds_in is_word p.line_terminator s) s) (reads_members p all) in

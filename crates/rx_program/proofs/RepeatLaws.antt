@@ -6,11 +6,10 @@ use Rattle.rx_grammar.specs.Weights.{may_be_empty, size_of, repeated_weight}
 use Rattle.rx_program.specs.declared.states.State.{State}
 use Rattle.rx_program.specs.declared.compiler.Job.{Job}
 use Rattle.rx_program.specs.declared.compiler.Job.TheVariants as job
-use Rattle.rx_walks.specs.Programs.{pass}
 use Rattle.rx_program.specs.Code.{entry_of, fork}
 use Rattle.rx_program.specs.Programs.{node_of, ReadsItsSet}
-use Rattle.rx_program.specs.Jobs.{part_at, Does, DoesJob}
-use Rattle.rx_program.proofs.TimesLaws.{does_none, does_times, does_loop, does_optional_loop, does_from}
+use Rattle.rx_program.specs.Jobs.{part_at, JobIsDone, DoesJob}
+use Rattle.rx_program.proofs.TimesLaws.{does_times, does_loop, does_optional_loop, does_from}
 use Rattle.rx_program.proofs.DoneLaws.{done, pushed_two, no_more}
 
 -- what is repeated has no more nodes than the repetition
@@ -34,16 +33,6 @@ part_fits_on rep tree e = elim (some_least rep.min rep.max (size_of tree) (may_b
   | inr le ↦ le
 ]
 
-pub copies_fit : (rep : Repetition) (tree : Tree) (most : Option ℕ) → rep.max ≡ most → (most ≡ Some 0 → ⊥) → rep.min * size_of tree ≤ size_of (repeated rep tree)
-copies_fit rep tree most e some = subst (λ m. rep.min * size_of tree ≤ repeated_weight rep.min m (size_of tree) (may_be_empty tree)) (sym e) (fit rep.min most (size_of tree) (may_be_empty tree) some)
-  where
-    fit : (n : ℕ) (most : Option ℕ) (s : ℕ) (may : Bool) → (most ≡ Some 0 → ⊥) → n * s ≤ repeated_weight n most s may
-    fit n (Some zero) s may some = absurd (some refl)
-    fit n (Some (suc m)) s may some = omega arith
-    fit zero None s false some = omega arith
-    fit zero None s true some = omega arith
-    fit (suc n) None s may some = omega arith
-
 module _ {slots : ℕ} (parts : List Tree) (states : List State) (jobs one two : List Job) (root next : ℕ) (rep : Repetition) (is : part_at parts (root + 1) ≡ repeated rep (part_at parts root)) (below : root < length parts) where
   pub times_done : (most on further : ℕ) → rep.max ≡ Some most → 0 < most → further ≡ most - rep.min → on ≡ entry_of further (length states + rep.min * size_of (part_at parts root)) next
       → one ≡ jobs ++ job.Optional rep.greedy further root next ∷ [] → two ≡ one ++ job.Copies rep.min root on ∷ [] → DoesJob slots parts (job.Part (root + 1) next) states states jobs two
@@ -53,7 +42,7 @@ module _ {slots : ℕ} (parts : List Tree) (states : List State) (jobs one two :
       let does = does_times parts (length states) (root + 1) root next rep t is refl below most on e some on_is' in
       done [] (job.Copies rep.min root on ∷ job.Optional rep.greedy further root next ∷ []) (no_more states)
       (pushed_two jobs one two (job.Optional rep.greedy further root next) (job.Copies rep.min root on) f g)
-      (subst (λ n. Does slots parts (length states) (job.Part (root + 1) next) [] (job.Copies rep.min root on ∷ job.Optional rep.greedy n root next ∷ [])) (sym further_is) does)
+      (subst (λ n. JobIsDone slots parts (length states) (job.Part (root + 1) next) [] (job.Copies rep.min root on ∷ job.Optional rep.greedy n root next ∷ [])) (sym further_is) does)
 
   pub from_done : (last end : ℕ) (back : State) → rep.max ≡ None → 0 < rep.min → last ≡ length states + (rep.min - 1) * size_of (part_at parts root) → end ≡ length states + rep.min * size_of (part_at parts root)
       → node_of back ≡ fork rep.greedy last next → ReadsItsSet back → one ≡ jobs ++ job.State back ∷ [] → two ≡ one ++ job.Copies rep.min root end ∷ [] → DoesJob slots parts (job.Part (root + 1) next) states states jobs two
@@ -64,7 +53,7 @@ module _ {slots : ℕ} (parts : List Tree) (states : List State) (jobs one two :
       let end_is' : end ≡ length states + suc n * size_of t = end_is ∙ ap (λ k. length states + k * size_of t) min_is in
       let does = does_from parts (length states) (root + 1) root next rep t is refl below n end back e min_is (node ∙ ap (λ k. fork rep.greedy k next) last_is) end_is' reads in
       done [] (job.Copies rep.min root end ∷ job.State back ∷ []) (no_more states) (pushed_two jobs one two (job.State back) (job.Copies rep.min root end) f g)
-      (subst (λ k. Does slots parts (length states) (job.Part (root + 1) next) [] (job.Copies k root end ∷ job.State back ∷ [])) (sym min_is) does)
+      (subst (λ k. JobIsDone slots parts (length states) (job.Part (root + 1) next) [] (job.Copies k root end ∷ job.State back ∷ [])) (sym min_is) does)
 
   pub optional_loop_done : (more : List State) (s back : State) (on : ℕ) → rep.max ≡ None → rep.min ≡ 0 → may_be_empty (part_at parts root) ≡ true → node_of s ≡ fork rep.greedy (length states + 1) next
       → node_of back ≡ fork rep.greedy (length states + 1) next → on ≡ length states + 1 + size_of (part_at parts root) → ReadsItsSet s → ReadsItsSet back
@@ -77,9 +66,5 @@ module _ {slots : ℕ} (parts : List Tree) (states : List State) (jobs one two :
       → at ≡ length states → more ≡ states ++ s ∷ [] → one ≡ jobs ++ job.Part root at ∷ [] → DoesJob slots parts (job.Part (root + 1) next) states more jobs one
   loop_done more s at e none never node reads at_is more_is f =
       done (s ∷ []) (job.Part root at ∷ []) more_is f
-      (subst (λ k. Does slots parts (length states) (job.Part (root + 1) next) (s ∷ []) (job.Part root k ∷ [])) (sym at_is)
+      (subst (λ k. JobIsDone slots parts (length states) (job.Part (root + 1) next) (s ∷ []) (job.Part root k ∷ [])) (sym at_is)
       (does_loop parts (length states) (root + 1) root next rep (part_at parts root) is refl below s e none never node reads))
-
-  pub none_done : (more : List State) (s : State) → rep.max ≡ Some 0 → node_of s ≡ pass (next ∷ []) → ReadsItsSet s → more ≡ states ++ s ∷ [] → DoesJob slots parts (job.Part (root + 1) next) states more jobs jobs
-  none_done more s e node reads more_is =
-      done (s ∷ []) [] more_is (no_more jobs) (does_none parts (length states) (root + 1) root next rep (part_at parts root) is refl below s e (ap (λ n. n ∷ []) node) reads)

@@ -16,7 +16,7 @@ use Rattle.rx_walks.specs.BackLaws.{PathsTurn, ProgramTurnsInBytes}
 use Rattle.rx_walks.specs.Reversed.{mirrored, last_by, indexed, those, is_match, is_match_of, arrived, edge_back, back_nodes, back_start, back_program}
 use Rattle.rx_walks.specs.Programs.{Node, match, pass, set, Program, put_note}
 use Rattle.rx_program.specs.declared.states.State.{State}
-use Rattle.rx_program.specs.Programs.{node_of, ByteProgram, characters_of}
+use Rattle.rx_program.specs.Programs.{node_of, ByteProgram, character_program}
 use Rattle.rx_program.specs.declared.reverse_states.ReverseState.{ReverseState}
 use Rattle.rx_program.specs.declared.reverse_states.ReverseState.TheVariants as state
 use Rattle.rx_program.specs.Reversed.{back_node_of, back_automaton_of, back_automata_of, back_characters_of, ReadsItsSetBack, ReverseByteProgram, IsReverseByteProgram, ReadsBackwards}
@@ -112,13 +112,13 @@ program_is a b nodes start patterns terminator =
 
 pub characters_are : (p : ByteProgram) (back : ReverseByteProgram) (states : List State) (patterns own : List ℕ) (start : ℕ) → states ≡ p.states → patterns ≡ p.patterns → own ≡ p.patterns
     → map back_node_of back.states ≡ back_nodes (map node_of p.states) p.patterns → start ≡ 2 * length states + length patterns → back.start ≡ start → back.patterns ≡ indexed (λ k s. start + 1 + k) 0 own
-    → back.line_terminator ≡ p.line_terminator → back_characters_of back ≡ back_program (characters_of p)
+    → back.line_terminator ≡ p.line_terminator → back_characters_of back ≡ back_program (character_program p)
 characters_are p back states patterns own start states_are patterns_are own_are nodes from begins starts terminator =
     let at : start ≡ back_start (map node_of p.states) p.patterns = omega (arith, from, ap length states_are, ap length patterns_are, length-map p.states node_of) in
-    program_is (back_characters_of back) (back_program (characters_of p)) nodes (begins ∙ at) (starts ∙ ap₂ (λ n xs. indexed (λ k s. n + 1 + k) 0 xs) at own_are) terminator
+    program_is (back_characters_of back) (back_program (character_program p)) nodes (begins ∙ at) (starts ∙ ap₂ (λ n xs. indexed (λ k s. n + 1 + k) 0 xs) at own_are) terminator
 
-pub walks_are : (p : ByteProgram) (back : ReverseByteProgram) → back_characters_of back ≡ back_program (characters_of p) → IsReverseByteProgram back
-    → ((back : ReverseByteProgram) → ProgramTurnsInBytes is_in (characters_of p) (back_automata_of back)) → ReadsBackwards back (characters_of p)
+pub walks_are : (p : ByteProgram) (back : ReverseByteProgram) → back_characters_of back ≡ back_program (character_program p) → IsReverseByteProgram back
+    → ((back : ReverseByteProgram) → ProgramTurnsInBytes is_in (character_program p) (back_automata_of back)) → ReadsBackwards back (character_program p)
 walks_are p back is reads law h low high =
-    subst (λ (z : Program walks.Look (List Range)). PathsTurn put_note is_in (characters_of p) h z (λ r i k e. Path (over_bytes put_note (back_automata_of back) z.nodes (mirrored h)) (r, 0) i k e)) (sym is)
+    subst (λ (z : Program walks.Look (List Range)). PathsTurn put_note is_in (character_program p) h z (λ r i k e. Path (over_bytes put_note (back_automata_of back) z.nodes (mirrored h)) (r, 0) i k e)) (sym is)
     (law back (subst (λ (z : Program walks.Look (List Range)). ReadsMembers (last_by is_in) (back_automata_of back) z.nodes) is reads.reads) h low high)

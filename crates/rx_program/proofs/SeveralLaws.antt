@@ -56,10 +56,6 @@ own_noted k i t noted = record {
   end = ap (λ x. slot_of t.notes (2 * x + 1)) noted.pattern ∙ noted.end;
 }
 
-starts_count : (trees : List Tree) (at : ℕ) → length (pattern_starts trees at) ≡ length trees
-starts_count [] at = refl
-starts_count (tree ∷ trees) at = omega (arith, starts_count trees (at + 3 + size_of tree))
-
 -- a match of the pattern with this number
 record NotesPattern (c i : ℕ) (t : Outcome Notes) : Type 0 where
   noted : HasNotedOwn i t

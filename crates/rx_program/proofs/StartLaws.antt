@@ -6,13 +6,13 @@ use Rattle.rx_grammar.specs.Trees.{Tree}
 use Rattle.rx_grammar.specs.Subtrees.{subtrees_of}
 use Rattle.rx_grammar.specs.Weights.{size_of}
 use Rattle.rx_grammar.specs.Nodes.{properties_of}
-use Rattle.rx_program.specs.Jobs.{part_at, trees_before, HasRow, sizes_of, starts_of}
+use Rattle.rx_program.specs.Jobs.{part_at, trees_before, HasPartsBefore, sizes_of, starts_of}
 use Rattle.rx_program.proofs.FactLaws.{known_by}
 use Rattle.rx_program.proofs.RowLaws.{sizes_of-append, starts_of-last}
 
 -- the parts left stand before those whose starts are known, the last one of these first
 pub record Left (parts : List Tree) (n root end most base : ℕ) (all starts : List ℕ) : Type 0 where
-  pub row : HasRow parts n root
+  pub row : HasPartsBefore parts n root
   pub end_is : end ≡ base + sizes_of (trees_before parts n root)
   pub few : end ≤ most
   pub some : 1 ≤ base
@@ -52,7 +52,7 @@ left_next parts n m root root' end end' most base all starts more part e top lef
     let here : base + sizes_of ts ≡ end' = omega (arith, end_is, size, on.end_is, sum) in
     let back : reverse more ≡ end' ∷ reverse starts = ap reverse more_is ∙ reverse-append starts (end' ∷ []) in
     record {
-      row = subst (HasRow parts m) (sym root_is') on.row.1;
+      row = subst (HasPartsBefore parts m) (sym root_is') on.row.1;
       end_is = sym here ∙ ap (λ k. base + sizes_of (trees_before parts m k)) (sym root_is');
       few = omega (arith, end_is, on.few);
       some = on.some;

@@ -8,8 +8,8 @@ use Rattle.rx_program.specs.declared.states.State.{State}
 use Rattle.rx_program.specs.declared.compiler.Job.TheVariants as job
 use Rattle.rx_program.specs.Code.{entry_of, fork, copies, optional, code_of, repetition_code}
 use Rattle.rx_program.specs.Programs.{node_of, ReadsItsSet}
-use Rattle.rx_program.specs.Jobs.{part_at, work_of, repetition_work, Does}
-use Rattle.rx_program.proofs.CaseLaws.{no_jobs, one_job, two_jobs, no_states, one_state}
+use Rattle.rx_program.specs.Jobs.{part_at, work_of, repetition_work, JobIsDone}
+use Rattle.rx_program.proofs.CaseLaws.{one_job, two_jobs, no_states, one_state}
 
 -- what a tree weighs and becomes, by the numbers of a repetition
 code_by : (slots : ℕ) (rep : Repetition) (tree : Tree) (most : Option ℕ) (at next : ℕ) → rep.max ≡ most
@@ -23,20 +23,9 @@ work_by : (rep : Repetition) (tree : Tree) (most : Option ℕ) → rep.max ≡ m
 work_by rep tree most e = ap (λ m. repetition_work rep.min m (work_of tree) (may_be_empty tree) + 1) e
 
 module _ {slots : ℕ} (parts : List Tree) (at root child next : ℕ) (rep : Repetition) (tree : Tree) (is : part_at parts root ≡ repeated rep tree) (below_is : part_at parts child ≡ tree) (below : child < length parts) where
-  -- h{0}
-  pub does_none : (s : State) → rep.max ≡ Some 0 → node_of s ∷ [] ≡ repetition_code rep.greedy rep.min (Some 0) (size_of tree) (may_be_empty tree) (code_of slots tree) at next → ReadsItsSet s
-      → Does slots parts at (job.Part root next) (s ∷ []) []
-  does_none s e code reads = record {
-    code = ap (λ t. code_of slots t at next) is ∙ code_by slots rep tree (Some 0) at next e ∙ sym code;
-    size = ap size_of is ∙ size_by rep tree (Some 0) e;
-    work = omega (arith, ap work_of is, work_by rep tree (Some 0) e);
-    jobs = no_jobs parts;
-    reads = one_state s reads;
-  }
-
   -- h{n,m}
   pub does_times : (most on : ℕ) → rep.max ≡ Some most → 0 < most → on ≡ entry_of (most - rep.min) (at + rep.min * size_of tree) next
-      → Does slots parts at (job.Part root next) [] (job.Copies rep.min child on ∷ job.Optional rep.greedy (most - rep.min) child next ∷ [])
+      → JobIsDone slots parts at (job.Part root next) [] (job.Copies rep.min child on ∷ job.Optional rep.greedy (most - rep.min) child next ∷ [])
   does_times zero on e some on_is = absurd (omega (arith, some))
   does_times (suc m) on e some on_is =
       let n = rep.min in
@@ -59,7 +48,7 @@ module _ {slots : ℕ} (parts : List Tree) (at root child next : ℕ) (rep : Rep
 
   -- h*, where h is never empty
   pub does_loop : (s : State) → rep.max ≡ None → rep.min ≡ 0 → may_be_empty tree ≡ false → node_of s ≡ fork rep.greedy (at + 1) next → ReadsItsSet s
-      → Does slots parts at (job.Part root next) (s ∷ []) (job.Part child at ∷ [])
+      → JobIsDone slots parts at (job.Part root next) (s ∷ []) (job.Part child at ∷ [])
   does_loop s e none never node reads = record {
     code = ap (λ t. code_of slots t at next) is ∙ code_by slots rep tree None at next e ∙ ap₂ (λ n may. repetition_code rep.greedy n None (size_of tree) may (code_of slots tree) at next) none never
         ∙ ap₂ (λ x y. x ∷ y) (sym node) (ap (λ t. code_of slots t (at + 1) at) (sym below_is) ∙ sym (append-nil (code_of slots (part_at parts child) (at + 1) at)));
@@ -71,7 +60,7 @@ module _ {slots : ℕ} (parts : List Tree) (at root child next : ℕ) (rep : Rep
 
   -- h*, where h may be empty
   pub does_optional_loop : (s back : State) (on : ℕ) → rep.max ≡ None → rep.min ≡ 0 → may_be_empty tree ≡ true → node_of s ≡ fork rep.greedy (at + 1) next → node_of back ≡ fork rep.greedy (at + 1) next
-      → on ≡ at + 1 + size_of tree → ReadsItsSet s → ReadsItsSet back → Does slots parts at (job.Part root next) (s ∷ []) (job.Part child on ∷ job.State back ∷ [])
+      → on ≡ at + 1 + size_of tree → ReadsItsSet s → ReadsItsSet back → JobIsDone slots parts at (job.Part root next) (s ∷ []) (job.Part child on ∷ job.State back ∷ [])
   does_optional_loop s back on e none may node node' on_is reads reads' = record {
     code = ap (λ t. code_of slots t at next) is ∙ code_by slots rep tree None at next e ∙ ap₂ (λ n may. repetition_code rep.greedy n None (size_of tree) may (code_of slots tree) at next) none may
         ∙ ap₂ (λ x y. x ∷ y) (sym node) (ap₂ (λ x y. x ++ y ∷ []) (ap₂ (λ t k. code_of slots t (at + 1) k) (sym below_is) (sym on_is)) (sym node'));
@@ -83,7 +72,7 @@ module _ {slots : ℕ} (parts : List Tree) (at root child next : ℕ) (rep : Rep
 
   -- h{n,}, where n is above 0
   pub does_from : (n end : ℕ) (back : State) → rep.max ≡ None → rep.min ≡ suc n → node_of back ≡ fork rep.greedy (at + n * size_of tree) next → end ≡ at + suc n * size_of tree → ReadsItsSet back
-      → Does slots parts at (job.Part root next) [] (job.Copies (suc n) child end ∷ job.State back ∷ [])
+      → JobIsDone slots parts at (job.Part root next) [] (job.Copies (suc n) child end ∷ job.State back ∷ [])
   does_from n end back e some node end_is reads =
       let from : at ≡ at + 0 = omega arith in
       record {

@@ -1,9 +1,6 @@
 -- How a program is turned round: of each of its nodes the edges that lead to it.
-use Rattle.std.specs.Prelude.{◌≡◌, ℕ, ◌-◌, ◌<◌, Bool, false, ◌==◌, cond, List, [], ◌∷◌, ◌++◌, length, map, get_or, slice_get, Option, Some, None, Vec}
+use Rattle.std.specs.Prelude.{◌≡◌, ℕ, ◌-◌, ◌<◌, Bool, false, ◌==◌, cond, List, [], ◌∷◌, ◌++◌, length, map, get_or, slice_get, Option, Some, None}
 use Rattle.rx_walks.specs.Programs.{Node, match, pass, note, look, set}
-
-abbrev pub lists_of : {A Z : Type 0} → List (Vec A Z) → List (List A)
-lists_of lists = map (λ list. list.items) lists
 
 abbrev pub is_number : Option ℕ → ℕ → Bool
 is_number None n = false
@@ -17,7 +14,7 @@ abbrev pub with_last : List ℕ → ℕ → List ℕ
 with_last xs n = cond (ends_with xs n) xs (xs ++ n ∷ [])
 
 -- the number was put at the end of those lists that pass a test
-pub record Puts (n : ℕ) (test : ℕ → Bool) (lists lists' : List (List ℕ)) : Type 0 where
+pub record PutsNumber (n : ℕ) (test : ℕ → Bool) (lists lists' : List (List ℕ)) : Type 0 where
   pub len : length lists' ≡ length lists
   pub each : (q : ℕ) → q < length lists
       → get_or lists' q [] ≡ cond (test q) (with_last (get_or lists q []) n) (get_or lists q [])

@@ -75,18 +75,18 @@ jobs_size parts [] = 0
 jobs_size parts (job ∷ jobs) = job_size parts job + jobs_size parts jobs
 
 -- so many parts stand in a row before a root
-abbrev pub HasRow : List Tree → ℕ → ℕ → Type 0
-HasRow parts zero root = Unit {0}
-HasRow parts (suc count) root = (root < length parts)
-    × HasRow parts count (root - length (subtrees_of (part_at parts root)))
+abbrev pub HasPartsBefore : List Tree → ℕ → ℕ → Type 0
+HasPartsBefore parts zero root = Unit {0}
+HasPartsBefore parts (suc count) root = (root < length parts)
+    × HasPartsBefore parts count (root - length (subtrees_of (part_at parts root)))
 
 -- a job's root is one of the parts, and the size of a row is kept with it
 abbrev pub IsJob : List Tree → Job → Type 0
 IsJob parts (job.Part root next) = root < length parts
 IsJob parts (job.State state) = ReadsItsSet state
 IsJob parts (job.Row count root size next) =
-    HasRow parts count root × (size ≡ sizes_of (trees_before parts count root))
-IsJob parts (job.Branches count root next) = HasRow parts count root
+    HasPartsBefore parts count root × (size ≡ sizes_of (trees_before parts count root))
+IsJob parts (job.Branches count root next) = HasPartsBefore parts count root
 IsJob parts (job.Copies count root next) = root < length parts
 IsJob parts (job.Optional greedy count root next) = root < length parts
 
@@ -132,7 +132,7 @@ jobs_work parts (job ∷ jobs) = job_work parts job + jobs_work parts jobs
 
 -- what was emitted, and the jobs that were put up, the first one first, do a job: from the state on
 -- that it begins with they become what it becomes, and they are less work
-pub record Does (slots : ℕ) (parts : List Tree) (at : ℕ) (job : Job) (emitted : List State)
+pub record JobIsDone (slots : ℕ) (parts : List Tree) (at : ℕ) (job : Job) (emitted : List State)
     (pushed : List Job) : Type 0 where
   pub code : job_code slots parts job at
       ≡ map node_of emitted ++ jobs_code slots parts pushed (at + length emitted)
@@ -148,4 +148,4 @@ pub record DoesJob (slots : ℕ) (parts : List Tree) (job : Job) (states more : 
   pub pushed : List Job
   pub states_are : more ≡ states ++ emitted
   pub jobs_are : left ≡ jobs ++ reverse pushed
-  pub does : Does slots parts (length states) job emitted pushed
+  pub does : JobIsDone slots parts (length states) job emitted pushed

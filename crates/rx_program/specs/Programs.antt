@@ -44,8 +44,8 @@ pub record ByteProgram : Type 0 where
   pub line_terminator : ℕ
 
 -- the program over characters that it stands for
-abbrev pub characters_of : ByteProgram → Program walks.Look (List Range)
-characters_of p = record {
+abbrev pub character_program : ByteProgram → Program walks.Look (List Range)
+character_program p = record {
   nodes = map node_of p.states;
   start = p.start;
   patterns = p.patterns;
@@ -58,10 +58,10 @@ automata_of p q = automaton_of (slice_get p.states q)
 
 -- each automaton reads the characters of its node's set
 abbrev pub IsByteProgram : ByteProgram → Type 0
-IsByteProgram p = ReadsMembers (first_by is_in) (automata_of p) (characters_of p).nodes
+IsByteProgram p = ReadsMembers (first_by is_in) (automata_of p) (character_program p).nodes
 
 -- in each search, of any content, the program over bytes has the walks of a program over characters
 abbrev pub HasWalksOfProgram : ByteProgram → Program walks.Look (List Range) → Type 0
 HasWalksOfProgram p characters = (is_word : ℕ → Bool) (s : Search)
     → HasWalksOf (machine_of is_in is_word characters s)
-    (byte_machine_of is_word (characters_of p) (automata_of p) s) (λ q. (q, 0))
+    (byte_machine_of is_word (character_program p) (automata_of p) s) (λ q. (q, 0))

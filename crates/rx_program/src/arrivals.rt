@@ -1,8 +1,9 @@
 //! Of each state of a program the edges that lead to it, and the ends of matches by their pattern.
 
-ghost use Rattle.std.specs.Prelude.{ℕ, ◌≡◌, ◌+◌, ◌*◌, ◌<◌, ◌^◌, ◌==◌, [], length, map, OnOk, IfOk};
+ghost use Rattle.std.specs.Prelude.{◌≡◌, ◌+◌, ◌*◌, ◌<◌, ◌^◌, ◌==◌, [], length, map, OnOk, IfOk};
 ghost use Rattle.rx_walks.specs.Reversed.{arrived, has, is_match, is_match_of, leads_to, those};
-ghost use Rattle.rx_program.specs.Arrivals.{AreLists, Puts, ends_with, lists_of, match_in, with_last};
+ghost use Rattle.rx_utf8.specs.Subsets.{lists_of};
+ghost use Rattle.rx_program.specs.Arrivals.{AreLists, PutsNumber, ends_with, match_in, with_last};
 ghost use Rattle.rx_program.specs.Programs.{node_of};
 
 use crate::states::State;
@@ -42,7 +43,7 @@ fn put_last(list: &mut Vec<StateID>, id: StateID) -> Result<(), AllocError>
 
 /// Puts the number at the end of the list at a place, if there is one.
 fn put_at(lists: &mut Vec<Vec<StateID>>, at: usize, id: StateID) -> Result<(), AllocError>
-    ensures { OnOk result (Puts id (λ q. at == q) (lists_of lists.old.items)
+    ensures { OnOk result (PutsNumber id (λ q. at == q) (lists_of lists.old.items)
         (lists_of lists.new.items)) }
 {
     if at < lists.len() {
@@ -57,7 +58,7 @@ fn put_at_all(
     states: &[StateID],
     id: StateID,
 ) -> Result<(), AllocError>
-    ensures { OnOk result (Puts id (λ q. has states.now q) (lists_of lists.old.items)
+    ensures { OnOk result (PutsNumber id (λ q. has states.now q) (lists_of lists.old.items)
         (lists_of lists.new.items)) }
 {
     for state in states {
@@ -68,7 +69,7 @@ fn put_at_all(
 
 /// Puts the number at the ends of the lists of the states to which the edges of a state lead.
 fn put_edges(lists: &mut Vec<Vec<StateID>>, state: &State, id: StateID) -> Result<(), AllocError>
-    ensures { OnOk result (Puts id (λ q. leads_to q (node_of state.now))
+    ensures { OnOk result (PutsNumber id (λ q. leads_to q (node_of state.now))
         (lists_of lists.old.items) (lists_of lists.new.items)) }
 {
     match state {
@@ -144,7 +145,7 @@ pub(crate) fn ends(alloc: Global, states: &[State]) -> Result<Vec<StateID>, Allo
 
 /// Puts the number at the end of the list of the pattern whose match ends at a state.
 fn put_match(lists: &mut Vec<Vec<StateID>>, state: &State, id: StateID) -> Result<(), AllocError>
-    ensures { OnOk result (Puts id (λ k. is_match_of k (node_of state.now))
+    ensures { OnOk result (PutsNumber id (λ k. is_match_of k (node_of state.now))
         (lists_of lists.old.items) (lists_of lists.new.items)) }
 {
     match match_of(state) {

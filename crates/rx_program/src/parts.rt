@@ -6,7 +6,7 @@ ghost use Rattle.rx_grammar.specs.Subtrees.{subtrees_of};
 ghost use Rattle.rx_grammar.specs.Postorder.{tree_of};
 ghost use Rattle.rx_grammar.specs.Weights.{size_of};
 ghost use Rattle.rx_grammar.specs.Nodes.{properties_of};
-ghost use Rattle.rx_program.specs.Jobs.{DoesJob, IsJob, job_size, HasRow, part_at, sizes_of, starts_of, trees_before};
+ghost use Rattle.rx_program.specs.Jobs.{DoesJob, IsJob, job_size, HasPartsBefore, part_at, sizes_of, starts_of, trees_before};
 
 use crate::compiler::{Compiler, Job, entry_of};
 use crate::states::State;
@@ -31,7 +31,7 @@ fn branch_starts(
     mut root: usize,
     mut end: usize,
 ) -> Result<Vec<StateID>, AllocError>
-    requires row { HasRow (subtrees_of (tree_of hir.now)) count root }
+    requires row { HasPartsBefore (subtrees_of (tree_of hir.now)) count root }
     requires room { sizes_of (trees_before (subtrees_of (tree_of hir.now)) count root) < end }
     ensures { let trees = trees_before (subtrees_of (tree_of hir.now)) count root in
         IfOk result (λ starts. starts.items ≡ starts_of trees (end - sizes_of trees)) }

@@ -7,7 +7,7 @@ ghost use Rattle.rx_grammar.specs.Weights.{held, pattern_weight, size_of};
 ghost use Rattle.rx_walks.specs.Programs.{pass};
 ghost use Rattle.rx_program.specs.Code.{pattern_code, pattern_starts, patterns_code, program_of};
 ghost use Rattle.rx_program.specs.Sizes.{IsTooLarge, sum_of_weights, told_limit, weight_of_all};
-ghost use Rattle.rx_program.specs.Programs.{node_of, ReadsItsSet, characters_of, HasWalksOfProgram};
+ghost use Rattle.rx_program.specs.Programs.{node_of, ReadsItsSet, character_program, HasWalksOfProgram};
 
 use crate::compiler::{Compiler, Job};
 use crate::error::BuildError;
@@ -191,7 +191,7 @@ pub fn compile(
     line_terminator: u8,
     size_limit: Option<usize>,
 ) -> Result<Program, BuildError>
-    ensures program { IfOk result (λ program. characters_of program
+    ensures program { IfOk result (λ program. character_program program
         ≡ program_of (map (λ hir. tree_of hir.now) hirs.now) line_terminator) }
     ensures walks { IfOk result (λ program. HasWalksOfProgram program
         (program_of (map (λ hir. tree_of hir.now) hirs.now) line_terminator)) }

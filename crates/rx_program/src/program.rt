@@ -1,7 +1,7 @@
 //! Compiled programs.
 
 ghost use Rattle.std.specs.Prelude.{◌≡◌, All};
-ghost use Rattle.rx_program.specs.Programs.{ReadsItsSet, characters_of, IsByteProgram, HasWalksOfProgram};
+ghost use Rattle.rx_program.specs.Programs.{ReadsItsSet, character_program, IsByteProgram, HasWalksOfProgram};
 
 use crate::states::State;
 use rx_util::StateID;
@@ -92,7 +92,7 @@ impl Program {
     /// bytes are those of the program over characters.
     pub fn walks_are_those_of_characters(&self)
         ensures reads { IsByteProgram self.now }
-        ensures walks { HasWalksOfProgram self.now (characters_of self.now) }
+        ensures walks { HasWalksOfProgram self.now (character_program self.now) }
     {
         let _states = self.states(); // tells that each automaton reads its set
     }

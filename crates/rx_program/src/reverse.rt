@@ -1,10 +1,11 @@
 //! Programs turned round.
 
-ghost use Rattle.std.specs.Prelude.{ℕ, ◌≡◌, ◌+◌, ◌*◌, ◌<◌, ◌^◌, ◌++◌, [], ◌∷◌, length, map, All, IfOk, IfSome, OnOk};
+ghost use Rattle.std.specs.Prelude.{◌≡◌, ◌+◌, ◌*◌, ◌<◌, ◌^◌, ◌++◌, ◌∷◌, length, map, All, IfOk, IfSome, OnOk};
 ghost use Rattle.rx_walks.specs.Programs.{match, pass};
 ghost use Rattle.rx_walks.specs.Reversed.{arrived, back_program, edge_back, indexed, is_match, is_match_of, those};
-ghost use Rattle.rx_program.specs.Arrivals.{lists_of, unions};
-ghost use Rattle.rx_program.specs.Programs.{characters_of, node_of};
+ghost use Rattle.rx_utf8.specs.Subsets.{lists_of};
+ghost use Rattle.rx_program.specs.Arrivals.{unions};
+ghost use Rattle.rx_program.specs.Programs.{character_program, node_of};
 ghost use Rattle.rx_program.specs.Reversed.{IsReverseByteProgram, ReadsBackwards, ReadsItsSetBack, back_characters_of, back_node_of};
 
 use crate::arrivals::{arrivals, ends, ends_by_pattern};
@@ -233,9 +234,9 @@ impl Program {
     /// the sets turned round, each of which is made once. It is refused for want of memory alone.
     pub fn reversed(&self) -> Result<ReverseProgram, AllocError>
         ensures characters { IfOk result (λ back. back_characters_of back
-            ≡ back_program (characters_of self.now)) }
+            ≡ back_program (character_program self.now)) }
         ensures reads { IfOk result IsReverseByteProgram }
-        ensures walks { IfOk result (λ back. ReadsBackwards back (characters_of self.now)) }
+        ensures walks { IfOk result (λ back. ReadsBackwards back (character_program self.now)) }
     {
         let alloc = self.allocator();
         let Some(start) = first_start(self.states().len(), self.patterns().len()) else {

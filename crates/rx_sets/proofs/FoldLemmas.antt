@@ -1,11 +1,10 @@
 -- Closing a set under simple case folding by the table of pairs.
-use Rattle.std.proofs.Common.{◌≡◌, ℕ, ◌↔◌, ◌==◌, Bool, true, false, ◌&&◌, ◌||◌, nat_le, List, [], ◌∷◌, ◌++◌, Contains, refl, sym, ap, subst, ◌∙◌, arith, inl, inr}
+use Rattle.std.proofs.Common.{◌≡◌, ℕ, ◌↔◌, ◌==◌, Bool, true, ◌&&◌, ◌||◌, List, Contains, refl, sym, ap, subst, ◌∙◌, arith, inl, inr}
 use Rattle.std.specs.List.{list_any, Any}
 use Rattle.std.proofs.lemmas.Bool.{or_cases, or_left, or_right, and_parts, and_from, eqb-true, eq-eqb, cases_eq}
 use Rattle.std.proofs.lemmas.Bool.Decides.{nat_tests}
 use Rattle.std.proofs.lemmas.List.Folds.{Any-from_list_any, list_any_at}
 use Rattle.unicode.specs.CaseFolding.{simple_fold, IsFoldPairs}
-use Rattle.rx_sets.proofs.RangeLemmas.{in_ranges-append}
 use Rattle.rx_sets.specs.Sets.{IsScalar, is_scalar, ordinal, Range, in_ranges, Holds, FoldsInto}
 
 pub IsScalar-from_test : (c : ℕ) → is_scalar c ≡ true → IsScalar c
@@ -56,10 +55,3 @@ folded_members ranges new pairs c table scalar is = (there, back)
       | inl same ↦ is ∙ or_left _ _ (subst (Holds ranges) same inside)
       | inr other ↦ is ∙ or_right _ _ (led_to d scalar' inside ((table d c).1 (other, sym folds)))
     ]
-
--- one more ordinal
-pub in_pushed : (ranges : List Range) (m n : ℕ) → in_ranges (ranges ++ (m, m) ∷ []) n ≡ (in_ranges ranges n || (m == n))
-in_pushed ranges m n = in_ranges-append ranges ((m, m) ∷ []) n ∙ ap (λ b. in_ranges ranges n || b) (single m n)
-  where
-    single : (m n : ℕ) → ((nat_le m n && nat_le n m) || false) ≡ (m == n)
-    single m n = grind (arith, nat_tests)

@@ -1,57 +1,11 @@
 -- The sets of letter classes.
-use Rattle.std.proofs.Common.{◌≡◌, ℕ, ◌+◌, ◌<◌, ◌≤◌, ◌↔◌, Bool, true, false, not, ◌||◌, min, IsTrue, IfOk, Result, Ok, Err, List, [], ◌∷◌, ◌++◌, refl, sym, ap, subst, ◌∙◌, arith, inl, inr, true≢false}
-use Rattle.std.proofs.lemmas.Bool.{or_cases, or_left, or_right, and_parts, and_from, cases_lt, leb-true, le-leb, ltb-true, lt-ltb}
-use Rattle.std.proofs.lemmas.Bool.Decides.{nat_tests}
+use Rattle.std.proofs.Common.{◌≡◌, ℕ, ◌≤◌, ◌↔◌, Bool, true, false, not, IsTrue, IfOk, Result, Ok, Err, List, [], ◌∷◌, refl, sym, subst, ◌∙◌, arith, inl, inr, true≢false}
+use Rattle.std.proofs.lemmas.Bool.{or_cases, or_left, or_right, and_parts, and_from, leb-true, le-leb}
 use Rattle.unicode.specs.Rows as rows
 use Rattle.rx_sets.specs.declared.items.ClassPerlKind.{ClassPerlKind}
-use Rattle.rx_sets.specs.Sets.{Range, part, IsScalar, ordinal, in_ranges, Holds, IsCanonical, IsSetOf, HasExactly, FoldsInto, in_kind, InPerl}
-use Rattle.rx_sets.specs.Unions.{OneOf, Adds, Between, scalars_below}
-use Rattle.rx_sets.proofs.RangeLemmas.{in_ranges-append, in_part}
+use Rattle.rx_sets.specs.Sets.{Range, IsScalar, in_ranges, Holds, IsCanonical, IsSetOf, HasExactly, FoldsInto, in_kind, InPerl}
+use Rattle.rx_sets.specs.Unions.{OneOf, Adds, Between}
 use Rattle.rx_sets.proofs.UnionLemmas.{IsSetOf-added, IsSetOf-complement, IsSetOf-closed, IsSetOf-map}
-
-le_ordinal : (a c : ℕ) → IsScalar c → a ≤ c → scalars_below a ≤ ordinal c
-le_ordinal a c scalar le = grind (arith, nat_tests)
-
-ordinal_le : (a c : ℕ) → IsScalar c → scalars_below a ≤ ordinal c → a ≤ c
-ordinal_le a c scalar le = grind (arith, nat_tests)
-
--- the code points from low to high, cut off behind the last one
-pub in_codes : (low high c : ℕ) → IsScalar c
-    → in_ranges (part (scalars_below low) (scalars_below (min high 0x10_FFFF + 1))) (ordinal c) ≡ true ↔ Between low high c
-in_codes low high c scalar =
-    let is = in_part (scalars_below low) (scalars_below (min high 0x10_FFFF + 1)) (ordinal c) in (
-      λ h.
-          let tests = and_parts _ _ (sym is ∙ h) in
-          let from : low ≤ c = ordinal_le low c scalar (leb-true _ _ tests.0) in
-          let to : ordinal c < scalars_below (min high 0x10_FFFF + 1) = ltb-true _ _ tests.1 in
-          (from, elim (cases_lt high c) [ inl above ↦ absurd (past high c scalar above to) | inr inside ↦ inside ]),
-      λ h. is ∙ and_from _ _ (le-leb _ _ (le_ordinal low c scalar h.0)) (lt-ltb _ _ (before high c scalar h.1)),
-    )
-  where
-    past : (high c : ℕ) → IsScalar c → high < c → ordinal c < scalars_below (min high 0x10_FFFF + 1) → ⊥
-    past high c scalar above less =
-        let le = le_ordinal (min high 0x10_FFFF + 1) c scalar (omega arith) in
-        omega arith
-
-    before : (high c : ℕ) → IsScalar c → c ≤ high → ordinal c < scalars_below (min high 0x10_FFFF + 1)
-    before high c scalar le =
-        elim (cases_lt (ordinal c) (scalars_below (min high 0x10_FFFF + 1))) [
-          | inl less ↦ less
-          | inr more ↦ (let at = ordinal_le (min high 0x10_FFFF + 1) c scalar more in let top : c ≤ 0x10_FFFF = scalar_top c scalar in absurd (omega arith))
-        ]
-      where
-        scalar_top : (c : ℕ) → IsScalar c → c ≤ 0x10_FFFF
-        scalar_top c (inl low) = omega arith
-        scalar_top c (inr high) = high.1
-
-pub Adds-part : (old new : List Range) (low high : ℕ) → new ≡ old ++ part (scalars_below low) (scalars_below (min high 0x10_FFFF + 1)) → Adds old new (Between low high)
-Adds-part old new low high is c scalar =
-    let codes = part (scalars_below low) (scalars_below (min high 0x10_FFFF + 1)) in
-    let split : in_ranges new (ordinal c) ≡ (in_ranges old (ordinal c) || in_ranges codes (ordinal c)) =
-    ap (λ l. in_ranges l (ordinal c)) is ∙ in_ranges-append old codes (ordinal c) in (
-      λ h. elim (or_cases _ _ (sym split ∙ h)) [ inl a ↦ inl a | inr b ↦ inr ((in_codes low high c scalar).0 b) ],
-      λ h. split ∙ elim h [ inl a ↦ or_left _ _ a | inr p ↦ or_right _ _ ((in_codes low high c scalar).1 p) ],
-    )
 
 some_row : (codes : List Range) (c : ℕ) → OneOf (λ (r : Range). Between r.0 r.1 c) codes → rows.in_ranges codes c ≡ true
 unfolding rows.in_ranges
@@ -119,10 +73,6 @@ just_one c d = (λ h. both h.0 h.1, λ e. (omega arith, omega arith))
     both up down = omega arith
 
 -- what is seen as a set is one too
-pub IfOk-seen : {T E : Type 0} (r : Result T E) (view : T → List Range) (set : List Range) (P : ℕ → Type 0) → IfOk r (λ x. view x ≡ set) → IsSetOf set P → IfOk r (λ x. IsSetOf (view x) P)
-IfOk-seen (Ok x) view set P same is = subst (λ (s : List Range). IsSetOf s P) (sym same) is
-IfOk-seen (Err e) view set P same is = tt
-
 pub IsSetOf-along : (set other : List Range) (P : ℕ → Type 0) → other ≡ set → IsSetOf set P → IsSetOf other P
 IsSetOf-along set other P same is = subst (λ (s : List Range). IsSetOf s P) (sym same) is
 

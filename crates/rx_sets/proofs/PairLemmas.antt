@@ -1,14 +1,12 @@
 -- The pairs of code points with one simple case folding, in order.
-use Rattle.std.proofs.Common.{◌≡◌, ℕ, zero, suc, ◌+◌, ◌-◌, ◌<◌, ◌≤◌, ◌↔◌, ◌⊎◌, ◌==◌, true, false, ◌&&◌, ◌||◌, nat_le, nat_lt, List, [], ◌∷◌, length, take, drop, get_or, Contains, refl, sym, ap, subst, ◌∙◌, arith, inl, inr, true≢false, ◌≢◌}
-use Rattle.std.proofs.lemmas.Bool.{or_cases, and_parts, and_from, cases_eq, cases_lt, ltb-true, ltb-false, leb-true, leb-false, eqb-true}
+use Rattle.std.proofs.Common.{◌≡◌, ℕ, zero, suc, ◌+◌, ◌-◌, ◌<◌, ◌≤◌, ◌↔◌, ◌⊎◌, ◌==◌, true, false, ◌&&◌, ◌||◌, nat_le, nat_lt, List, [], ◌∷◌, length, take, drop, get_or, Contains, refl, sym, ap, subst, ◌∙◌, arith, inl, inr, ◌≢◌}
+use Rattle.std.proofs.lemmas.Bool.{or_cases, and_parts, cases_eq, cases_lt, ltb-true, ltb-false, leb-true, leb-false, eqb-true}
 use Rattle.std.proofs.lemmas.List.{length-take-le, length-drop, get_or-drop, get_or-take}
-use Rattle.std.proofs.lemmas.Bool.Decides.{nat_tests}
 use Rattle.std.specs.List.Sorted.{IsNonDecreasingBy, IsPartitionPoint}
 use Rattle.unicode.specs.CaseFolding.{simple_fold, fold_pairs, IsFoldPairs}
 use Rattle.unicode.proofs.BoundLemmas.{pairs_rise, pairs_rise-fold_pairs}
-use Rattle.rx_sets.specs.Sets.{IsScalar, is_scalar, ordinal, in_ranges, FoldsInto}
-use Rattle.rx_sets.specs.Unions.{OneOf, Between, Leads, LeadsOut}
-use Rattle.rx_sets.proofs.FoldLemmas.{IsScalar-from_test, is_scalar-true, ordinal-unique}
+use Rattle.rx_sets.specs.Sets.{IsScalar, FoldsInto}
+use Rattle.rx_sets.specs.Unions.{OneOf, Between, LeadsOut}
 use Rattle.rx_sets.proofs.UnionLemmas.{OneOf-from, OneOf-some}
 
 abbrev Pair : Type 0
@@ -100,27 +98,6 @@ pairs_found table rest run i j low high meaning in_bounds first rest_is within l
           let listed : Contains table (a, b) = (meaning a b).1 (h.0, h.1) in
           subst (λ (l : List Pair). Contains l (a, b)) (sym run_is') (from_table table i j low high in_bounds first within' last' (a, b) (listed, h.2)),
     )
-
--- a pair of scalar values gives the ordinal of its second
-pub second_in : (pair : Pair) → (is_scalar pair.0 && is_scalar pair.1) ≡ true → (c : ℕ) → IsScalar c
-    → in_ranges ((ordinal pair.1, ordinal pair.1) ∷ []) (ordinal c) ≡ true ↔ Leads c pair
-second_in pair scalars c scalar =
-    let tests = and_parts _ _ scalars in (
-      λ h. (IsScalar-from_test pair.0 tests.0, ordinal-unique pair.1 c (IsScalar-from_test pair.1 tests.1) scalar (one_ordinal (ordinal pair.1) (ordinal c) h)),
-      λ leads. subst (λ n. in_ranges ((ordinal pair.1, ordinal pair.1) ∷ []) n ≡ true) (ap ordinal leads.1) (itself (ordinal pair.1)),
-    )
-  where
-    one_ordinal : (m n : ℕ) → ((nat_le m n && nat_le n m) || false) ≡ true → m ≡ n
-    one_ordinal m n h = grind (arith, nat_tests)
-
-    itself : (m : ℕ) → ((nat_le m m && nat_le m m) || false) ≡ true
-    itself m = grind (arith, nat_tests)
-
--- and another pair leads to no scalar value
-pub leads_nowhere : (pair : Pair) → (is_scalar pair.0 && is_scalar pair.1) ≡ false → (c : ℕ) → IsScalar c → Leads c pair → ⊥
-leads_nowhere pair none c scalar leads =
-    let second : IsScalar pair.1 = subst IsScalar (sym leads.1) scalar in
-    true≢false (sym (and_from _ _ (is_scalar-true pair.0 leads.0) (is_scalar-true pair.1 second)) ∙ none)
 
 -- what lies between two code points, with what the pairs lead to from there, is what folds into it
 pub folded_span : (run : List Pair) (low high : ℕ) → ((a b : ℕ) → Contains run (a, b) ↔ ((a ≢ b) × (simple_fold a ≡ simple_fold b) × Between low high a))

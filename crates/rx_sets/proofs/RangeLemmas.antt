@@ -206,9 +206,6 @@ none_from m (suc k) n (range ∷ ranges) rise below less = none_from (range.1 + 
 pub pushed : (old new more rest whole : List Range) → new ≡ old ++ more → old ++ (more ++ rest) ≡ whole → new ++ rest ≡ whole
 pushed old new more rest whole is e = ap (λ l. l ++ rest) is ∙ append_assoc old more rest ∙ e
 
-pub pushed_last : (old new more whole : List Range) → new ≡ old ++ more → old ++ more ≡ whole → new ≡ whole
-pushed_last old new more whole is e = is ∙ e
-
 -- the gaps are whole once no range is left
 pub gaps_whole : (next i : ℕ) (gaps new rs : List Range) → length rs ≤ i → gaps ++ gaps_from next (drop i rs) ≡ gaps_from 0 rs → new ≡ gaps ++ part next scalar_count → new ≡ gaps_from 0 rs
 gaps_whole next i gaps new rs past whole is = is ∙ ap (λ l. gaps ++ gaps_from next l) (sym (drop_all i rs past)) ∙ whole

@@ -33,19 +33,6 @@ OneOf-some P (x ∷ xs) (inr h) =
     let some = OneOf-some P xs h in
     (some.0, (suc some.1.0, omega (arith, some.1.1), some.1.2), some.2)
 
--- one more range
-pub Adds-pushed : (old new : List Range) (range : Range) (P : ℕ → Type 0) → new ≡ old ++ range ∷ []
-    → ((c : ℕ) → IsScalar c → in_ranges (range ∷ []) (ordinal c) ≡ true ↔ P c) → Adds old new P
-Adds-pushed old new range P is meant c scalar =
-    let split : in_ranges new (ordinal c) ≡ (in_ranges old (ordinal c) || in_ranges (range ∷ []) (ordinal c)) =
-    ap (λ l. in_ranges l (ordinal c)) is ∙ in_ranges-append old (range ∷ []) (ordinal c) in (
-      λ h. elim (or_cases _ _ (sym split ∙ h)) [ inl a ↦ inl a | inr b ↦ inr ((meant c scalar).0 b) ],
-      λ h. split ∙ elim h [ inl a ↦ or_left _ _ a | inr p ↦ or_right _ _ ((meant c scalar).1 p) ],
-    )
-
-pub Adds-nothing : (old : List Range) (P : ℕ → Type 0) → ((c : ℕ) → IsScalar c → P c → ⊥) → Adds old old P
-Adds-nothing old P none c scalar = (λ h. inl h, λ h. elim h [ inl a ↦ a | inr p ↦ absurd (none c scalar p) ])
-
 pub Adds-map : (old new : List Range) (P Q : ℕ → Type 0) → ((c : ℕ) → IsScalar c → P c ↔ Q c) → Adds old new P → Adds old new Q
 Adds-map old new P Q iff adds c scalar = (
   λ h. elim ((adds c scalar).0 h) [ inl a ↦ inl a | inr p ↦ inr ((iff c scalar).0 p) ],
@@ -68,9 +55,6 @@ Adds-both old middle new P Q first second c scalar = (
 -- what is appended so far, with what is to come of a list, makes what the whole list adds
 pub record Completes {X : Type 0} (Q : ℕ → X → Type 0) (old so_far : List Range) (rest all : List X) : Type 0 where
   pub both : (c : ℕ) → IsScalar c → (Holds so_far c ⊎ OneOf (Q c) rest) ↔ (Holds old c ⊎ OneOf (Q c) all)
-
-pub Completes-start : {X : Type 0} (Q : ℕ → X → Type 0) (old : List Range) (all : List X) → Completes Q old old all all
-Completes-start Q old all = record { both = λ c scalar. (λ h. h, λ h. h) }
 
 pub Completes-step : {X : Type 0} (Q : ℕ → X → Type 0) (old so_far new : List Range) (x : X) (rest left all : List X) → rest ≡ x ∷ left
     → Adds so_far new (λ c. Q c x) → Completes Q old so_far rest all → Completes Q old new left all

@@ -19,12 +19,12 @@ abbrev pub Between : ℕ → ℕ → ℕ → Type 0
 Between low high c = (low ≤ c) × (c ≤ high)
 
 -- the pair leads from a scalar value to another
-abbrev pub Leads : ℕ → ℕ × ℕ → Type 0
-Leads c pair = IsScalar pair.0 × (pair.1 ≡ c)
+abbrev pub PairLeads : ℕ → ℕ × ℕ → Type 0
+PairLeads c pair = IsScalar pair.0 × (pair.1 ≡ c)
 
 -- and that other isn't from low to high
 abbrev pub LeadsOut : ℕ → ℕ → ℕ → ℕ × ℕ → Type 0
-LeadsOut low high c pair = Leads c pair × (¬ Between low high c)
+LeadsOut low high c pair = PairLeads c pair × (¬ Between low high c)
 
 -- a letter class, and whether it is negated
 abbrev pub Letters : Type 0

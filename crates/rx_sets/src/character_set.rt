@@ -1,6 +1,6 @@
 //! Sets of scalar values.
 
-ghost use Rattle.std.specs.Prelude.{ℕ, ◌≡◌, ◌<◌, ◌≤◌, ◌||◌, ◌&&◌, not, [], ◌∷◌, ◌++◌, IfOk, OnOk, MatchOption, IsTrue, ◌↔◌};
+ghost use Rattle.std.specs.Prelude.{ℕ, ◌≡◌, ◌<◌, ◌≤◌, ◌||◌, ◌&&◌, not, [], ◌++◌, IfOk, OnOk, MatchOption, IsTrue, ◌↔◌};
 ghost use Rattle.rx_sets.specs.Sets.{ordinal, part, scalar_count, IsScalar, is_scalar, in_ranges, IsCanonical, HasExactly, Holds, FoldsInto};
 
 use std::alloc::{AllocError, Global};

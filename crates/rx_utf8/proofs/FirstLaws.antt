@@ -7,7 +7,7 @@ use Rattle.std.specs.Str.{continuation_len, lead_bits}
 use Rattle.std.specs.Char.{len_utf8}
 use lib.Utf8.{scalar, scalar_cases}
 use Rattle.rx_walks.specs.Characters.{member_len}
-use Rattle.rx_utf8.specs.Blocks.{high, is_next, rest, of_len, first}
+use Rattle.rx_utf8.specs.Blocks.{high, is_next, rest, of_len, first_len}
 use Rattle.rx_utf8.proofs.Helpers.{same_some, both, cond_true, cond_some, map_some, same_option}
 use Rattle.rx_walks.specs.Laws.{FirstCharacterStands}
 use Rattle.rx_utf8.proofs.CharacterLaws.{MemberFirst, member_stands, stands_member}
@@ -105,7 +105,7 @@ eq_from a b e = grind (arith, nat_tests)
 eq_to : (a b : ℕ) → a ≡ b → nat_eq a b ≡ true
 eq_to a b e = grind (arith, nat_tests)
 
-pub first_stands : (member : ℕ → Bool) (bs : List ℕ) (k : ℕ) → first member bs ≡ Some k → MemberFirst member bs k
+pub first_stands : (member : ℕ → Bool) (bs : List ℕ) (k : ℕ) → first_len member bs ≡ Some k → MemberFirst member bs k
 first_stands member [] k e = absurd (cc e)
 first_stands member (b ∷ bs) k e =
     let n = continuation_len b in
@@ -117,13 +117,13 @@ first_stands member (b ∷ bs) k e =
     let byte : b ≡ lead n (high n r.c) = lead_back b r.c (nat_lt b 128) (nat_lt b 224) (nat_lt b 240) refl refl refl r.bits len in
     record { c = r.c; scalar = h.0; is_in = h'.1; rest = r.left; bytes = ap₂ (λ x y. x ∷ y) byte r.bytes ∙ ap (λ x. x ++ r.left) (sym (encode_is n r.c len)); counted = m.2 ∙ ap suc r.counted ∙ sym len }
 
-pub stands_at : (member : ℕ → Bool) (bs : List ℕ) (k n : ℕ) (s : MemberFirst member bs k) → len_utf8 s.c ≡ suc n → first member bs ≡ Some k
+pub stands_at : (member : ℕ → Bool) (bs : List ℕ) (k n : ℕ) (s : MemberFirst member bs k) → len_utf8 s.c ≡ suc n → first_len member bs ≡ Some k
 stands_at member bs k n s len =
     let h = high n s.c in
     let one = lead_reads n s.c (below_all s.c s.scalar) len in
     let here : bs ≡ lead n h ∷ (tails n s.c ++ s.rest) = s.bytes ∙ ap (λ x. x ++ s.rest) (encode_is n s.c len) in
     let is : of_len member n s.c ≡ true = ap₂ (λ x y. x && y) s.scalar (ap₂ (λ x y. x && y) (eq_to (len_utf8 s.c) (suc n) len) s.is_in) in
-    ap (first member) here
+    ap (first_len member) here
     ∙ ap₂ (λ x y. option_map suc (rest (of_len member x) x y (tails n s.c ++ s.rest))) one.0 one.1
     ∙ ap (option_map suc) (reads_back (of_len member n) n s.c s.rest is)
     ∙ ap Some (sym len ∙ sym s.counted)
@@ -132,8 +132,8 @@ positive : (n : ℕ) → 1 ≤ n → (m : ℕ) × (n ≡ suc m)
 positive zero e = absurd (omega (arith, e))
 positive (suc m) e = (m, refl)
 
-pub stands_first : (member : ℕ → Bool) (bs : List ℕ) (k : ℕ) → MemberFirst member bs k → first member bs ≡ Some k
+pub stands_first : (member : ℕ → Bool) (bs : List ℕ) (k : ℕ) → MemberFirst member bs k → first_len member bs ≡ Some k
 stands_first member bs k s = let n = positive (len_utf8 s.c) (len_utf8_bounds s.c).0 in stands_at member bs k n.0 s n.1
 
-pub first_is : FirstCharacterStands → (member : ℕ → Bool) (bs : List ℕ) → first member bs ≡ member_len member bs
-first_is law member bs = same_option (first member bs) (member_len member bs) (λ k e. stands_member law member bs k (first_stands member bs k e)) (λ k e. stands_first member bs k (member_stands law member bs k e))
+pub first_is : FirstCharacterStands → (member : ℕ → Bool) (bs : List ℕ) → first_len member bs ≡ member_len member bs
+first_is law member bs = same_option (first_len member bs) (member_len member bs) (λ k e. stands_member law member bs k (first_stands member bs k e)) (λ k e. stands_first member bs k (member_stands law member bs k e))

@@ -2,7 +2,7 @@
 use Rattle.std.proofs.Common.{◌≡◌, ℕ, zero, suc, ◌+◌, ◌-◌, ◌*◌, ◌≤◌, Bool, true, false, cond, List, [], ◌∷◌, Option, Some, None, option_map, refl, sym, ap, subst, ◌∙◌, arith}
 use Rattle.std.specs.Str.{continuation_len, lead_bits}
 use Rattle.rx_walks.specs.Characters.{member_len}
-use Rattle.rx_utf8.specs.Blocks.{high, is_next, rest, of_len, first, IsPast, Fits, Starts}
+use Rattle.rx_utf8.specs.Blocks.{high, is_next, rest, of_len, first_len, IsPast, Fits, Starts}
 use Rattle.rx_walks.specs.Bytes.{run}
 use Rattle.rx_walks.specs.Laws.{FirstCharacterStands}
 use Rattle.rx_utf8.proofs.FirstLaws.{read_is, next_range, first_is}
@@ -42,7 +42,7 @@ fits_read step n p (suc r) v (Some (Some s)) fits (b ∷ bs) = ap (option_map su
     (λ is. fits_read step n p r (v * 64 + (b - 128)) (step s b) (fits.1 b is) bs)
     (λ is. ap (λ x. after step x bs) (fits.2 b is)))
 
-starts_read : (step : Step) (n : ℕ) (member : ℕ → Bool) → Starts step n member → (bs : List ℕ) → run step 0 bs ≡ first member bs
+starts_read : (step : Step) (n : ℕ) (member : ℕ → Bool) → Starts step n member → (bs : List ℕ) → run step 0 bs ≡ first_len member bs
 starts_read step n member starts [] = refl
 starts_read step n member starts (b ∷ bs) = run_after step 0 (step 0 b) bs ∙ fits_read step n (of_len member (continuation_len b)) (continuation_len b) (lead_bits b) (step 0 b) (starts b) bs
 

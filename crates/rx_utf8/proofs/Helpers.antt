@@ -1,12 +1,5 @@
 -- Small lemmas.
-use Rattle.std.proofs.Common.{◌≡◌, ℕ, zero, suc, ◌⊎◌, Bool, true, false, ◌&&◌, cond, List, [], ◌∷◌, Option, Some, None, option_map, Contains, refl, sym, arith, inl, inr}
-
-pub Contains-cases : {X : Type 0} (xs : List X) (y x : X) → Contains (y ∷ xs) x → (y ≡ x) ⊎ Contains xs x
-Contains-cases xs y x (zero, within, is) = inl is
-Contains-cases xs y x (suc k, within, is) = inr (k, omega (arith, within), is)
-
-pub none_seen : {X : Type 0} (x : X) → Contains [] x → ⊥
-none_seen x (k, within, is) = absurd (omega (arith, within))
+use Rattle.std.proofs.Common.{◌≡◌, ℕ, suc, Bool, true, false, ◌&&◌, cond, Option, Some, None, option_map, refl, sym}
 
 pub same_some : {X : Type 0} {o : Option X} {x y : X} → o ≡ Some x → o ≡ Some y → x ≡ y
 same_some e f = cc (e, f)

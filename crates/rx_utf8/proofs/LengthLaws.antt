@@ -5,7 +5,7 @@ use Rattle.std.specs.Char.{len_utf8}
 use lib.Utf8.{scalar, scalar_cases, low_scalar}
 use Rattle.rx_sets.specs.Sets.{Range, ordinal, in_ranges}
 use Rattle.rx_utf8.specs.Automata.{is_in}
-use Rattle.rx_utf8.specs.Blocks.{of_len, is_within, shifted_into, pick, AreMembers}
+use Rattle.rx_utf8.specs.Blocks.{of_len, is_within_shifted, shifted_into, pick, AreMembers}
 use Rattle.rx_utf8.proofs.Helpers.{both}
 
 -- a part of the set is its members of a length
@@ -32,10 +32,10 @@ same_parts false false true true f x y o first second from = elim (from refl ref
 same_parts false false true false f x y o first second from = refl
 same_parts false false false e f x y o first second from = refl
 
-within_is : (low high shift c : ℕ) → is_within low high shift c ≡ true → (low + shift ≤ c) × (c ≤ high + shift)
+within_is : (low high shift c : ℕ) → is_within_shifted low high shift c ≡ true → (low + shift ≤ c) × (c ≤ high + shift)
 within_is low high shift c e = let h = both (nat_le (low + shift) c) (nat_le c (high + shift)) e in (grind (arith, nat_tests, h.0), grind (arith, nat_tests, h.1))
 
-is_inside : (low high shift c : ℕ) → low + shift ≤ c → c ≤ high + shift → is_within low high shift c ≡ true
+is_inside : (low high shift c : ℕ) → low + shift ≤ c → c ≤ high + shift → is_within_shifted low high shift c ≡ true
 is_inside low high shift c from to = grind (arith, nat_tests)
 
 low_ordinal : (c : ℕ) → c < 0xD800 → ordinal c ≡ c
@@ -79,7 +79,7 @@ from_four c e = grind (arith, nat_tests)
 
 module _ (ranges : List Range) where
   of_one : (c : ℕ) → shifted_into [] ranges 0 0x7F 0 c ≡ of_len (is_in ranges) 0 c
-  of_one c = same_part (is_within 0 0x7F 0 c) (scalar c) (nat_eq (len_utf8 c) 1) (in_ranges ranges) (c - 0) (ordinal c)
+  of_one c = same_part (is_within_shifted 0 0x7F 0 c) (scalar c) (nat_eq (len_utf8 c) 1) (in_ranges ranges) (c - 0) (ordinal c)
       (λ e. let at = within_is 0 0x7F 0 c e in
       let less : c < 128 = omega (arith, at.1) in
       let low : c < 0xD800 = omega (arith, at.1) in
@@ -87,7 +87,7 @@ module _ (ranges : List Range) where
       (λ s e. let h = from_one c (len_from c 1 e) in is_inside 0 0x7F 0 c (omega arith) (omega (arith, h)))
 
   of_two : (c : ℕ) → shifted_into [] ranges 0x80 0x7FF 0 c ≡ of_len (is_in ranges) 1 c
-  of_two c = same_part (is_within 0x80 0x7FF 0 c) (scalar c) (nat_eq (len_utf8 c) 2) (in_ranges ranges) (c - 0) (ordinal c)
+  of_two c = same_part (is_within_shifted 0x80 0x7FF 0 c) (scalar c) (nat_eq (len_utf8 c) 2) (in_ranges ranges) (c - 0) (ordinal c)
       (λ e. let at = within_is 0x80 0x7FF 0 c e in
       let low : c < 0xD800 = omega (arith, at.1) in
       let from : 128 ≤ c = omega (arith, at.0) in
@@ -95,8 +95,8 @@ module _ (ranges : List Range) where
       (low_scalar c low, len_is c 2 (len_two c from less), omega (arith, low_ordinal c low)))
       (λ s e. let h = from_two c (len_from c 2 e) in is_inside 0x80 0x7FF 0 c (omega (arith, h.0)) (omega (arith, h.1)))
 
-  of_three : (c : ℕ) → ((is_within 0x800 0xD7FF 0 c && in_ranges ranges (c - 0)) || (is_within 0xD800 0xF7FF 0x800 c && in_ranges ranges (c - 0x800))) ≡ of_len (is_in ranges) 2 c
-  of_three c = same_parts (is_within 0x800 0xD7FF 0 c) (is_within 0xD800 0xF7FF 0x800 c) (scalar c) (nat_eq (len_utf8 c) 3) (in_ranges ranges) (c - 0) (c - 0x800) (ordinal c)
+  of_three : (c : ℕ) → ((is_within_shifted 0x800 0xD7FF 0 c && in_ranges ranges (c - 0)) || (is_within_shifted 0xD800 0xF7FF 0x800 c && in_ranges ranges (c - 0x800))) ≡ of_len (is_in ranges) 2 c
+  of_three c = same_parts (is_within_shifted 0x800 0xD7FF 0 c) (is_within_shifted 0xD800 0xF7FF 0x800 c) (scalar c) (nat_eq (len_utf8 c) 3) (in_ranges ranges) (c - 0) (c - 0x800) (ordinal c)
       (λ e. let at = within_is 0x800 0xD7FF 0 c e in
       let low : c < 0xD800 = omega (arith, at.1) in
       let from : 2048 ≤ c = omega (arith, at.0) in
@@ -115,7 +115,7 @@ module _ (ranges : List Range) where
       ])
 
   of_four : (c : ℕ) → shifted_into [] ranges 0xF800 0x10_F7FF 0x800 c ≡ of_len (is_in ranges) 3 c
-  of_four c = same_part (is_within 0xF800 0x10_F7FF 0x800 c) (scalar c) (nat_eq (len_utf8 c) 4) (in_ranges ranges) (c - 0x800) (ordinal c)
+  of_four c = same_part (is_within_shifted 0xF800 0x10_F7FF 0x800 c) (scalar c) (nat_eq (len_utf8 c) 4) (in_ranges ranges) (c - 0x800) (ordinal c)
       (λ e. let at = within_is 0xF800 0x10_F7FF 0x800 c e in
       let from : 65536 ≤ c = omega (arith, at.0) in
       let high : 0xE000 ≤ c = omega (arith, at.0) in
@@ -133,6 +133,6 @@ module _ (ranges : List Range) where
   parts_are_members one two half three four ones twos halves threes fours zero c few = ones c ∙ of_one c
   parts_are_members one two half three four ones twos halves threes fours (suc zero) c few = twos c ∙ of_two c
   parts_are_members one two half three four ones twos halves threes fours (suc (suc zero)) c few =
-      threes c ∙ ap (λ x. x || (is_within 0xD800 0xF7FF 0x800 c && in_ranges ranges (c - 0x800))) (halves c) ∙ of_three c
+      threes c ∙ ap (λ x. x || (is_within_shifted 0xD800 0xF7FF 0x800 c && in_ranges ranges (c - 0x800))) (halves c) ∙ of_three c
   parts_are_members one two half three four ones twos halves threes fours (suc (suc (suc zero))) c few = fours c ∙ of_four c
   parts_are_members one two half three four ones twos halves threes fours (suc (suc (suc (suc n)))) c few = absurd (omega (arith, few))

@@ -127,9 +127,6 @@ some_of_sets {Z = Z} (x ∷ sets) (suc from) (suc to) (suc t) s low high within 
     ap (λ k. in_some (lists_of (take k (drop from sets))) s) less ∙ some_of_sets sets from to t s (omega (arith, low)) (omega (arith, high)) (omega (arith, within)) is
 
 -- lists that are kept
-pub kept_same : {A : Type 0} (xs : List (List A)) → Extends xs xs
-kept_same xs = (omega arith, λ s below. refl)
-
 pub kept_on : {A : Type 0} (xs ys zs : List (List A)) → Extends xs ys → Extends ys zs → Extends xs zs
 kept_on xs ys zs one two = (omega (arith, one.0, two.0), λ s below. two.1 s (omega (arith, below, one.0)) ∙ one.1 s below)
 
@@ -164,6 +161,3 @@ known_at {Z = Z} sets list t known items same within at is =
 pub any_has : (xs : List ℕ) (q : ℕ) → list_any (λ y. y == q) xs ≡ has xs q
 any_has [] q = refl
 any_has (x ∷ xs) q = ap (λ z. (x == q) || z) (any_has xs q)
-
-pub below_from : (a b : ℕ) → true ≡ nat_lt a b → a < b
-below_from a b e = grind (arith, nat_tests)

@@ -119,9 +119,6 @@ look_up-longer to front x e rise b =
     up : RiseUpTo 0 to front x
     up = rise_front 0 to front x rise
 
-    inside : Bool
-    inside = nat_le x.first b && nat_le b x.last
-
     by_byte : (b ≡ to) ⊎ ((b < to) ⊎ (to < b)) → or_else (look_up front b) (cond (cond (nat_eq b to) true (nat_le x.first b && nat_le b x.last)) (Some x.next) None)
         ≡ cond (nat_eq b to) (Some x.next) (or_else (look_up front b) (cond (nat_le x.first b && nat_le b x.last) (Some x.next) None))
     by_byte (inl same) =

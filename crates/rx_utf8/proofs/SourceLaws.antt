@@ -6,10 +6,10 @@ use Rattle.std.proofs.lemmas.Bool.Decides.{nat_tests}
 use Rattle.std.proofs.lemmas.List.{append_assoc, at_drop_more, get_or_past}
 use Rattle.std.proofs.lemmas.List.Elements.{All-get_or}
 use Rattle.rx_walks.specs.Reversed.{has}
-use Rattle.rx_walks.specs.Transposed.{Place, leads_in}
+use Rattle.rx_walks.specs.Transposed.{ReadingPlace, leads_in}
 use Rattle.rx_utf8.specs.declared.byte_ranges.ByteRange.{ByteRange}
 use Rattle.rx_utf8.specs.declared.entries.Entry.{Entry}
-use Rattle.rx_utf8.specs.Automata.{look_up, step_in, IsRow, RiseWithin}
+use Rattle.rx_utf8.specs.Automata.{look_up, step_in, IsAutomatonRow, RiseWithin}
 use Rattle.rx_utf8.specs.Subsets.{lists_of, covers, entries_of, entries_from, sources}
 use Rattle.rx_utf8.proofs.RowLaws.{rise_below, equal_or_not}
 use Rattle.rx_utf8.proofs.ListLaws.{length_lists, list_at}
@@ -34,7 +34,7 @@ has_append : (xs ys : List ℕ) (q : ℕ) → has (xs ++ ys) q ≡ (has xs q || 
 has_append [] ys q = refl
 has_append (x ∷ xs) ys q = ap (λ z. (x == q) || z) (has_append xs ys q) ∙ sym (or_assoc (x == q) (has xs q) (has ys q))
 
-sources_append : (into : Place → Bool) (xs ys : List Entry) (b : ℕ) → sources into (xs ++ ys) b ≡ sources into xs b ++ sources into ys b
+sources_append : (into : ReadingPlace → Bool) (xs ys : List Entry) (b : ℕ) → sources into (xs ++ ys) b ≡ sources into xs b ++ sources into ys b
 sources_append into [] ys b = refl
 sources_append into (x ∷ xs) ys b =
     let one = cond (into x.range.next) (cond (covers x.range b) (x.source ∷ []) []) [] in
@@ -59,7 +59,7 @@ below_last : (range : ByteRange) (b : ℕ) → covers range b ≡ true → b < r
 below_last range b e = grind (arith, nat_tests)
 
 -- each state once, where the ranges of its row are disjoint
-row_sources : (T U : Place → Bool) → ((x : Place) → T x ≡ true → U x ≡ true) → (s b q low high : ℕ) (row : List ByteRange) → RiseWithin low high row
+row_sources : (T U : ReadingPlace → Bool) → ((x : ReadingPlace) → T x ≡ true → U x ≡ true) → (s b q low high : ℕ) (row : List ByteRange) → RiseWithin low high row
     → has (sources T (entries_of U s row) b) q ≡ ((s == q) && leads_in T (look_up row b))
 row_sources T U sub s b q low high [] rise = sym (and_false (s == q))
 row_sources T U sub s b q low high (range ∷ row) rise =
@@ -95,17 +95,17 @@ at_most k q h = grind (arith, nat_tests)
 above : (k q : ℕ) → q < k → nat_le k q ≡ false
 above k q h = grind (arith, nat_tests)
 
-pub rises_all : (rows : List (List ByteRange)) → All IsRow rows → (s : ℕ) → IsRow (get_or rows s [])
+pub rises_all : (rows : List (List ByteRange)) → All IsAutomatonRow rows → (s : ℕ) → IsAutomatonRow (get_or rows s [])
 rises_all rows all s = by_length (within_or_past s (length rows))
   where
     within_or_past : (a b : ℕ) → (a < b) ⊎ (b ≤ a)
     within_or_past a b = grind arith
 
-    by_length : (s < length rows) ⊎ (length rows ≤ s) → IsRow (get_or rows s [])
-    by_length (inl within) = All-get_or IsRow rows s [] within all
-    by_length (inr past) = subst IsRow (sym (get_or_past rows s [] past)) (omega arith)
+    by_length : (s < length rows) ⊎ (length rows ≤ s) → IsAutomatonRow (get_or rows s [])
+    by_length (inl within) = All-get_or IsAutomatonRow rows s [] within all
+    by_length (inr past) = subst IsAutomatonRow (sym (get_or_past rows s [] past)) (omega arith)
 
-rows_sources : (T U : Place → Bool) → ((x : Place) → T x ≡ true → U x ≡ true) → (k b q : ℕ) (rows : List (List ByteRange)) → ((s : ℕ) → IsRow (get_or rows s []))
+rows_sources : (T U : ReadingPlace → Bool) → ((x : ReadingPlace) → T x ≡ true → U x ≡ true) → (k b q : ℕ) (rows : List (List ByteRange)) → ((s : ℕ) → IsAutomatonRow (get_or rows s []))
     → has (sources T (entries_from U k rows) b) q ≡ (nat_le k q && leads_in T (look_up (get_or rows (q - k) []) b))
 rows_sources T U sub k b q [] rises = sym (ap (λ row. nat_le k q && leads_in T (look_up row b)) (at_none (q - k)) ∙ and_false (nat_le k q))
 rows_sources T U sub k b q (row ∷ rows) rises =
@@ -126,7 +126,7 @@ rows_sources T U sub k b q (row ∷ rows) rises =
         ap₂ (λ x y. (x && leads_in T (look_up row b)) || (y && leads_in T (look_up (get_or rows (q - (k + 1)) []) b))) (is_other k q (inr more)) (at_most (k + 1) q (omega (arith, more)))
         ∙ sym (ap₂ (λ x y. x && leads_in T (look_up y b)) (at_most k q (omega (arith, more))) (at_next row rows (q - k) (q - (k + 1)) (omega (arith, more))))
 
-pub step_sources : (T U : Place → Bool) → ((x : Place) → T x ≡ true → U x ≡ true) → (rows : List (List ByteRange)) → ((s : ℕ) → IsRow (get_or rows s [])) → (b q : ℕ)
+pub step_sources : (T U : ReadingPlace → Bool) → ((x : ReadingPlace) → T x ≡ true → U x ≡ true) → (rows : List (List ByteRange)) → ((s : ℕ) → IsAutomatonRow (get_or rows s [])) → (b q : ℕ)
     → has (sources T (entries_from U 0 rows) b) q ≡ leads_in T (step_in rows q b)
 step_sources T U sub rows rises b q =
     rows_sources T U sub 0 b q rows rises ∙ ap₂ (λ x k. x && leads_in T (look_up (get_or rows k []) b)) (at_most 0 q (omega arith)) (from_none q)
@@ -135,18 +135,18 @@ step_sources T U sub rows rises b q =
     from_none n = omega arith
 
 -- one row, one entry more
-pub entries_next : {Z : Type 0} (into : Place → Bool) (rows : List (Vec ByteRange Z)) (s : ℕ) (row : Vec ByteRange Z) → s < length rows → row ≡ get_or rows s row
+pub entries_next : {Z : Type 0} (into : ReadingPlace → Bool) (rows : List (Vec ByteRange Z)) (s : ℕ) (row : Vec ByteRange Z) → s < length rows → row ≡ get_or rows s row
     → entries_from into s (drop s (lists_of rows)) ≡ entries_of into s row.items ++ entries_from into (s + 1) (drop (s + 1) (lists_of rows))
 entries_next {Z = Z} into rows s row within is =
     at_drop_more (entries_from into s) (lists_of rows) s [] (omega (arith, within, length_lists rows))
     ∙ ap (λ x. entries_of into s x ++ entries_from into (s + 1) (drop (s + 1) (lists_of rows))) (list_at rows s row within ∙ ap (λ (x : Vec ByteRange Z). x.items) (sym is))
 
-sources_at : (into : Place → Bool) (entries : List Entry) (i b : ℕ) (d : Entry) → i < length entries
+sources_at : (into : ReadingPlace → Bool) (entries : List Entry) (i b : ℕ) (d : Entry) → i < length entries
     → sources into (drop i entries) b
     ≡ cond (into (get_or entries i d).range.next) (cond (covers (get_or entries i d).range b) ((get_or entries i d).source ∷ []) []) [] ++ sources into (drop (i + 1) entries) b
 sources_at into entries i b d within = at_drop_more (λ xs. sources into xs b) entries i d within
 
-pub fill_taken : (into : Place → Bool) (entries : List Entry) (i : ℕ) (d : Entry) (old new : List (List ℕ)) → i < length entries → into (get_or entries i d).range.next ≡ true
+pub fill_taken : (into : ReadingPlace → Bool) (entries : List Entry) (i : ℕ) (d : Entry) (old new : List (List ℕ)) → i < length entries → into (get_or entries i d).range.next ≡ true
     → ((b : ℕ) → get_or new b [] ≡ get_or old b [] ++ cond (covers (get_or entries i d).range b) ((get_or entries i d).source ∷ []) [])
     → ((b : ℕ) → get_or old b [] ++ sources into (drop i entries) b ≡ sources into entries b)
     → (b : ℕ) → get_or new b [] ++ sources into (drop (i + 1) entries) b ≡ sources into entries b
@@ -156,7 +156,7 @@ fill_taken into entries i d old new within is pushed so_far b =
     ap (λ xs. xs ++ rest) (pushed b) ∙ append_assoc (get_or old b []) one rest
     ∙ ap (λ xs. get_or old b [] ++ xs) (sym (sources_at into entries i b d within ∙ ap (λ t. cond t one [] ++ rest) is)) ∙ so_far b
 
-pub fill_left : (into : Place → Bool) (entries : List Entry) (i : ℕ) (d : Entry) (old : List (List ℕ)) → i < length entries → into (get_or entries i d).range.next ≡ false
+pub fill_left : (into : ReadingPlace → Bool) (entries : List Entry) (i : ℕ) (d : Entry) (old : List (List ℕ)) → i < length entries → into (get_or entries i d).range.next ≡ false
     → ((b : ℕ) → get_or old b [] ++ sources into (drop i entries) b ≡ sources into entries b)
     → (b : ℕ) → get_or old b [] ++ sources into (drop (i + 1) entries) b ≡ sources into entries b
 fill_left into entries i d old within is so_far b =

@@ -19,9 +19,6 @@ pub record Started (R : Rows) (codes : ℕ → List Range) (to : ℕ) (row : Lis
   pub fits : (b : ℕ) → b < to → Fits (step_in R) (length R) (in_ranges (codes (continuation_len b))) (continuation_len b) (lead_bits b) (look_up row b)
   pub rises : RiseWithin 0 to row
 
-pub started_none : (R : Rows) (codes : ℕ → List Range) → Started R codes 0 []
-started_none R codes = record { fits = λ b less. absurd (omega (arith, less)); rises = omega arith }
-
 started_next : (R S : Rows) (codes : ℕ → List Range) (to : ℕ) (row more : List ByteRange) (t : Option (Option ℕ)) → Extends R S → Started R codes to row
     → Fits (step_in S) (length S) (in_ranges (codes (continuation_len to))) (continuation_len to) (lead_bits to) t → look_up more to ≡ t → ((b : ℕ) → b < to → look_up more b ≡ look_up row b) → RiseWithin 0 (to + 1) more → Started S codes (to + 1) more
 started_next R S codes to row more t on started fit at others rises = record {

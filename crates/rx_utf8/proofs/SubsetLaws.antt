@@ -7,14 +7,14 @@ use Rattle.std.proofs.lemmas.List.{get_or_past}
 use Rattle.std.proofs.lemmas.List.Elements.{All-append, All-cons, All-nil}
 use Rattle.rx_walks.specs.Bytes.{Automaton}
 use Rattle.rx_walks.specs.Reversed.{has}
-use Rattle.rx_walks.specs.Transposed.{Place, leads_in, prior, at_the_end, LeadsBack, ReadsBack, NeverReturns, ReadsAlike}
+use Rattle.rx_walks.specs.Transposed.{ReadingPlace, leads_in, prior, at_the_end, LeadsBack, StandsForPlaces, NeverReturns, ReadsAlike}
 use Rattle.rx_utf8.specs.declared.byte_ranges.ByteRange.{ByteRange}
-use Rattle.rx_utf8.specs.Automata.{look_up, step_in, IsRow, RiseWithin}
+use Rattle.rx_utf8.specs.Automata.{look_up, step_in, IsAutomatonRow, RiseWithin}
 use Rattle.rx_utf8.specs.Blocks.{Extends}
-use Rattle.rx_utf8.specs.Subsets.{entries_from, sources, stands_for, SamePlaces, IsLeadOf, RowReads, AddsRows, lists_of, in_some, is_place}
+use Rattle.rx_utf8.specs.Subsets.{entries_from, sources, stands_for, SamePlaces, IsLeadOf, RowReads, AddsRowsUpTo, lists_of, in_some, is_place}
 use Rattle.rx_utf8.proofs.RowLaws.{rise_above, rise_more, leads_here, leads_before}
 use Rattle.rx_utf8.proofs.TargetLaws.{before_or_at}
-use Rattle.rx_utf8.proofs.ListLaws.{length_lists, one_of_sets, some_of_sets, kept_same, kept_on, kept_append, end_at, end_length}
+use Rattle.rx_utf8.proofs.ListLaws.{length_lists, one_of_sets, some_of_sets, kept_on, kept_append, end_at, end_length}
 use Rattle.rx_utf8.proofs.SourceLaws.{rises_all, step_sources}
 
 abbrev pub Rows : Type 0
@@ -32,12 +32,12 @@ below_false s n h = grind (arith, nat_tests)
 not_first : (t : ℕ) → 0 < t → nat_eq t 0 ≡ false
 not_first t h = grind (arith, nat_tests)
 
-same_lead : (those others : Place → Bool) → SamePlaces those others → (o : Option Place) → leads_in those o ≡ leads_in others o
+same_lead : (those others : ReadingPlace → Bool) → SamePlaces those others → (o : Option ReadingPlace) → leads_in those o ≡ leads_in others o
 same_lead those others same None = refl
 same_lead those others same (Some x) = same x
 
 -- where a byte leads back
-pub lead_reads : (step : Automaton) (n : ℕ) (those : Place → Bool) (b from : ℕ) (sets : List (List ℕ)) (set : List ℕ) (o : Option Place) → 0 < from
+pub lead_reads : (step : Automaton) (n : ℕ) (those : ReadingPlace → Bool) (b from : ℕ) (sets : List (List ℕ)) (set : List ℕ) (o : Option ReadingPlace) → 0 < from
     → ((s : ℕ) → has set s ≡ leads_in those (step s b)) → ((s : ℕ) → n ≤ s → step s b ≡ None) → IsLeadOf sets from set o
     → LeadsBack (length sets) step (λ next t. (from ≤ t) × SamePlaces (stands_for n sets t) next) those b o
 lead_reads step n those b from sets set None some is past lead = λ s. sym (is s) ∙ ap (λ xs. has xs s) lead
@@ -55,8 +55,8 @@ lead_reads step n those b from sets set (Some (Some t)) some is past lead = (sym
 no_row : (rows : Rows) (s b : ℕ) → length rows ≤ s → step_in rows s b ≡ None
 no_row rows s b past = ap (λ row. look_up row b) (get_or_past rows s [] past)
 
-pub row_reads : (rows : Rows) → All IsRow rows → (T U those : Place → Bool) → ((x : Place) → T x ≡ true → U x ≡ true) → SamePlaces T those → (sets : List (List ℕ)) (from : ℕ) → 0 < from
-    → (row : List ByteRange) → IsRow row → ((b : ℕ) → b < 256 → IsLeadOf sets from (sources T (entries_from U 0 rows) b) (look_up row b))
+pub row_reads : (rows : Rows) → All IsAutomatonRow rows → (T U those : ReadingPlace → Bool) → ((x : ReadingPlace) → T x ≡ true → U x ≡ true) → SamePlaces T those → (sets : List (List ℕ)) (from : ℕ) → 0 < from
+    → (row : List ByteRange) → IsAutomatonRow row → ((b : ℕ) → b < 256 → IsLeadOf sets from (sources T (entries_from U 0 rows) b) (look_up row b))
     → RowReads (length rows) (step_in rows) sets from those row
 row_reads rows all T U those sub same sets from some row rises leads b = by_byte (within_or_past b 256)
   where
@@ -73,15 +73,12 @@ pub record Led (sets : List (List ℕ)) (from : ℕ) (lists : List (List ℕ)) (
   pub leads : (b : ℕ) → b < to → IsLeadOf sets from (get_or lists b []) (look_up row b)
   pub rises : RiseWithin 0 to row
 
-pub led_none : (sets : List (List ℕ)) (from : ℕ) (lists : List (List ℕ)) → Led sets from lists 0 []
-led_none sets from lists = record { leads = λ b less. absurd (omega (arith, less)); rises = omega arith }
-
-lead_on : (sets sets' : List (List ℕ)) (from : ℕ) (set : List ℕ) (o : Option Place) → Extends sets sets' → IsLeadOf sets from set o → IsLeadOf sets' from set o
+lead_on : (sets sets' : List (List ℕ)) (from : ℕ) (set : List ℕ) (o : Option ReadingPlace) → Extends sets sets' → IsLeadOf sets from set o → IsLeadOf sets' from set o
 lead_on sets sets' from set None on lead = lead
 lead_on sets sets' from set (Some None) on lead = lead
 lead_on sets sets' from set (Some (Some t)) on lead = (lead.0, lead.1, omega (arith, lead.2, on.0), on.1 t lead.2 ∙ lead.3)
 
-led_next : (sets sets' : List (List ℕ)) (from : ℕ) (lists : List (List ℕ)) (to : ℕ) (row more : List ByteRange) (o : Option Place) → Extends sets sets' → Led sets from lists to row
+led_next : (sets sets' : List (List ℕ)) (from : ℕ) (lists : List (List ℕ)) (to : ℕ) (row more : List ByteRange) (o : Option ReadingPlace) → Extends sets sets' → Led sets from lists to row
     → IsLeadOf sets' from (get_or lists to []) o → look_up more to ≡ o → ((b : ℕ) → b < to → look_up more b ≡ look_up row b) → RiseWithin 0 (to + 1) more → Led sets' from lists (to + 1) more
 led_next sets sets' from lists to row more o on led lead at others rises = record {
   leads = λ b before. elim (before_or_at b to before) [
@@ -106,33 +103,24 @@ pub stands_on : (n : ℕ) (sets sets' : List (List ℕ)) (t : ℕ) → Extends s
 stands_on n sets sets' t on below None = refl
 stands_on n sets sets' t on below (Some s) = ap (λ set. nat_lt s n && has set s) (sym (on.1 t below))
 
-pub reads_grow : (n : ℕ) (step : Automaton) (sets sets' : List (List ℕ)) (from : ℕ) (those : Place → Bool) (row : List ByteRange) → Extends sets sets' → RowReads n step sets from those row → RowReads n step sets' from those row
+pub reads_grow : (n : ℕ) (step : Automaton) (sets sets' : List (List ℕ)) (from : ℕ) (those : ReadingPlace → Bool) (row : List ByteRange) → Extends sets sets' → RowReads n step sets from those row → RowReads n step sets' from those row
 reads_grow n step sets sets' from those row on reads b = by_lead (look_up row b) (reads b)
   where
-    by_lead : (o : Option Place) → LeadsBack (length sets) step (λ next t. (from ≤ t) × SamePlaces (stands_for n sets t) next) those b o
+    by_lead : (o : Option ReadingPlace) → LeadsBack (length sets) step (λ next t. (from ≤ t) × SamePlaces (stands_for n sets t) next) those b o
         → LeadsBack (length sets') step (λ next t. (from ≤ t) × SamePlaces (stands_for n sets' t) next) those b o
     by_lead None leads = leads
     by_lead (Some None) leads = leads
     by_lead (Some (Some t)) leads = (leads.0, (leads.1.0, λ x. sym (stands_on n sets sets' t on leads.3 x) ∙ leads.1.1 x), leads.2, omega (arith, leads.3, on.0))
 
 -- a level, row by row
-pub rows_none : (n : ℕ) (step : Automaton) (sets : List (List ℕ)) (rows : Rows) (from : ℕ) → length rows ≡ from → All IsRow rows → AddsRows n step sets rows from sets rows
-rows_none n step sets rows from same all = record {
-  sets_kept = kept_same sets;
-  rows_kept = kept_same rows;
-  added = same;
-  reads = λ t low high. absurd (omega (arith, low, high, same));
-  disjoint = all;
-}
-
-pub rows_next : (n : ℕ) (step : Automaton) (sets sets' sets'' : List (List ℕ)) (rows rows' : Rows) (to : ℕ) (row : List ByteRange) → AddsRows n step sets rows to sets' rows' → Extends sets' sets''
-    → RowReads n step sets'' (length sets) (stands_for n sets to) row → IsRow row → AddsRows n step sets rows (to + 1) sets'' (rows' ++ row ∷ [])
+pub rows_next : (n : ℕ) (step : Automaton) (sets sets' sets'' : List (List ℕ)) (rows rows' : Rows) (to : ℕ) (row : List ByteRange) → AddsRowsUpTo n step sets rows to sets' rows' → Extends sets' sets''
+    → RowReads n step sets'' (length sets) (stands_for n sets to) row → IsAutomatonRow row → AddsRowsUpTo n step sets rows (to + 1) sets'' (rows' ++ row ∷ [])
 rows_next n step sets sets' sets'' rows rows' to row so_far on reads rises = record {
   sets_kept = kept_on sets sets' sets'' so_far.sets_kept on;
   rows_kept = kept_on rows rows' (rows' ++ row ∷ []) so_far.rows_kept (kept_append rows' (row ∷ []));
   added = end_length rows' row ∙ ap (λ k. k + 1) so_far.added;
   reads = λ t low high. by_place t low (before_or_at t to high);
-  disjoint = All-append IsRow rows' (row ∷ []) so_far.disjoint (All-cons IsRow row [] rises (All-nil IsRow));
+  disjoint = All-append IsAutomatonRow rows' (row ∷ []) so_far.disjoint (All-cons IsAutomatonRow row [] rises (All-nil IsAutomatonRow));
 }
   where
     at_end : get_or (rows' ++ row ∷ []) to [] ≡ row
@@ -164,18 +152,18 @@ places_same n sets t end states within places None = places.end_is
 places_same n sets t end states within places (Some s) = places.states_are s ∙ ap (λ x. nat_lt s n && x) (one_of_sets sets t s within)
 
 pub places_within : {Z : Type 0} (n : ℕ) (sets : List (Vec ℕ Z)) (from to t : ℕ) (end : Bool) (states : List Bool) → from ≤ t → t < to → t < length sets → Places n sets from to end states
-    → (x : Place) → stands_for n (lists_of sets) t x ≡ true → is_place end states x ≡ true
+    → (x : ReadingPlace) → stands_for n (lists_of sets) t x ≡ true → is_place end states x ≡ true
 places_within n sets from to t end states low high within places None e = places.end_is ∙ first_from from t low e
 places_within n sets from to t end states low high within places (Some s) e =
     let parts = both (nat_lt s n) (has (get_or (lists_of sets) t []) s) e in
     places.states_are s ∙ ap₂ (λ x y. x && y) parts.0 (some_of_sets sets from to t s low high within parts.1)
 
-pub row_added : {Z : Type 0} (forward : Rows) → All IsRow forward → (sets sets' : List (Vec ℕ Z)) (sets'' : List (List ℕ)) (rows rows' : Rows) (from to t : ℕ)
+pub row_added : {Z : Type 0} (forward : Rows) → All IsAutomatonRow forward → (sets sets' : List (Vec ℕ Z)) (sets'' : List (List ℕ)) (rows rows' : Rows) (from to t : ℕ)
     (level_end end : Bool) (level states : List Bool) (row : List ByteRange)
-    → to ≡ length sets → from ≤ t → t < to → AddsRows (length forward) (step_in forward) (lists_of sets) rows t (lists_of sets') rows'
+    → to ≡ length sets → from ≤ t → t < to → AddsRowsUpTo (length forward) (step_in forward) (lists_of sets) rows t (lists_of sets') rows'
     → Places (length forward) sets from to level_end level → Places (length forward) sets' t (t + 1) end states
-    → Extends (lists_of sets') sets'' → ((b : ℕ) → b < 256 → IsLeadOf sets'' to (sources (is_place end states) (entries_from (is_place level_end level) 0 forward) b) (look_up row b)) → IsRow row
-    → AddsRows (length forward) (step_in forward) (lists_of sets) rows (t + 1) sets'' (rows' ++ row ∷ [])
+    → Extends (lists_of sets') sets'' → ((b : ℕ) → b < 256 → IsLeadOf sets'' to (sources (is_place end states) (entries_from (is_place level_end level) 0 forward) b) (look_up row b)) → IsAutomatonRow row
+    → AddsRowsUpTo (length forward) (step_in forward) (lists_of sets) rows (t + 1) sets'' (rows' ++ row ∷ [])
 row_added {Z = Z} forward all sets sets' sets'' rows rows' from to t level_end end level states row size low high so_far whole part on leads rises =
     rows_next (length forward) (step_in forward) (lists_of sets) (lists_of sets') sets'' rows rows' t row so_far on reads rises
   where
@@ -188,7 +176,7 @@ row_added {Z = Z} forward all sets sets' sets'' rows rows' from to t level_end e
     same : SamePlaces (is_place end states) (stands_for (length forward) (lists_of sets) t)
     same x = places_same (length forward) sets' t end states here_too part x ∙ sym (stands_on (length forward) (lists_of sets) (lists_of sets') t so_far.sets_kept (omega (arith, high, sizes)) x)
 
-    within : (x : Place) → is_place end states x ≡ true → is_place level_end level x ≡ true
+    within : (x : ReadingPlace) → is_place end states x ≡ true → is_place level_end level x ≡ true
     within x e = places_within (length forward) sets from to t level_end level low high (omega (arith, high, size)) whole x (sym (same x) ∙ e)
 
     reads : RowReads (length forward) (step_in forward) sets'' (length (lists_of sets)) (stands_for (length forward) (lists_of sets) t) row
@@ -201,10 +189,10 @@ pub record Made (n : ℕ) (step : Automaton) (more : ℕ) (sets : List (List ℕ
   pub some : 0 < length sets
   pub within : length rows ≤ length sets
   pub reads : (m : ℕ) (back : Automaton) → length sets ≤ m → ((s b : ℕ) → s < length rows → back s b ≡ step_in rows s b)
-      → ((t : ℕ) → length rows ≤ t → t < length sets → ReadsBack m step back more (stands_for n sets t) t)
-      → ReadsBack m step back 4 at_the_end 0
+      → ((t : ℕ) → length rows ≤ t → t < length sets → StandsForPlaces m step back more (stands_for n sets t) t)
+      → StandsForPlaces m step back 4 at_the_end 0
   pub never : NeverReturns (step_in rows)
-  pub disjoint : All IsRow rows
+  pub disjoint : All IsAutomatonRow rows
 
 first_stands : (n : ℕ) (sets : List (List ℕ)) → sets ≡ [] ∷ [] → SamePlaces (stands_for n sets 0) at_the_end
 first_stands n sets e None = refl
@@ -218,7 +206,7 @@ none_none : (s : ℕ) (b : ℕ) → step_in [] s b ≡ None
 none_none zero b = refl
 none_none (suc s) b = refl
 
-pub made_none : (n : ℕ) (step : Automaton) (sets : List (List ℕ)) (rows : Rows) → ((back : Automaton) → ReadsAlike step back) → All IsRow rows → sets ≡ [] ∷ [] → rows ≡ [] → Made n step 4 sets rows
+pub made_none : (n : ℕ) (step : Automaton) (sets : List (List ℕ)) (rows : Rows) → ((back : Automaton) → ReadsAlike step back) → All IsAutomatonRow rows → sets ≡ [] ∷ [] → rows ≡ [] → Made n step 4 sets rows
 made_none n step sets rows alike all are none = record {
   some = omega (arith, ap length are);
   within = omega (arith, ap length are, ap length none);
@@ -228,10 +216,10 @@ made_none n step sets rows alike all are none = record {
 }
 
 module _ (n : ℕ) (step : Automaton) (more : ℕ) (sets sets' : List (List ℕ)) (rows rows' : Rows) (alike : (back : Automaton) → ReadsAlike step back)
-    (made : Made n step (suc more) sets rows) (level : AddsRows n step sets rows (length sets) sets' rows') where
-  row_leads : (m : ℕ) (back : Automaton) → length sets' ≤ m → ((t : ℕ) → length sets ≤ t → t < length sets' → ReadsBack m step back more (stands_for n sets' t) t)
-      → (those : Place → Bool) (b : ℕ) (o : Option Place) → LeadsBack (length sets') step (λ next t. (length sets ≤ t) × SamePlaces (stands_for n sets' t) next) those b o
-      → LeadsBack m step (λ next t. ReadsBack m step back more next t) those b o
+    (made : Made n step (suc more) sets rows) (level : AddsRowsUpTo n step sets rows (length sets) sets' rows') where
+  row_leads : (m : ℕ) (back : Automaton) → length sets' ≤ m → ((t : ℕ) → length sets ≤ t → t < length sets' → StandsForPlaces m step back more (stands_for n sets' t) t)
+      → (those : ReadingPlace → Bool) (b : ℕ) (o : Option ReadingPlace) → LeadsBack (length sets') step (λ next t. (length sets ≤ t) × SamePlaces (stands_for n sets' t) next) those b o
+      → LeadsBack m step (λ next t. StandsForPlaces m step back more next t) those b o
   row_leads m back low each those b None leads = leads
   row_leads m back low each those b (Some None) leads = leads
   row_leads m back low each those b (Some (Some t)) leads =
@@ -243,13 +231,13 @@ module _ (n : ℕ) (step : Automaton) (more : ℕ) (sets sets' : List (List ℕ)
     within = omega (arith, level.added, level.sets_kept.0);
     reads = λ m back low same each. made.reads m back (omega (arith, low, level.sets_kept.0))
         (λ s b below. same s b (omega (arith, below, level.rows_kept.0)) ∙ ap (λ row. look_up row b) (level.rows_kept.1 s below))
-        (λ t from below b. subst (λ o. LeadsBack m step (λ next s. ReadsBack m step back more next s) (stands_for n sets t) b o) (sym (same t b (omega (arith, below, level.added))))
+        (λ t from below b. subst (λ o. LeadsBack m step (λ next s. StandsForPlaces m step back more next s) (stands_for n sets t) b o) (sym (same t b (omega (arith, below, level.added))))
         (row_leads m back low (λ t' from' below'. each t' (omega (arith, from', level.added)) below') (stands_for n sets t) b (look_up (get_or rows' t []) b) (level.reads t from below b)));
     never = λ s b e. by_row s b e (within_or_past s (length rows));
     disjoint = level.disjoint;
   }
     where
-      no_first : (b : ℕ) (those : Place → Bool) (o : Option Place) → o ≡ Some (Some 0) → LeadsBack (length sets') step (λ next t. (length sets ≤ t) × SamePlaces (stands_for n sets' t) next) those b o → ⊥
+      no_first : (b : ℕ) (those : ReadingPlace → Bool) (o : Option ReadingPlace) → o ≡ Some (Some 0) → LeadsBack (length sets') step (λ next t. (length sets ≤ t) × SamePlaces (stands_for n sets' t) next) those b o → ⊥
       no_first b those None e leads = absurd (cc e)
       no_first b those (Some None) e leads = absurd (cc e)
       no_first b those (Some (Some zero)) e leads = absurd (omega (arith, leads.2))
@@ -263,5 +251,5 @@ module _ (n : ℕ) (step : Automaton) (more : ℕ) (sets sets' : List (List ℕ)
       by_row s b e (inl below) = made.never s b (sym (ap (λ row. look_up row b) (level.rows_kept.1 s below)) ∙ e)
       by_row s b e (inr from) = by_level s b e from (within_or_past s (length rows'))
 
-pub made_all : (n : ℕ) (step : Automaton) (sets : List (List ℕ)) (rows : Rows) → Made n step 0 sets rows → ReadsBack (length sets) step (step_in rows) 4 at_the_end 0
+pub made_all : (n : ℕ) (step : Automaton) (sets : List (List ℕ)) (rows : Rows) → Made n step 0 sets rows → StandsForPlaces (length sets) step (step_in rows) 4 at_the_end 0
 made_all n step sets rows made = made.reads (length sets) (step_in rows) (omega arith) (λ s b below. refl) (λ t from below b. no_row rows t b from)

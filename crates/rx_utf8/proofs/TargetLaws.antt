@@ -3,11 +3,11 @@ use Rattle.std.proofs.Common.{◌≡◌, ℕ, zero, suc, ◌+◌, ◌-◌, ◌*�
 use Rattle.std.specs.Prelude.{Vec}
 use Rattle.std.proofs.lemmas.Bool.Decides.{nat_tests}
 use Rattle.std.proofs.lemmas.List.{length-map}
-use Rattle.rx_utf8.specs.Blocks.{high, is_next, Fits, Extends, any_next, prepared, limit, size, AllBetween, rows_of}
+use Rattle.rx_utf8.specs.Blocks.{high, is_next, Fits, Extends, any_next, prepared, size, AllBetween, rows_of}
 use Rattle.rx_utf8.specs.declared.byte_ranges.ByteRange.{ByteRange}
 use Rattle.std.specs.List.{All}
 use Rattle.std.proofs.lemmas.List.Elements.{All-append, All-cons, All-nil, All-get_or}
-use Rattle.rx_utf8.specs.Automata.{look_up, step_in, RiseWithin, IsRow}
+use Rattle.rx_utf8.specs.Automata.{look_up, step_in, RiseWithin, IsAutomatonRow}
 use Rattle.rx_utf8.proofs.RowLaws.{rise_above, rise_more, leads_here, leads_before}
 use Rattle.rx_utf8.proofs.FirstLaws.{next_range}
 use Rattle.rx_utf8.proofs.FitLaws.{Full, full_fits, fits_on, fits_alike}
@@ -17,9 +17,6 @@ Rows = List (List ByteRange)
 
 pub extends_on : (R S T : Rows) → Extends R S → Extends S T → Extends R T
 extends_on R S T rs st = (omega (arith, rs.0, st.0), λ s below. st.1 s (omega (arith, below, rs.0)) ∙ rs.1 s below)
-
-pub extends_same : (R : Rows) → Extends R R
-extends_same R = (omega arith, λ s below. refl)
 
 get_or-left : (R S : Rows) (s : ℕ) → s < length R → get_or (R ++ S) s [] ≡ get_or R s []
 get_or-left [] S s below = absurd (omega (arith, below))
@@ -68,29 +65,15 @@ pub whole_fits : (R : Rows) (p : ℕ → Bool) (r v : ℕ) → 0 < r → r ≤ 3
 whole_fits R p zero v some few on all = absurd (omega (arith, some))
 whole_fits R p (suc r) v some few on all = full_fits (step_in R) (length R) p full_state (suc r) v (full_from R on (suc r) few) (λ c e. let at = block (suc r) v c few e in all c at.0 at.1)
 
-pub none_fits : (R : Rows) (p : ℕ → Bool) (r v : ℕ) → 0 < r → r ≤ 3 → AllBetween p (v * size r) (v * size r + (size r - 1)) false → Fits (step_in R) (length R) p r v None
-none_fits R p zero v some few all = absurd (omega (arith, some))
-none_fits R p (suc r) v some few all = λ c e. let at = block (suc r) v c few e in all c at.0 at.1
-
 -- ranges that hold the same characters of the block
 pub part_fits : (R : Rows) (p q : ℕ → Bool) (r v : ℕ) (t : Option (Option ℕ)) → r ≤ 3 → ((c : ℕ) → v * size r ≤ c → c ≤ v * size r + (size r - 1) → p c ≡ q c) → Fits (step_in R) (length R) p r v t → Fits (step_in R) (length R) q r v t
 part_fits R p q r v t few same fits = fits_alike (step_in R) (length R) p q r v t (λ c e. let at = block r v c few e in same c at.0 at.1) fits
-
-pub limit_next : (r v d : ℕ) → 0 < r → r ≤ 3 → v < limit r → d < 64 → v * 64 + d < limit (r - 1)
-limit_next zero v d some few within low = absurd (omega (arith, some))
-limit_next (suc zero) v d some few within low = omega (arith, within, low)
-limit_next (suc (suc zero)) v d some few within low = omega (arith, within, low)
-limit_next (suc (suc (suc zero))) v d some few within low = omega (arith, within, low)
-limit_next (suc (suc (suc (suc r)))) v d some few within low = absurd (omega (arith, few))
 
 -- a row is filled up to a byte
 pub record Filled (R : Rows) (p : ℕ → Bool) (r v to : ℕ) (row : List ByteRange) : Type 0 where
   pub fits : (b : ℕ) → 128 ≤ b → b < to → Fits (step_in R) (length R) p r (v * 64 + (b - 128)) (look_up row b)
   pub below : (b : ℕ) → b < 128 → look_up row b ≡ None
   pub rises : RiseWithin 0 to row
-
-pub filled_none : (R : Rows) (p : ℕ → Bool) (r v : ℕ) → Filled R p r v 128 []
-filled_none R p r v = record { fits = λ b low high. absurd (omega (arith, low, high)); below = λ b low. refl; rises = omega arith }
 
 pub before_or_at : (b to : ℕ) → b < to + 1 → (b < to) ⊎ (to ≡ b)
 before_or_at b to e = grind arith
@@ -142,8 +125,8 @@ filled_fits R p (suc r) v row some more filled =
     )
 
 -- one row more, whose ranges are disjoint
-pub rows_one_more : (R : Rows) (row : List ByteRange) (to : ℕ) → to ≤ 256 → All IsRow R → RiseWithin 0 to row → All IsRow (R ++ row ∷ [])
-rows_one_more R row to few all rises = All-append IsRow R (row ∷ []) all (All-cons IsRow row [] (rise_more 0 to 256 row few rises) (All-nil IsRow))
+pub rows_one_more : (R : Rows) (row : List ByteRange) (to : ℕ) → to ≤ 256 → All IsAutomatonRow R → RiseWithin 0 to row → All IsAutomatonRow (R ++ row ∷ [])
+rows_one_more R row to few all rises = All-append IsAutomatonRow R (row ∷ []) all (All-cons IsAutomatonRow row [] (rise_more 0 to 256 row few rises) (All-nil IsAutomatonRow))
 
 item_of : {Z : Type 0} (rows : List (Vec ByteRange Z)) (s : ℕ) (row : Vec ByteRange Z) → s < length rows → get_or (rows_of rows) s [] ≡ (get_or rows s row).items
 item_of [] s row below = absurd (omega (arith, below))
@@ -151,8 +134,8 @@ item_of (x ∷ rows) zero row below = refl
 item_of (x ∷ rows) (suc s) row below = item_of rows s row (omega (arith, below))
 
 pub row_in : {Z : Type 0} (rows list : List (Vec ByteRange Z)) (s : ℕ) (row : Vec ByteRange Z) (items : List ByteRange) → list ≡ rows → s < length list → row ≡ get_or list s row → items ≡ row.items
-    → All IsRow (rows_of rows) → IsRow items
+    → All IsAutomatonRow (rows_of rows) → IsAutomatonRow items
 row_in {Z = Z} rows list s row items same below at is all =
     let below' : s < length rows = omega (arith, below, ap length same) in
     let here : get_or (rows_of rows) s [] ≡ items = item_of rows s row below' ∙ ap (λ (x : Vec ByteRange Z). x.items) (ap (λ xs. get_or xs s row) (sym same) ∙ sym at) ∙ sym is in
-    subst IsRow here (All-get_or IsRow (rows_of rows) s [] (omega (arith, below', length-map rows (λ (x : Vec ByteRange Z). x.items))) all)
+    subst IsAutomatonRow here (All-get_or IsAutomatonRow (rows_of rows) s [] (omega (arith, below', length-map rows (λ (x : Vec ByteRange Z). x.items))) all)

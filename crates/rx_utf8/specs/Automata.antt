@@ -24,8 +24,8 @@ RiseWithin low high (range ∷ ranges) =
     (low ≤ range.first) × (range.first ≤ range.last) × RiseWithin (range.last + 1) high ranges
 
 -- the ranges of a row are disjoint, and in order
-abbrev pub IsRow : List ByteRange → Type 0
-IsRow row = RiseWithin 0 256 row
+abbrev pub IsAutomatonRow : List ByteRange → Type 0
+IsAutomatonRow row = RiseWithin 0 256 row
 
 -- the maximal ranges of a set, and the rows of an automaton
 pub record Reader : Type 0 where
@@ -41,13 +41,14 @@ is_in ranges c = in_ranges ranges (ordinal c)
 
 -- from its first state on the automaton takes the UTF-8 of the set's characters and nothing else,
 -- whatever the bytes are
-abbrev pub Reads : List Range → List (List ByteRange) → Type 0
-Reads ranges rows = (bytes : List ℕ) → run (step_in rows) 0 bytes ≡ member_len (is_in ranges) bytes
+abbrev pub ReadsSet : List Range → List (List ByteRange) → Type 0
+ReadsSet ranges rows = (bytes : List ℕ) → run (step_in rows) 0 bytes
+    ≡ member_len (is_in ranges) bytes
 
 -- the automaton reads the set's characters, and each of its rows has disjoint ranges
 pub record IsReader (reader : Reader) : Type 0 where
-  pub reads : Reads reader.ranges reader.rows
-  pub disjoint : All IsRow reader.rows
+  pub reads : ReadsSet reader.ranges reader.rows
+  pub disjoint : All IsAutomatonRow reader.rows
 
 -- the automaton reads the set's characters backwards: given the bytes of any content from the last
 -- one back it takes the member whose UTF-8 stands last there, and nothing else. No byte leads to
@@ -55,4 +56,4 @@ pub record IsReader (reader : Reader) : Type 0 where
 pub record IsReverseReader (reader : Reader) : Type 0 where
   pub reads_last : ReadsLast (is_in reader.ranges) (step_of reader)
   pub never_returns : NeverReturns (step_of reader)
-  pub disjoint : All IsRow reader.rows
+  pub disjoint : All IsAutomatonRow reader.rows

@@ -27,9 +27,9 @@ abbrev pub of_len : (ℕ → Bool) → ℕ → ℕ → Bool
 of_len member n c = scalar c && (nat_eq (len_utf8 c) (suc n) && member c)
 
 -- how many bytes the member takes that stands first, by its first byte and those after it
-abbrev pub first : (ℕ → Bool) → List ℕ → Option ℕ
-first member [] = None
-first member (b ∷ bs) =
+abbrev pub first_len : (ℕ → Bool) → List ℕ → Option ℕ
+first_len member [] = None
+first_len member (b ∷ bs) =
     option_map suc (rest (of_len member (continuation_len b)) (continuation_len b) (lead_bits b) bs)
 
 -- a character without the bits of its last n bytes
@@ -104,10 +104,10 @@ abbrev pub ReadsAll : (ℕ → List Range) → List (List ByteRange) → Type 0
 ReadsAll codes rows = (member : ℕ → Bool) → AreMembers codes member → (bs : List ℕ)
     → run (step_in rows) 0 bs ≡ member_len member bs
 
-abbrev pub is_within : ℕ → ℕ → ℕ → ℕ → Bool
-is_within low high shift c = nat_le (low + shift) c && nat_le c (high + shift)
+abbrev pub is_within_shifted : ℕ → ℕ → ℕ → ℕ → Bool
+is_within_shifted low high shift c = nat_le (low + shift) c && nat_le c (high + shift)
 
 -- the code points among both, or among those of the ranges that lie between, shifted
 abbrev pub shifted_into : List Range → List Range → ℕ → ℕ → ℕ → ℕ → Bool
 shifted_into codes ranges low high shift c =
-    in_ranges codes c || (is_within low high shift c && in_ranges ranges (c - shift))
+    in_ranges codes c || (is_within_shifted low high shift c && in_ranges ranges (c - shift))

@@ -2,7 +2,7 @@
 
 ghost use Rattle.std.specs.Prelude.{ℕ, ◌≡◌, ◌<◌, ◌≤◌, ◌+◌, ◌++◌, [], ◌∷◌, length, All, IfOk, OnOk, IfSome};
 ghost use Rattle.rx_sets.specs.Sets.{in_ranges};
-ghost use Rattle.rx_utf8.specs.Automata.{step_in, IsRow};
+ghost use Rattle.rx_utf8.specs.Automata.{step_in, IsAutomatonRow};
 ghost use Rattle.rx_utf8.specs.Blocks.{Extends, prepared, limit, size, AllBetween, Fits, rows_of, any_next};
 
 use crate::byte_ranges::{ByteRange, push_byte, state_number};
@@ -89,11 +89,11 @@ pub(crate) fn target(
     requires rest { rest ≤ 3 }
     requires value { value < limit rest }
     requires prepared { Extends prepared (rows_of rows.old.items) }
-    requires disjoint { All IsRow (rows_of rows.old.items) }
+    requires disjoint { All IsAutomatonRow (rows_of rows.old.items) }
     ensures grows { OnOk result (Extends (rows_of rows.old.items) (rows_of rows.new.items)) }
     ensures fits { IfOk result (λ t. Fits (step_in (rows_of rows.new.items))
         (length (rows_of rows.new.items)) (in_ranges ranges.now) rest value t) }
-    ensures kept { OnOk result (All IsRow (rows_of rows.new.items)) }
+    ensures kept { OnOk result (All IsAutomatonRow (rows_of rows.new.items)) }
 {
     if rest == 0 {
         return Ok(if contains(ranges, value) {

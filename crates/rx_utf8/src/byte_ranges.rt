@@ -1,7 +1,7 @@
 //! Ranges of bytes that lead to a state, and rows of them.
 
-ghost use Rattle.std.specs.Prelude.{ℕ, ◌≡◌, ◌+◌, ◌≤◌, ◌<◌, cond, nat_eq, Some, IfOk, OnOk, MatchBool};
-ghost use Rattle.rx_utf8.specs.Automata.{look_up, IsRow, RiseWithin};
+ghost use Rattle.std.specs.Prelude.{ℕ, ◌≡◌, ◌+◌, ◌<◌, cond, nat_eq, Some, IfOk, OnOk, MatchBool};
+ghost use Rattle.rx_utf8.specs.Automata.{look_up, IsAutomatonRow, RiseWithin};
 
 use std::alloc::AllocError;
 
@@ -48,7 +48,7 @@ impl ByteRange {
 
 /// Where a byte leads by the ranges of a row, which are in order.
 pub(crate) fn look_up(row: &[ByteRange], byte: u8) -> Option<Option<usize>>
-    requires { IsRow row.now }
+    requires { IsAutomatonRow row.now }
     ensures { result ≡ look_up row.now byte }
 {
     for range in row {

@@ -1,7 +1,7 @@
 //! A set of characters with the automaton that reads them backwards.
 
 ghost use Rattle.std.specs.Prelude.{◌≡◌, [], length, get_or, All, IfOk};
-ghost use Rattle.rx_utf8.specs.Automata.{step_of, Reads, IsReverseReader, IsRow};
+ghost use Rattle.rx_utf8.specs.Automata.{step_of, ReadsSet, IsReverseReader, IsAutomatonRow};
 ghost use Rattle.rx_utf8.specs.Blocks.{rows_of};
 
 use crate::byte_ranges::{ByteRange, look_up};
@@ -40,8 +40,8 @@ impl ReverseAutomaton {
         set: &Rc<CharacterSet>,
         forward: &[Vec<ByteRange>],
     ) -> Result<ReverseAutomaton, AllocError>
-        requires reads { Reads set.now.value (rows_of forward.now) }
-        requires disjoint { All IsRow (rows_of forward.now) }
+        requires reads { ReadsSet set.now.value (rows_of forward.now) }
+        requires disjoint { All IsAutomatonRow (rows_of forward.now) }
         ensures { IfOk result (λ automaton. automaton.ranges ≡ set.now.value) }
     {
         transposed_reads_last();
@@ -80,7 +80,7 @@ impl ReverseAutomaton {
     /// The ranges of bytes that lead on from a state: disjoint, and in order.
     pub fn row(&self, state: usize) -> &[ByteRange]
         ensures row { result.now ≡ get_or self.now.rows state [] }
-        ensures disjoint { IsRow result.now }
+        ensures disjoint { IsAutomatonRow result.now }
     {
         match self.rows.get(state) {
             Some(row) => row,

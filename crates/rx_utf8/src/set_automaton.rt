@@ -1,7 +1,7 @@
 //! A set of characters with the automaton that reads them.
 
 ghost use Rattle.std.specs.Prelude.{◌≡◌, [], length, get_or, All, IfOk};
-ghost use Rattle.rx_utf8.specs.Automata.{step_of, Reads, IsReader, IsRow};
+ghost use Rattle.rx_utf8.specs.Automata.{step_of, ReadsSet, IsReader, IsAutomatonRow};
 ghost use Rattle.rx_utf8.specs.Blocks.{pick, ReadsAll, rows_of};
 
 use crate::blocks::{prepared, target};
@@ -25,7 +25,7 @@ fn rows_for(
 ) -> Result<Vec<Vec<ByteRange>>, AllocError>
     ensures reads { IfOk result (λ rows. ReadsAll (pick one.now two.now three.now four.now)
         (rows_of rows.items)) }
-    ensures disjoint { IfOk result (λ rows. All IsRow (rows_of rows.items)) }
+    ensures disjoint { IfOk result (λ rows. All IsAutomatonRow (rows_of rows.items)) }
 {
     first_character_stands();
     let mut rows = prepared(alloc)?;
@@ -44,8 +44,8 @@ fn rows_for(
 
 /// The rows of the automaton that reads the members of a set.
 fn rows_of_set(alloc: Global, ranges: &[Range]) -> Result<Vec<Vec<ByteRange>>, AllocError>
-    ensures reads { IfOk result (λ rows. Reads ranges.now (rows_of rows.items)) }
-    ensures disjoint { IfOk result (λ rows. All IsRow (rows_of rows.items)) }
+    ensures reads { IfOk result (λ rows. ReadsSet ranges.now (rows_of rows.items)) }
+    ensures disjoint { IfOk result (λ rows. All IsAutomatonRow (rows_of rows.items)) }
 {
     let one = shifted(alloc, ranges, 0, 0x7F, 0)?;
     let two = shifted(alloc, ranges, 0x80, 0x7FF, 0)?;
@@ -123,7 +123,7 @@ impl SetAutomaton {
     /// The ranges of bytes that lead on from a state: disjoint, and in order.
     pub fn row(&self, state: usize) -> &[ByteRange]
         ensures row { result.now ≡ get_or self.now.rows state [] }
-        ensures disjoint { IsRow result.now }
+        ensures disjoint { IsAutomatonRow result.now }
     {
         match self.rows.get(state) {
             Some(row) => row,

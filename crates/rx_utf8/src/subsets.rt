@@ -1,14 +1,14 @@
 //! An automaton turned round, and made deterministic: its states stand for sets of the states of
 //! the other one.
 
-ghost use Rattle.std.specs.Prelude.{ℕ, ◌≡◌, ◌<◌, ◌≤◌, ◌+◌, ◌++◌, [], ◌∷◌, length, get_or, All, IsTrue, IfOk, IfSome, OnOk};
-ghost use Rattle.rx_walks.specs.Transposed.{ReadsBack, NeverReturns, at_the_end};
-ghost use Rattle.rx_utf8.specs.Automata.{look_up, step_in, IsRow};
+ghost use Rattle.std.specs.Prelude.{ℕ, ◌≡◌, ◌<◌, ◌≤◌, ◌+◌, [], ◌∷◌, length, get_or, All, IsTrue, IfOk, IfSome, OnOk};
+ghost use Rattle.rx_walks.specs.Transposed.{StandsForPlaces, NeverReturns, at_the_end};
+ghost use Rattle.rx_utf8.specs.Automata.{look_up, step_in, IsAutomatonRow};
 ghost use Rattle.rx_utf8.specs.Blocks.{Extends, rows_of};
-ghost use Rattle.rx_utf8.specs.Subsets.{AddsRows, IsLeadOf, lists_of};
+ghost use Rattle.rx_utf8.specs.Subsets.{AddsRowsUpTo, IsLeadOf, lists_of};
 
 use crate::byte_ranges::{ByteRange, push_byte, state_number};
-use crate::entries::{Entry, entries_into, set_sources, set_states};
+use crate::entries::{entries_into, set_sources, set_states};
 use rx_walks::laws_back::transposed_reads_alike;
 use std::alloc::{AllocError, Global};
 
@@ -177,7 +177,7 @@ fn set_row(
     ensures leads { OnOk result ((b : ℕ) → b < 256
         → IsLeadOf (lists_of subsets.new.sets.items) from (get_or (lists_of lists.now) b [])
         (look_up row.new.items b)) }
-    ensures disjoint { OnOk result (IsRow row.new.items) }
+    ensures disjoint { OnOk result (IsAutomatonRow row.new.items) }
 {
     row.clear();
     for code in 0..256_u32 {
@@ -226,16 +226,17 @@ impl Maker {
 
     /// Adds the rows of the states whose sets are there.
     fn add_level(&mut self, forward: &[Vec<ByteRange>]) -> Result<(), AllocError>
-        requires forward { All IsRow (rows_of forward.now) }
+        requires forward { All IsAutomatonRow (rows_of forward.now) }
         requires states { length self.old.states.items ≡ length forward.now }
         requires lists { length self.old.lists.items ≡ 256 }
         requires some { 0 < length (lists_of self.old.subsets.sets.items) }
         requires within { length (rows_of self.old.rows.items)
             ≤ length (lists_of self.old.subsets.sets.items) }
-        requires disjoint { All IsRow (rows_of self.old.rows.items) }
+        requires disjoint { All IsAutomatonRow (rows_of self.old.rows.items) }
         ensures states { OnOk result (length self.new.states.items ≡ length forward.now) }
         ensures lists { OnOk result (length self.new.lists.items ≡ 256) }
-        ensures rows { OnOk result (AddsRows (length forward.now) (step_in (rows_of forward.now))
+        ensures rows { OnOk result (AddsRowsUpTo (length forward.now)
+            (step_in (rows_of forward.now))
             (lists_of self.old.subsets.sets.items) (rows_of self.old.rows.items)
             (length (lists_of self.old.subsets.sets.items))
             (lists_of self.new.subsets.sets.items) (rows_of self.new.rows.items)) }
@@ -262,11 +263,11 @@ pub(crate) fn rows_back(
     alloc: Global,
     forward: &[Vec<ByteRange>],
 ) -> Result<Vec<Vec<ByteRange>>, AllocError>
-    requires { All IsRow (rows_of forward.now) }
-    ensures reads { IfOk result (λ rows. (n : ℕ) × ReadsBack n (step_in (rows_of forward.now))
+    requires { All IsAutomatonRow (rows_of forward.now) }
+    ensures reads { IfOk result (λ rows. (n : ℕ) × StandsForPlaces n (step_in (rows_of forward.now))
         (step_in (rows_of rows.items)) 4 at_the_end 0) }
     ensures never_returns { IfOk result (λ rows. NeverReturns (step_in (rows_of rows.items))) }
-    ensures disjoint { IfOk result (λ rows. All IsRow (rows_of rows.items)) }
+    ensures disjoint { IfOk result (λ rows. All IsAutomatonRow (rows_of rows.items)) }
 {
     transposed_reads_alike();
     let mut maker = Maker::new(alloc, forward.len())?;

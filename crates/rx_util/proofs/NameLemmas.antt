@@ -1,10 +1,10 @@
 -- The names of groups.
-use Rattle.std.proofs.Common.{◌≡◌, ℕ, ◌+◌, ◌-◌, ◌<◌, ◌≤◌, List, [], ◌∷◌, length, Vec, String, Global, map, slice_get, get_or, Option, option_map, string_bytes, Some, None, MatchOption, unwrap_or, zero, suc, refl, sym, ap, subst, ◌∙◌, arith, inl, inr, add-one, is_some, true≢false}
+use Rattle.std.proofs.Common.{◌≡◌, ℕ, ◌+◌, ◌-◌, ◌<◌, ◌≤◌, List, [], length, Vec, String, Global, slice_get, get_or, Option, option_map, string_bytes, Some, None, MatchOption, unwrap_or, zero, suc, refl, sym, ap, subst, ◌∙◌, arith, inl, inr, add-one, is_some, true≢false}
 use Rattle.std.specs.Option.{option_and_then}
 use Rattle.std.proofs.lemmas.Bool.{cases_lt}
 use Rattle.std.proofs.lemmas.List.{get_or-map, length-map}
 use Rattle.std.proofs.lemmas.Option.{slice_get-map, slice_get-get_or, slice_get_past}
-use Rattle.rx_util.specs.Groups.{Groups, Name, names_of, named_groups, name_among, name_of, HasDistinctNames}
+use Rattle.rx_util.specs.Groups.{GroupNames, Name, names_of, named_groups, name_among, name_of, HasDistinctNames}
 
 none_is_not_some : {A : Type 0} {x : A} → ◌≡◌ {A = Option A} None (Some x) → ⊥
 none_is_not_some is = true≢false (sym (ap is_some is))
@@ -59,7 +59,7 @@ none_named groups name k so_far all g named = elim (cases_lt g (k + 1)) [
 ]
 
 -- the group with a name among a pattern's is the pattern's group with that name
-pub named_exactly : (groups : Groups) (p : ℕ) (names : List (Option Name)) (name : Name) (found : Option ℕ) → HasDistinctNames groups
+pub named_exactly : (groups : GroupNames) (p : ℕ) (names : List (Option Name)) (name : Name) (found : Option ℕ) → HasDistinctNames groups
     → slice_get groups p ≡ Some names
     → MatchOption found ((g : ℕ) → name_among names g ≡ Some name → ⊥) (λ g. name_among names g ≡ Some name)
     → (g : ℕ) → (found ≡ Some g → name_of groups p g ≡ Some name) × (name_of groups p g ≡ Some name → found ≡ Some g)

@@ -1,6 +1,5 @@
 -- Sparse sets: their members are distinct, so there is room for one more.
-use Rattle.std.proofs.Common.{◌≡◌, ◌≢◌, ℕ, ◌+◌, ◌<◌, ◌≤◌, List, [], ◌∷◌, ◌++◌, length, take, get_or, set, slice_get, Some, zero, suc, All, AllPairs, Contains, eqb, true, refl, sym, ap, subst, ◌∙◌, arith, inl, inr, unwrap_or, length-set}
-use Rattle.std.specs.List.{list_any, IsDistinct}
+use Rattle.std.proofs.Common.{◌≡◌, ◌≢◌, ℕ, ◌+◌, ◌<◌, ◌≤◌, List, [], ◌∷◌, ◌++◌, length, take, get_or, set, slice_get, Some, zero, suc, All, AllPairs, Contains, eqb, refl, sym, ap, subst, ◌∙◌, arith, inl, inr, unwrap_or, length-set}
 use Rattle.std.proofs.lemmas.Bool.{cases_lt}
 use Rattle.std.proofs.lemmas.Bool.Decides.{Decides-eqb}
 use Rattle.std.proofs.lemmas.List.{length-take-le, get_or-take, get_or_default, length_push, take_more_set}

@@ -3,16 +3,16 @@ use Rattle.std.specs.Prelude.{ℕ, ◌+◌, List, Option, Some, None, option_map
 use Rattle.std.specs.Option.{option_and_then}
 use Rattle.rx_util.specs.declared.search.Span.{Span}
 use Rattle.rx_util.specs.Search.{Found}
-use Rattle.rx_util.specs.Groups.{Groups, Name, name_of, first_slot}
+use Rattle.rx_util.specs.Groups.{GroupNames, Name, name_of, first_slot}
 
 -- the groups of the patterns, the pattern that matches or none, and for each slot the place noted there or none
 pub record Captured : Type 0 where
-  pub groups : Groups
+  pub groups : GroupNames
   pub pattern : Option ℕ
   pub slots : List (Option ℕ)
 
 -- nothing is noted, in so many slots
-abbrev pub nothing_noted : Groups → ℕ → Captured
+abbrev pub nothing_noted : GroupNames → ℕ → Captured
 nothing_noted groups len = record { groups = groups; pattern = None; slots = replicate len None }
 
 -- the place noted in a slot, and none where there is no such slot

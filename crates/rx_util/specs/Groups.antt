@@ -10,19 +10,19 @@ abbrev pub Name : Type 0
 Name = List ℕ
 
 -- of each pattern, for each of its groups from group 1 on, its name or none. Group 0, the whole match, has no name.
-abbrev pub Groups : Type 0
-Groups = List (List (Option Name))
+abbrev pub GroupNames : Type 0
+GroupNames = List (List (Option Name))
 
 -- the names of groups that are given as texts
 abbrev pub names_of : {A : Type 0} → List (Option (String A)) → List (Option Name)
 names_of groups = map (option_map string_bytes) groups
 
 -- the same for each pattern
-abbrev pub named_groups : {A B : Type 0} → List (Vec (Option (String A)) B) → Groups
+abbrev pub named_groups : {A B : Type 0} → List (Vec (Option (String A)) B) → GroupNames
 named_groups patterns = map (λ pattern. names_of pattern.items) patterns
 
 -- how many groups a pattern has, with group 0; an unknown pattern has none
-abbrev pub group_len : Groups → ℕ → ℕ
+abbrev pub group_len : GroupNames → ℕ → ℕ
 group_len groups p = option_map_or (λ names. length names + 1) (slice_get groups p) 0
 
 -- the name of a group, by the names from group 1 on
@@ -31,32 +31,32 @@ name_among names zero = None
 name_among names (suc k) = unwrap_or (slice_get names k) None
 
 -- the name of a pattern's group
-abbrev pub name_of : Groups → ℕ → ℕ → Option Name
+abbrev pub name_of : GroupNames → ℕ → ℕ → Option Name
 name_of groups p g = option_and_then (λ names. name_among names g) (slice_get groups p)
 
 -- no two groups of a pattern have one name
-abbrev pub HasDistinctNames : Groups → Type 0
+abbrev pub HasDistinctNames : GroupNames → Type 0
 HasDistinctNames groups = (p g h : ℕ) (name : Name) → name_of groups p g ≡ Some name → name_of groups p h ≡ Some name → g ≡ h
 
 -- how many groups there are beside the groups 0
-abbrev pub further_groups : Groups → ℕ
+abbrev pub further_groups : GroupNames → ℕ
 further_groups groups = sum_by length groups
 
 -- how many slots there are: two for each pattern, and then two for each further group
-abbrev pub slot_len : Groups → ℕ
+abbrev pub slot_len : GroupNames → ℕ
 slot_len groups = 2 * (length groups + further_groups groups)
 
 -- where the slots of a pattern's group lie: those of the groups 0 first, pattern by pattern, then those of the further groups
-abbrev pub slot_place : Groups → ℕ → ℕ → ℕ
+abbrev pub slot_place : GroupNames → ℕ → ℕ → ℕ
 slot_place groups p zero = 2 * p
 slot_place groups p (suc k) = 2 * (length groups + further_groups (take p groups) + k)
 
 -- the first of the two slots of a group, if there is the group
-abbrev pub first_slot : Groups → ℕ → ℕ → Option ℕ
+abbrev pub first_slot : GroupNames → ℕ → ℕ → Option ℕ
 first_slot groups p g = if nat_lt g (group_len groups p) then Some (slot_place groups p g) else None
 
 -- the groups that are noted: all of them, or the groups 0 alone
-abbrev pub noted_groups : WhichCaptures → Groups → Groups
+abbrev pub noted_groups : WhichCaptures → GroupNames → GroupNames
 noted_groups All groups = groups
 noted_groups Implicit groups = replicate (length groups) []
 noted_groups which.None groups = replicate (length groups) []

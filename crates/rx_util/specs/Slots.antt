@@ -1,9 +1,9 @@
 -- How a layout of slots is kept.
-use Rattle.std.specs.Prelude.{◌≡◌, ℕ, ◌^◌, ◌<◌, List, length, Some, slice_get, replicate, Option, None}
-use Rattle.rx_util.specs.Groups.{Groups, HasDistinctNames, slot_len, slot_place}
+use Rattle.std.specs.Prelude.{◌≡◌, ℕ, ◌^◌, ◌<◌, List, length, Some, slice_get}
+use Rattle.rx_util.specs.Groups.{GroupNames, HasDistinctNames, slot_len, slot_place}
 
 -- by pattern the slot where its group 1 starts, or would start; and how many slots there are
-pub record IsLaidOut (groups : Groups) (starts : List ℕ) (len : ℕ) : Type 0 where
+pub record IsLaidOut (groups : GroupNames) (starts : List ℕ) (len : ℕ) : Type 0 where
   pub one_each : length starts ≡ length groups
   pub starts_are : (p : ℕ) → p < length groups → slice_get starts p ≡ Some (slot_place groups p 1)
   pub len_is : len ≡ slot_len groups

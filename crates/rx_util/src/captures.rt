@@ -1,6 +1,6 @@
 //! Groups of patterns, their slots, and what a search notes in them.
 
-ghost use Rattle.std.specs.Prelude.{ℕ, ◌≡◌, [], ◌+◌, ◌*◌, ◌^◌, ◌<◌, ◌≤◌, ◌↔◌, List, length, map, replicate, Option, Some, None, IsTrue, IsSome, IfOk, IfErr, IfSome, MatchOption, option_map, slice_get, string_bytes};
+ghost use Rattle.std.specs.Prelude.{ℕ, ◌≡◌, [], ◌+◌, ◌*◌, ◌^◌, ◌<◌, ◌≤◌, ◌↔◌, length, replicate, Option, Some, None, IsTrue, IsSome, IfOk, IfErr, IfSome, MatchOption, option_map, slice_get, string_bytes};
 ghost use Rattle.std.specs.Option.{option_copied, ForSome};
 ghost use Rattle.rx_util.specs.declared.search.MatchError.{MatchError};
 ghost use Rattle.rx_util.specs.Groups.{names_of, named_groups, name_among, group_len, name_of, HasDistinctNames, slot_len, first_slot, noted_groups};
@@ -91,10 +91,10 @@ pub struct GroupInfo {
 }
 
 impl Model for GroupInfo {
-    ghost use Rattle.rx_util.specs.Groups.{Groups, named_groups};
+    ghost use Rattle.rx_util.specs.Groups.{GroupNames, named_groups};
     ghost use Rattle.rx_util.specs.Slots.{IsLaidOut};
 
-    ghost Value = { Groups };
+    ghost Value = { GroupNames };
 
     ghost view = { λ info. named_groups info.inner.value.names.items };
 

@@ -1,6 +1,6 @@
 //! What a search is asked for, what it finds, and why it may give up.
 
-ghost use Rattle.std.specs.Prelude.{◌≡◌, ◌-◌, ◌<◌, ◌≤◌, ◌↔◌, Option, Some, None, IsTrue, IsSome, IfSome};
+ghost use Rattle.std.specs.Prelude.{◌≡◌, ◌-◌, ◌<◌, ◌≤◌, ◌↔◌, Option, Some, None, IsTrue};
 ghost use Rattle.rx_util.specs.declared.search.MatchError.TheVariants.{Memory};
 
 use crate::primitives::PatternID;

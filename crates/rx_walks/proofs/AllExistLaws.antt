@@ -6,8 +6,8 @@ use Rattle.rx_walks.specs.Walks.{Walk, ended, went, took, Reaches}
 use Rattle.rx_walks.specs.Finds.{Search, from_place_on, IsPossible, MayEnd, PatternMatch, CountsAmongAll, IsAtLeast, IsFindAll, none_at_all, greatest}
 use Rattle.rx_walks.specs.Looks.{Look}
 use Rattle.rx_walks.specs.Programs.{Program, fresh_notes, put_note, only_if, over_characters}
-use Rattle.rx_walks.specs.ProgramFinds.{first_by, haystack_of, holds_in, machine_of, start_node, IfStarts, ProgramFindsAll, ProgramMatchesAll}
-use Rattle.rx_walks.specs.Laws.{IsTold}
+use Rattle.rx_walks.specs.ProgramFinds.{first_by, haystack_of, holds_in, machine_of, start_node, IfStarts, ProgramFindsAll, finds_all_on, ProgramMatchesAll}
+use Rattle.rx_walks.specs.Laws.{IsDecidable}
 use Rattle.rx_walks.proofs.InsideLaws.{none_there, same_goes, walk_keeps, inside_of}
 use Rattle.rx_walks.proofs.ForwardLaws.{characters_forward, number_told}
 use Rattle.rx_walks.proofs.ExistLaws.{IsKnown, both_known, possible_known, may_end_known, least_number, least_or_none, numbers_below, still_or_there}
@@ -64,7 +64,7 @@ asked_walk asks is_asked (ended {i = i} {p = p} new is) = ended new (ap (only_as
 asked_walk asks is_asked (went {i = i} rs r new is at w) = went rs r new (ap (only_asked asks i) is) at (asked_walk asks is_asked w)
 asked_walk asks is_asked (took {i = i} r j new is w) = took r j new (ap (only_asked asks i) is) (asked_walk asks is_asked w)
 
-asked_known : {Q N : Type 0} (m : Machine Q N) → IsTold Q → IsForward m → (high : ℕ) (nodes : List Q) → ((i : ℕ) (q : Q) → (m.move i q ≡ goes []) ⊎ ((i ≤ high) × Contains nodes q)) → (asks : ℕ → ℕ → Bool) (n : N) (q : Q) (i : ℕ)
+asked_known : {Q N : Type 0} (m : Machine Q N) → IsDecidable Q → IsForward m → (high : ℕ) (nodes : List Q) → ((i : ℕ) (q : Q) → (m.move i q ≡ goes []) ⊎ ((i ≤ high) × Contains nodes q)) → (asks : ℕ → ℕ → Bool) (n : N) (q : Q) (i : ℕ)
     → IsKnown (Asked asks m n q i)
 asked_known m told forward high nodes still asks n q i =
     let least = least_or_none (with_ends asks m) told (λ i j q r e. forward i j q r (asked_reads asks i (m.move i q) e)) high nodes
@@ -170,4 +170,4 @@ module _ {S : Type 0} (member : S → ℕ → Bool) (is_word : ℕ → Bool) (p 
 
   pub program_matches_all_exist : (s : Search) → (ms : List PatternMatch) × ProgramMatchesAll member is_word p s ms
   program_matches_all_exist s =
-      matches_exist (λ i out. ProgramFindsAll member is_word p (from_place_on s i) out) (λ a. a.start) (λ a. a.end) (λ i. program_find_all_exists (from_place_on s i)) (length s.content) (lies_all member is_word p s) s.start
+      matches_exist (finds_all_on (ProgramFindsAll member is_word p) s) (λ i. program_find_all_exists (from_place_on s i)) (length s.content) (lies_all member is_word p s) s.start

@@ -6,7 +6,7 @@ use Rattle.rx_walks.specs.Paths.{Path, at_end, by_edge, by_read}
 use Rattle.rx_walks.specs.Finds.{PatternMatch, Search, CountsAmongAll, IsFindAll, none_at_all, greatest}
 use Rattle.rx_walks.specs.StepsAll.{FindsAll, nowhere, found, SearchesAll}
 use Rattle.rx_walks.specs.Refinements.{Refines}
-use Rattle.rx_walks.specs.Laws.{Begins, ReadsMembers, ReadsWhole}
+use Rattle.rx_walks.specs.Laws.{MayBegin, ReadsMembers, ReadsWhole}
 use Rattle.rx_walks.specs.Bytes.{Automaton, over_bytes}
 use Rattle.rx_walks.specs.Programs.{Node, Haystack, over_characters}
 use Rattle.rx_walks.proofs.PathLaws.{path_has_walk, walk_reaches, reaches}
@@ -21,7 +21,7 @@ path_read content at_whole (by_edge rs r k is at path) = path_read content at_wh
 path_read content at_whole (by_read {q = q} {i = i} r j is path) = inr (at_whole i j q r is)
 
 pub begins_all : {Q N : Type 0} {m : Machine Q N} {fresh : ℕ → N} {s : Search} {q : Q} {a : PatternMatch} → ((i j : ℕ) (q r : Q) → m.move i q ≡ reads r j → IsCharBoundary s.content i) → CountsAmongAll m fresh s q a
-    → Begins s a.start
+    → MayBegin s a.start
 begins_all {s = s} at_whole counts = (
   counts.possible,
   λ on. elim counts.may_end [
@@ -31,7 +31,7 @@ begins_all {s = s} at_whole counts = (
 )
 
 pub find_all_from_finds : {Q N : Type 0} {m : Machine Q N} {s : Search} {q : Q} {out : Option PatternMatch} (fresh : ℕ → N) → ((a b : Q) → (a ≡ b) ⊎ (a ≡ b → ⊥))
-    → ((i j : ℕ) (q r : Q) → m.move i q ≡ reads r j → IsCharBoundary s.content i) → FindsAll m (Begins s) q s.start out → IsFindAll m fresh s q out
+    → ((i j : ℕ) (q r : Q) → m.move i q ≡ reads r j → IsCharBoundary s.content i) → FindsAll m (MayBegin s) q s.start out → IsFindAll m fresh s q out
 find_all_from_finds fresh told at_whole (nowhere never) = none_at_all (λ a counts. never a counts.possible.0.2 (begins_all at_whole counts) (walk_reaches counts.reaches))
 find_all_from_finds fresh told at_whole (found {a = a} from b path best) = greatest
     (record { possible = b.0; reaches = path_has_walk told path (fresh a.start); may_end = inr b.1 })
@@ -54,7 +54,7 @@ finds_all_unrefined q same in_c in_b n (found {a = a} from begun path best) = fo
 -- the loop over places, whatever reads the characters
 pub readers_find_all : {L S N : Type 0} (put : ℕ → ℕ → N → N) (first : S → List ℕ → Option ℕ) (step : ℕ → Automaton) (nodes : List (Node L S)) (h : Haystack L) (s : Search) (fresh : ℕ → N) (q : ℕ) (out : Option PatternMatch)
     → ReadsMembers first step nodes → ReadsWhole (over_characters put first nodes h) s.content
-    → SearchesAll (over_bytes put step nodes h) (Begins s) (q, 0) s.start [] None out → IsFindAll (over_characters put first nodes h) fresh s q out
+    → SearchesAll (over_bytes put step nodes h) (MayBegin s) (q, 0) s.start [] None out → IsFindAll (over_characters put first nodes h) fresh s q out
 readers_find_all put first step nodes h s fresh q out members whole searches =
     find_all_from_finds fresh number_told whole
     (finds_all_unrefined q (bytes_refine put first step nodes h members) number_told pair_told (fresh 0) (search_finds_all (bytes_forward put step nodes h) pair_told (fresh 0) searches))

@@ -3,7 +3,7 @@ use Rattle.std.proofs.Common.{◌≡◌, ℕ, zero, suc, ◌+◌, ◌≤◌, ◌
 use Rattle.rx_walks.specs.Machines.{ends, goes, reads, Machine, Outcome}
 use Rattle.rx_walks.specs.Walks.{Walk, ended, went, took, Reaches}
 use Rattle.rx_walks.specs.Paths.{Path, at_end, by_edge, by_read}
-use Rattle.rx_walks.specs.StepsAll.{StepsAll, done, passed, met, opened, read, RiseFrom, no_more, one_more, Met, met_first, met_other}
+use Rattle.rx_walks.specs.StepsAll.{StepsAll, done, passed, met, opened, read, StartsRise, no_more, one_more, Met, met_first, met_other}
 use Rattle.rx_walks.proofs.WalkLaws.{ends_not_goes, ends_not_reads, goes_not_reads, same_end, same_open, same_read, same_some, from_node, from_place, none_when_seen}
 use Rattle.rx_walks.proofs.PathLaws.{passes_or}
 
@@ -46,12 +46,12 @@ covered_next : {Q N : Type 0} {m : Machine Q N} {i p e s s' : ℕ} {r : Q} {next
 covered_next (goes_on s' within from) = goes_on s' within (by_other from)
 covered_next (is_met s' within e has) = is_met s' within e has
 
-from_above : {Q N : Type 0} {m : Machine Q N} {seen : List Q} {i p e s high low : ℕ} {threads : List (ℕ × Q)} → RiseFrom high low threads → From m seen i p e s threads → low ≤ s
+from_above : {Q N : Type 0} {m : Machine Q N} {seen : List Q} {i p e s high low : ℕ} {threads : List (ℕ × Q)} → StartsRise high low threads → From m seen i p e s threads → low ≤ s
 from_above no_more from = elim from [ ]
 from_above (one_more within to rise) (by_first n reached) = within
 from_above (one_more within to rise) (by_other from) = omega (arith, within, from_above rise from)
 
-pub rise_open : {Q : Type 0} {high low s : ℕ} (rs : List Q) (others : List (ℕ × Q)) → low ≤ s → s ≤ high → RiseFrom high s others → RiseFrom high low (map (λ r. (s, r)) rs ++ others)
+pub rise_open : {Q : Type 0} {high low s : ℕ} (rs : List Q) (others : List (ℕ × Q)) → low ≤ s → s ≤ high → StartsRise high s others → StartsRise high low (map (λ r. (s, r)) rs ++ others)
 rise_open [] others within to no_more = no_more
 rise_open [] others within to (one_more within' to' rise) = one_more (omega (arith, within, within')) to' rise
 rise_open (r ∷ rs) others within to rise = one_more within to (rise_open rs others (omega arith) to rise)
@@ -78,7 +78,7 @@ from_past same q (by_first n reached) = elim (passes_or same q reached.walk) [
 ]
 from_past same q (by_other from) = elim (from_past same q from) [ inl f ↦ inl (by_other f) | inr back ↦ inr back ]
 
-step_covered : {Q N : Type 0} {m : Machine Q N} {i : ℕ} {seen : List Q} {p e s high s' : ℕ} {q : Q} {others next : List (ℕ × Q)} {ms : List (ℕ × ℕ)} → ((a b : Q) → (a ≡ b) ⊎ (a ≡ b → ⊥)) → RiseFrom high s' others
+step_covered : {Q N : Type 0} {m : Machine Q N} {i : ℕ} {seen : List Q} {p e s high s' : ℕ} {q : Q} {others next : List (ℕ × Q)} {ms : List (ℕ × ℕ)} → ((a b : Q) → (a ≡ b) ⊎ (a ≡ b → ⊥)) → StartsRise high s' others
     → ((n : N) → Reaches m seen n q i p e → Covered m i p e s' next ms) → ((s : ℕ) → From m (q ∷ seen) i p e s others → Covered m i p e s next ms) → From m seen i p e s ((s', q) ∷ others) → Covered m i p e s next ms
 step_covered same rise first rest (by_first n reached) = first n reached
 step_covered {s = s} {q = q} same rise first rest (by_other from) = elim (from_past same q from) [
@@ -87,7 +87,7 @@ step_covered {s = s} {q = q} same rise first rest (by_other from) = elim (from_p
 ]
 
 pub all_covered : {Q N : Type 0} {m : Machine Q N} {i : ℕ} {seen : List Q} {high low : ℕ} {threads next : List (ℕ × Q)} {ms : List (ℕ × ℕ)} → ((a b : Q) → (a ≡ b) ⊎ (a ≡ b → ⊥)) → StepsAll m i seen threads next ms
-    → RiseFrom high low threads → (p e s : ℕ) → From m seen i p e s threads → Covered m i p e s next ms
+    → StartsRise high low threads → (p e s : ℕ) → From m seen i p e s threads → Covered m i p e s next ms
 all_covered same done rise p e s from = elim from [ ]
 all_covered same (passed c steps) (one_more within to rise) p e s (by_first n reached) = absurd (none_when_seen c reached.choices reached.outcome reached.walk)
 all_covered same (passed c steps) (one_more within to rise) p e s (by_other from) = all_covered same steps rise p e s from

@@ -4,7 +4,7 @@ use Rattle.std.proofs.lemmas.Bool.{cases_order}
 use Rattle.rx_walks.specs.Machines.{Machine, IsForward}
 use Rattle.rx_walks.specs.Paths.{Path, at_end, by_edge, by_read}
 use Rattle.rx_walks.specs.Finds.{PatternMatch, IsAtLeast}
-use Rattle.rx_walks.specs.StepsAll.{FindsAll, nowhere, found, StepsAll, done, passed, met, opened, read, RiseFrom, no_more, one_more, Met, Latest, none_met, some_met, SearchesAll, over, started, stepped}
+use Rattle.rx_walks.specs.StepsAll.{FindsAll, nowhere, found, StepsAll, done, passed, met, opened, read, StartsRise, no_more, one_more, Met, Latest, none_met, some_met, SearchesAll, over, started, stepped}
 use Rattle.rx_walks.proofs.PathLaws.{path_has_walk, walk_reaches}
 use Rattle.rx_walks.proofs.AllLaws.{From, by_first, by_other, Covered, goes_on, is_met, Has, has_first, has_other, all_covered, next_has, met_has, rise_open}
 
@@ -38,19 +38,19 @@ has_split [] ys has = inr has
 has_split (x ∷ xs) ys (has_first is path) = inl (has_first is path)
 has_split (x ∷ xs) ys (has_other has) = elim (has_split xs ys has) [ inl h ↦ inl (has_other h) | inr h ↦ inr h ]
 
-rise_lower : {Q : Type 0} {high low s : ℕ} {xs : List (ℕ × Q)} → low ≤ s → RiseFrom high s xs → RiseFrom high low xs
+rise_lower : {Q : Type 0} {high low s : ℕ} {xs : List (ℕ × Q)} → low ≤ s → StartsRise high s xs → StartsRise high low xs
 rise_lower below no_more = no_more
 rise_lower below (one_more within to rise) = one_more (omega (arith, below, within)) to rise
 
-rise_higher : {Q : Type 0} {i low : ℕ} {xs : List (ℕ × Q)} → RiseFrom i low xs → RiseFrom (i + 1) low xs
+rise_higher : {Q : Type 0} {i low : ℕ} {xs : List (ℕ × Q)} → StartsRise i low xs → StartsRise (i + 1) low xs
 rise_higher no_more = no_more
 rise_higher (one_more within to rise) = one_more within (omega (arith, to)) (rise_higher rise)
 
-rise_more : {Q : Type 0} {i low : ℕ} {xs : List (ℕ × Q)} (q : Q) → low ≤ i → RiseFrom i low xs → RiseFrom i low (xs ++ (i, q) ∷ [])
+rise_more : {Q : Type 0} {i low : ℕ} {xs : List (ℕ × Q)} (q : Q) → low ≤ i → StartsRise i low xs → StartsRise i low (xs ++ (i, q) ∷ [])
 rise_more q below no_more = one_more below (omega arith) no_more
 rise_more q below (one_more within to rise) = one_more within to (rise_more q to rise)
 
-next_rises : {Q N : Type 0} {m : Machine Q N} {i : ℕ} {seen : List Q} {high low : ℕ} {threads next : List (ℕ × Q)} {ms : List (ℕ × ℕ)} → StepsAll m i seen threads next ms → RiseFrom high low threads → RiseFrom high low next
+next_rises : {Q N : Type 0} {m : Machine Q N} {i : ℕ} {seen : List Q} {high low : ℕ} {threads next : List (ℕ × Q)} {ms : List (ℕ × ℕ)} → StepsAll m i seen threads next ms → StartsRise high low threads → StartsRise high low next
 next_rises done rise = rise
 next_rises (passed c steps) (one_more within to rise) = rise_lower within (next_rises steps rise)
 next_rises (met new is steps) (one_more within to rise) = rise_lower within (next_rises steps rise)
@@ -74,7 +74,7 @@ may_forward on (by_start from b path) = omega (arith, from, path_forward on path
 pub record Stand {Q N : Type 0} (m : Machine Q N) (begins : ℕ → Type 0) (q : Q) (i : ℕ) (live threads : List (ℕ × Q)) : Type 0 where
   pub to : (a : PatternMatch) → May m begins q i live a → Has m i a.pattern a.end a.start threads ⊎ ((i + 1 ≤ a.start) × begins a.start × Path m q a.start a.pattern a.end)
   pub back : (a : PatternMatch) → Has m i a.pattern a.end a.start threads → May m begins q i live a
-  pub rises : RiseFrom i 0 threads
+  pub rises : StartsRise i 0 threads
 
 abbrev Comes : {Q N : Type 0} → Machine Q N → (ℕ → Type 0) → Q → ℕ → List (ℕ × Q) → List (ℕ × ℕ) → PatternMatch → Type 0
 Comes m begins q i next ms b = ((s : ℕ) × (s ≤ b.start) × May m begins q (i + 1) next (record { start = s; pattern = b.pattern; end = b.end })) ⊎ ((s : ℕ) × (s ≤ b.start) × (i ≡ b.end) × Met s b.pattern ms)
@@ -132,7 +132,7 @@ all_step {i = i} on same n stand steps latest (changes {a = a} may best) = chang
       by_pattern = λ x y. absurd (omega (arith, e, after, x));
     }
 
-stand_started : {Q N : Type 0} {m : Machine Q N} {begins : ℕ → Type 0} {q : Q} {i : ℕ} {live : List (ℕ × Q)} → begins i → RiseFrom i 0 live → Stand m begins q i live (live ++ (i, q) ∷ [])
+stand_started : {Q N : Type 0} {m : Machine Q N} {begins : ℕ → Type 0} {q : Q} {i : ℕ} {live : List (ℕ × Q)} → begins i → StartsRise i 0 live → Stand m begins q i live (live ++ (i, q) ∷ [])
 stand_started {m = m} {begins = begins} {q = q} {i = i} {live = live} b rise = record { to = to; back = back; rises = rise_more q (omega arith) rise }
   where
     to : (a : PatternMatch) → May m begins q i live a → Has m i a.pattern a.end a.start (live ++ (i, q) ∷ []) ⊎ ((i + 1 ≤ a.start) × begins a.start × Path m q a.start a.pattern a.end)
@@ -150,7 +150,7 @@ stand_started {m = m} {begins = begins} {q = q} {i = i} {live = live} b rise = r
     back : (a : PatternMatch) → Has m i a.pattern a.end a.start (live ++ (i, q) ∷ []) → May m begins q i live a
     back a has = elim (has_split live ((i, q) ∷ []) has) [ inl h ↦ by_live h | inr h ↦ alone a h ]
 
-stand_stepped : {Q N : Type 0} {m : Machine Q N} {begins : ℕ → Type 0} {q : Q} {i : ℕ} {live : List (ℕ × Q)} → (begins i → ⊥) → RiseFrom i 0 live → Stand m begins q i live live
+stand_stepped : {Q N : Type 0} {m : Machine Q N} {begins : ℕ → Type 0} {q : Q} {i : ℕ} {live : List (ℕ × Q)} → (begins i → ⊥) → StartsRise i 0 live → Stand m begins q i live live
 stand_stepped {m = m} {begins = begins} {q = q} {i = i} {live = live} held rise = record { to = to; back = λ a has. by_live has; rises = rise }
   where
     to : (a : PatternMatch) → May m begins q i live a → Has m i a.pattern a.end a.start live ⊎ ((i + 1 ≤ a.start) × begins a.start × Path m q a.start a.pattern a.end)
@@ -162,7 +162,7 @@ stand_stepped {m = m} {begins = begins} {q = q} {i = i} {live = live} held rise 
     ]
 
 pub all_answers : {Q N : Type 0} {m : Machine Q N} {begins : ℕ → Type 0} {q : Q} {i : ℕ} {live : List (ℕ × Q)} {best out : Option PatternMatch} → IsForward m → ((a b : Q) → (a ≡ b) ⊎ (a ≡ b → ⊥)) → N
-    → SearchesAll m begins q i live best out → RiseFrom i 0 live → AnswersAll m begins q i live best out
+    → SearchesAll m begins q i live best out → StartsRise i 0 live → AnswersAll m begins q i live best out
 all_answers {m = m} {begins = begins} {q = q} on same n (over {i = i} empty) rise = stays refl none
   where
     none : (a : PatternMatch) → May m begins q i [] a → ⊥

@@ -11,7 +11,7 @@ use Rattle.rx_walks.specs.Programs.{Program, Notes, fresh_notes, put_note}
 use Rattle.rx_walks.specs.ProgramFinds.{start_node, machine_of, haystack_of, holds_in, IfStarts, ProgramFinds, ProgramFindsAll}
 use Rattle.rx_walks.specs.Steps.{Steps, done, passed, met, opened, read, either, Searches, over, started, stepped}
 use Rattle.rx_walks.specs.StepsAll.{SearchesAll}
-use Rattle.rx_walks.specs.Laws.{Begins}
+use Rattle.rx_walks.specs.Laws.{MayBegin}
 use Rattle.rx_walks.proofs.WalkLaws.{none_seen, Contains-cases, Contains-head, Contains-tail, thins_none, same_some}
 use Rattle.rx_walks.proofs.CharacterLaws.{both}
 use Rattle.rx_walks.proofs.SearchLaws.{search_finds}
@@ -197,7 +197,7 @@ true_may_be_cut content i at =
       ])
     ]
 
-pub begins_at_true : (s : Search) (i : ℕ) → begins_at s i ≡ true → Begins s i
+pub begins_at_true : (s : Search) (i : ℕ) → begins_at s i ≡ true → MayBegin s i
 begins_at_true s i e =
     let a = both (nat_le s.slice_start i) _ e in
     let b = both (nat_le i s.slice_end) _ a.1 in
@@ -210,7 +210,7 @@ begins_at_true s i e =
       λ on. may_be_cut_true s.content i within (if_true s.utf8_empty (may_be_cut s.content i) g.1 on),
     )
 
-true_begins_at : (s : Search) (i : ℕ) → Begins s i → begins_at s i ≡ true
+true_begins_at : (s : Search) (i : ℕ) → MayBegin s i → begins_at s i ≡ true
 true_begins_at s i begins = let inside = begins.0.0 in
     ap₂ (λ x y. x && y) (le-leb _ _ inside.0) (
     ap₂ (λ x y. x && y) (le-leb _ _ inside.1) (
@@ -220,7 +220,7 @@ true_begins_at s i begins = let inside = begins.0.0 in
     ap₂ (λ x y. x && y) (true_if (is_anchored s.anchoring) (i == s.start) (λ on. eq-eqb i s.start (begins.0.1 on)))
     (true_if s.utf8_empty (may_be_cut s.content i) (λ on. true_may_be_cut s.content i (begins.1 on))))))))
 
-begins_at_tells : (s : Search) → Tells (begins_at s) (Begins s) (suc (length s.content))
+begins_at_tells : (s : Search) → Tells (begins_at s) (MayBegin s) (suc (length s.content))
 begins_at_tells s = record {
   yes = λ i e. begins_at_true s i e;
   no_others = λ i e begins. cc (sym e ∙ true_begins_at s i begins);
@@ -235,11 +235,11 @@ pub computed : {S : Type 0} (member : S → ℕ → Bool) (is_word : ℕ → Boo
     → search_of member is_word p s q ≡ Some out → ProgramFinds member is_word p s out
 computed member is_word p s q out at e = subst (λ o. IfStarts o (IsFind (machine_of member is_word p s) fresh_notes s) out) (sym at)
     (find_from_finds (reads_whole put_note member p.nodes (haystack_of (holds_in is_word p.line_terminator s) s))
-    (search_finds (places_search (machine_of member is_word p s) 100 (begins_at s) (Begins s) (suc (length s.content)) fresh_notes q (suc (length s.content) - s.start) s.start [] None out (begins_at_tells s) (omega arith) e)))
+    (search_finds (places_search (machine_of member is_word p s) 100 (begins_at s) (MayBegin s) (suc (length s.content)) fresh_notes q (suc (length s.content) - s.start) s.start [] None out (begins_at_tells s) (omega arith) e)))
 
 -- and where all matches are wanted, what the loop without a cut finds
 pub found_by_all : {S : Type 0} (member : S → ℕ → Bool) (is_word : ℕ → Bool) (p : Program Look S) (s : Search) (q : ℕ) (out : Option PatternMatch) → start_node p s.anchoring ≡ Some q
-    → SearchesAll (machine_of member is_word p s) (Begins s) q s.start [] None out → ProgramFindsAll member is_word p s out
+    → SearchesAll (machine_of member is_word p s) (MayBegin s) q s.start [] None out → ProgramFindsAll member is_word p s out
 found_by_all member is_word p s q out at searches =
     let h = haystack_of (holds_in is_word p.line_terminator s) s in
     subst (λ o. IfStarts o (IsFindAll (machine_of member is_word p s) fresh_notes s) out) (sym at)

@@ -10,7 +10,7 @@ use Rattle.rx_walks.specs.Steps.{Best, none, hit, miss}
 use Rattle.rx_walks.specs.Looks.{Look}
 use Rattle.rx_walks.specs.Programs.{Node, Program, Haystack, Notes, fresh_notes, put_note, is_within, only_if, by_character, over_characters}
 use Rattle.rx_walks.specs.ProgramFinds.{first_by, holds_in, haystack_of, machine_of, start_node, IfStarts, ProgramFinds}
-use Rattle.rx_walks.specs.Laws.{IsTold}
+use Rattle.rx_walks.specs.Laws.{IsDecidable}
 use Rattle.rx_walks.proofs.WalkLaws.{Contains-head, Contains-tail, Contains-cases, none_seen, none_when_seen, least_ended, least_took, none_took, none_went, chosen, opened_best}
 use Rattle.rx_walks.proofs.PathLaws.{new_past}
 use Rattle.rx_walks.proofs.FindLaws.{least_same}
@@ -73,7 +73,7 @@ least_number P known (suc n) = elim (least_number P known n) [
 
 -- ---- lists of nodes
 
-pub contained : {Q : Type 0} → IsTold Q → (xs : List Q) (x : Q) → Contains xs x ⊎ IsNew xs x
+pub contained : {Q : Type 0} → IsDecidable Q → (xs : List Q) (x : Q) → Contains xs x ⊎ IsNew xs x
 contained told [] x = inr (none_seen x)
 contained told (y ∷ xs) x = elim (told y x) [
   | inl e ↦ inl (Contains-head xs y x e)
@@ -117,7 +117,7 @@ of_one (miss never best) = inr never
 none_still : {Q N : Type 0} {m : Machine Q N} {seen : List Q} {n : N} {q : Q} {i : ℕ} → m.move i q ≡ goes [] → HasNoWalk m seen n q i
 none_still nothing = none_went [] nothing (λ d s at. absurd (cc at))
 
-module _ {Q N : Type 0} (m : Machine Q N) (told : IsTold Q) (forward : IsForward m) where
+module _ {Q N : Type 0} (m : Machine Q N) (told : IsDecidable Q) (forward : IsForward m) where
   -- at a place, where it is known of each further place
   module _ (i : ℕ) (on : (j : ℕ) → i < j → (n : N) (q : Q) → LeastOrNone m [] n q j) where
     by_move : (seen : List Q) (n : N) (q : Q) → IsNew seen q → ((n' : N) (r : Q) → LeastOrNone m (q ∷ seen) n' r i) → (x : Move Q) → m.move i q ≡ x → LeastOrNone m seen n q i

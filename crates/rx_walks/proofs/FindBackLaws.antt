@@ -14,7 +14,7 @@ use Rattle.rx_walks.proofs.ForwardLaws.{number_told}
 use Rattle.rx_walks.proofs.WholeLaws.{reads_whole}
 use Rattle.rx_walks.proofs.FindLaws.{begins}
 use Rattle.rx_walks.proofs.AllFindLaws.{path_read}
-use Rattle.rx_walks.specs.Laws.{Begins}
+use Rattle.rx_walks.specs.Laws.{MayBegin}
 use Rattle.rx_walks.specs.Backward.{CountsBack, IsFindBack, none_back, least_back, ProgramFindsBack, FitsContent, back_from, anchored_as}
 use Rattle.rx_walks.proofs.WalkLaws.{same_some, same_open, ends_not_goes, goes_not_reads}
 use Rattle.rx_walks.specs.BackLaws.{IsStartOf, IsFirstStart, StartsFirst}
@@ -72,7 +72,7 @@ module _ {S : Type 0} (member : S → ℕ → Bool) (is_word : ℕ → Bool) (p 
     | inr never ↦ (let walk = path_has_walk number_told path (fresh_notes i) in absurd (never walk.choices walk.outcome walk.walk))
   ]
 
-  counting : {q i k e : ℕ} → Begins s i → Path m q i k e → (t : Outcome Notes) × Counts m fresh_notes s q i t
+  counting : {q i k e : ℕ} → MayBegin s i → Path m q i k e → (t : Outcome Notes) × Counts m fresh_notes s q i t
   counting b path = let one = least_of path in (one.0, record { possible = b.0; least = one.1; may_end = inr b.1 })
 
   pub starts_first : (q : ℕ) → start_node p s.anchoring ≡ Some q → StartsFirst member is_word p s q
@@ -81,14 +81,14 @@ module _ {S : Type 0} (member : S → ℕ → Bool) (is_word : ℕ → Bool) (p 
     not_found = λ finds. none (subst (λ z. IfStarts z (IsFind m fresh_notes s) None) starts finds);
   }
     where
-      first : (t : Outcome Notes) → IsFind m fresh_notes s q (Some t) → IsFirstStart m (Begins s) q (start_of t)
-      first t (is_found {i = i} counts before) = subst (IsFirstStart m (Begins s) q) (sym (keeps_start (first_by member) p.nodes h counts.least.walk)) (record {
+      first : (t : Outcome Notes) → IsFind m fresh_notes s q (Some t) → IsFirstStart m (MayBegin s) q (start_of t)
+      first t (is_found {i = i} counts before) = subst (IsFirstStart m (MayBegin s) q) (sym (keeps_start (first_by member) p.nodes h counts.least.walk)) (record {
         here = begins (reads_whole put_note member p.nodes h) counts;
         leads = (t.pattern, t.end, walk_has_path counts.least.walk);
         none_before = λ j k e below b path. (let one = counting b path in before j one.0 below one.1);
       })
 
-      none : IsFind m fresh_notes s q None → (i k e : ℕ) → Begins s i → Path m q i k e → ⊥
+      none : IsFind m fresh_notes s q None → (i k e : ℕ) → MayBegin s i → Path m q i k e → ⊥
       none (not_found never) i k e b path = let one = counting b path in never i one.0 one.1
 
   -- a start before a find's has no walk that counts to its end

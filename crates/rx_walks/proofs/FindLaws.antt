@@ -5,9 +5,9 @@ use Rattle.std.specs.Str.{IsCharBoundary}
 use Rattle.rx_walks.specs.Machines.{reads, Machine, Outcome}
 use Rattle.rx_walks.specs.Walks.{Walk, ended, went, took, Before, here, later, IsLeast}
 use Rattle.rx_walks.specs.Finds.{Search, Counts, IsFind, not_found, is_found}
-use Rattle.rx_walks.specs.Matches.{Next, no_more, at_once, moved, Further, last, one_more, Matches, no_match, first}
+use Rattle.rx_walks.specs.Matches.{RepeatedFinds, Next, no_more, at_once, moved, Further, last, one_more, Matches, no_match, first}
 use Rattle.rx_walks.specs.Steps.{FindsFrom, nowhere, found}
-use Rattle.rx_walks.specs.Laws.{Begins}
+use Rattle.rx_walks.specs.Laws.{MayBegin}
 use Rattle.rx_walks.proofs.WalkLaws.{same_walk, same_some}
 
 -- one least walk
@@ -34,7 +34,7 @@ has_read content at_whole (went rs r new is at w) = has_read content at_whole w
 has_read content at_whole (took {q = q} {i = i} r j new is w) = inr (at_whole i j q r is)
 
 pub begins : {Q N : Type 0} {m : Machine Q N} {fresh : ℕ → N} {s : Search} {q : Q} {i : ℕ} {t : Outcome N} → ((i j : ℕ) (q r : Q) → m.move i q ≡ reads r j → IsCharBoundary s.content i) → Counts m fresh s q i t
-    → Begins s i
+    → MayBegin s i
 begins {s = s} {i = i} {t = t} at_whole counts = (
   counts.possible,
   λ on. elim counts.may_end [
@@ -44,7 +44,7 @@ begins {s = s} {i = i} {t = t} at_whole counts = (
 )
 
 pub find_from_finds : {Q N : Type 0} {m : Machine Q N} {fresh : ℕ → N} {s : Search} {q : Q} {out : Option (Outcome N)} → ((i j : ℕ) (q r : Q) → m.move i q ≡ reads r j → IsCharBoundary s.content i)
-    → FindsFrom m (Begins s) fresh q s.start out → IsFind m fresh s q out
+    → FindsFrom m (MayBegin s) fresh q s.start out → IsFind m fresh s q out
 find_from_finds {s = s} at_whole (nowhere never) = not_found (λ i t counts. never i counts.possible.0.2 (begins at_whole counts) counts.least.choices t counts.least.walk)
 find_from_finds {s = s} at_whole (found j from b one before) = is_found
     (record { possible = b.0; least = one; may_end = inr b.1 })
@@ -68,30 +68,30 @@ IsOne {A} find = (i : ℕ) (out out' : Option A) → find i out → find i out' 
 not_moved : {A : Type 0} (start_of end_of : A → ℕ) {e : ℕ} {a b : A} → Some a ≡ Some b → (start_of a ≡ e → end_of a ≡ e → ⊥) → start_of b ≡ e → end_of b ≡ e → ⊥
 not_moved start_of end_of same not is is' = let one = same_some refl same in not (ap start_of one ∙ is) (ap end_of one ∙ is')
 
-pub next_unique : {A : Type 0} {find : ℕ → Option A → Type 0} {start_of end_of : A → ℕ} {e : ℕ} {out out' : Option A} → IsOne find → Next find start_of end_of e out → Next find start_of end_of e out' → out ≡ out'
+pub next_unique : {A : Type 0} {finds : RepeatedFinds A} {e : ℕ} {out out' : Option A} → IsOne finds.find → Next finds e out → Next finds e out' → out ≡ out'
 next_unique one (no_more f) (no_more f') = refl
 next_unique {e = e} one (no_more f) (at_once {a = a} f' not) = one e None (Some a) f f'
 next_unique {e = e} one (no_more f) (moved {a = a} f' is is' f'') = absurd (cc (one e None (Some a) f f'))
 next_unique {e = e} one (at_once {a = a} f not) (no_more f') = one e (Some a) None f f'
 next_unique {e = e} one (at_once {a = a} f not) (at_once {a = b} f' not') = one e (Some a) (Some b) f f'
-next_unique {start_of = start_of} {end_of = end_of} {e = e} one (at_once {a = a} f not) (moved {a = b} f' is is' f'') = absurd (not_moved start_of end_of (one e (Some a) (Some b) f f') not is is')
+next_unique {finds = finds} {e = e} one (at_once {a = a} f not) (moved {a = b} f' is is' f'') = absurd (not_moved finds.start_of finds.end_of (one e (Some a) (Some b) f f') not is is')
 next_unique {e = e} one (moved {a = a} f is is' f') (no_more f'') = absurd (cc (one e (Some a) None f f''))
-next_unique {start_of = start_of} {end_of = end_of} {e = e} one (moved {a = b} f is is' f') (at_once {a = a} f'' not) = absurd (not_moved start_of end_of (one e (Some a) (Some b) f'' f) not is is')
+next_unique {finds = finds} {e = e} one (moved {a = b} f is is' f') (at_once {a = a} f'' not) = absurd (not_moved finds.start_of finds.end_of (one e (Some a) (Some b) f'' f) not is is')
 next_unique {e = e} one (moved {out = out} f is is' f') (moved {out = out'} f'' is'' is''' f''') = one (e + 1) out out' f' f'''
 
-further_unique : {A : Type 0} {find : ℕ → Option A → Type 0} {start_of end_of : A → ℕ} {e : ℕ} {ms ms' : List A} → IsOne find → Further find start_of end_of e ms → Further find start_of end_of e ms' → ms ≡ ms'
+further_unique : {A : Type 0} {finds : RepeatedFinds A} {e : ℕ} {ms ms' : List A} → IsOne finds.find → Further finds e ms → Further finds e ms' → ms ≡ ms'
 further_unique one (last n) (last n') = refl
 further_unique one (last n) (one_more n' others) = absurd (cc (next_unique one n n'))
 further_unique one (one_more n others) (last n') = absurd (cc (next_unique one n n'))
-further_unique {find = find} {start_of = start_of} {end_of = end_of} one (one_more n others) (one_more {others = xs} n' others') =
+further_unique {finds = finds} one (one_more n others) (one_more {others = xs} n' others') =
     let same = same_some refl (next_unique one n n') in
-    ap₂ (λ x xs. x ∷ xs) same (further_unique one others (subst (λ x. Further find start_of end_of (end_of x) xs) (sym same) others'))
+    ap₂ (λ x xs. x ∷ xs) same (further_unique one others (subst (λ x. Further finds (finds.end_of x) xs) (sym same) others'))
 
-pub matches_unique : {A : Type 0} {find : ℕ → Option A → Type 0} {start_of end_of : A → ℕ} {start : ℕ} {ms ms' : List A} → IsOne find → Matches find start_of end_of start ms → Matches find start_of end_of start ms'
+pub matches_unique : {A : Type 0} {finds : RepeatedFinds A} {start : ℕ} {ms ms' : List A} → IsOne finds.find → Matches finds start ms → Matches finds start ms'
     → ms ≡ ms'
 matches_unique one (no_match f) (no_match f') = refl
 matches_unique {start = start} one (no_match f) (first {a = a} f' others) = absurd (cc (one start None (Some a) f f'))
 matches_unique {start = start} one (first {a = a} f others) (no_match f') = absurd (cc (one start (Some a) None f f'))
-matches_unique {find = find} {start_of = start_of} {end_of = end_of} {start = start} one (first {a = a} f others) (first {a = b} {others = xs} f' others') =
+matches_unique {finds = finds} {start = start} one (first {a = a} f others) (first {a = b} {others = xs} f' others') =
     let same = same_some refl (one start (Some a) (Some b) f f') in
-    ap₂ (λ x xs. x ∷ xs) same (further_unique one others (subst (λ x. Further find start_of end_of (end_of x) xs) (sym same) others'))
+    ap₂ (λ x xs. x ∷ xs) same (further_unique one others (subst (λ x. Further finds (finds.end_of x) xs) (sym same) others'))

@@ -2,7 +2,7 @@
 use Rattle.std.proofs.Common.{◌≡◌, ℕ, ◌≤◌, Bool, true, false, ◌==◌, cond, List, [], ◌∷◌, length, Option, Some, None, slice_get, min, refl, sym, subst, ◌∙◌, arith}
 use Rattle.std.proofs.lemmas.Bool.Decides.{nat_tests}
 use Rattle.std.proofs.Math.Nat.{le-max_left, le-max_right, min-le_left, min-le_right}
-use Rattle.rx_walks.specs.Machines.{Move, ends, goes, reads, Outcome, IsForward}
+use Rattle.rx_walks.specs.Machines.{Move, ends, goes, Outcome, IsForward}
 use Rattle.rx_walks.specs.Walks.{Walk, ended, went, took}
 use Rattle.rx_walks.specs.Finds.{Search, IsInside, IsPossible, MayEnd, IsFind, is_found, IsFindAll, greatest, PatternMatch}
 use Rattle.rx_walks.specs.Looks.{Look}
@@ -16,20 +16,12 @@ ends_inside : {Q : Type 0} {p : ℕ} (b : Bool) (x : Move Q) → only_if b x ≡
 ends_inside false x e = absurd (cc e)
 ends_inside true x e = refl
 
-reads_inside : {Q : Type 0} {j : ℕ} {r : Q} (b : Bool) (x : Move Q) → only_if b x ≡ reads r j → b ≡ true
-reads_inside false x e = absurd (cc e)
-reads_inside true x e = refl
-
 pub none_there : {Q : Type 0} {r : Q} (rs : List Q) (k : ℕ) → rs ≡ [] → slice_get rs k ≡ Some r → ⊥
 none_there [] k e at = absurd (cc at)
 none_there (r ∷ rs) k e at = absurd (cc e)
 
 pub same_goes : {Q : Type 0} (rs ss : List Q) → goes rs ≡ goes ss → rs ≡ ss
 same_goes rs ss e = cc e
-
-goes_inside : {Q : Type 0} {r : Q} (b : Bool) (x : Move Q) (rs : List Q) (k : ℕ) → only_if b x ≡ goes rs → slice_get rs k ≡ Some r → b ≡ true
-goes_inside false x rs k e at = absurd (none_there rs k (same_goes rs [] (sym e)) at)
-goes_inside true x rs k e at = refl
 
 -- each place that was noted lies between these
 abbrev pub AreNoted : ℕ → ℕ → List (ℕ × ℕ) → Type 0

@@ -7,7 +7,7 @@ use Rattle.rx_walks.specs.Looks.{Look}
 use Rattle.rx_walks.specs.Finds.{Search, from_place_on, PatternMatch}
 use Rattle.rx_walks.specs.Matches.{Next, no_more, at_once, moved, BehindLast}
 use Rattle.rx_walks.specs.Programs.{Program}
-use Rattle.rx_walks.specs.ProgramFinds.{ProgramFindsAll}
+use Rattle.rx_walks.specs.ProgramFinds.{ProgramFindsAll, finds_all_on}
 use Rattle.rx_walks.specs.Iterating.{MatchesLeft, matches_from, not_refused}
 use Rattle.rx_walks.specs.MatchesAll as iterating
 use Rattle.rx_walks.specs.MatchesAll.{ProgramFirstMatchesAll, ProgramComesNextAll, FindingAll, FindsNextAll, nothing, passed, GivesFoundAll, GivesMatchAll, GivesAllInOrder, IteratorsGiveAllInOrder}
@@ -24,13 +24,13 @@ next_at_first finds s None (nothing f) = f
 next_at_first finds s (Some t) (iterating.at_once f not) = f
 next_at_first finds s out (passed f empty f') = absurd (cc empty.1)
 
-next_behind : (finds : FindingAll) (s : Search) (e : ℕ) (out : Option PatternMatch) → FindsNextAll finds (from_place_on s e) (Some e) out → Next (λ i. finds (from_place_on s i)) (λ a. a.start) (λ a. a.end) e out
+next_behind : (finds : FindingAll) (s : Search) (e : ℕ) (out : Option PatternMatch) → FindsNextAll finds (from_place_on s e) (Some e) out → Next (finds_all_on finds s) e out
 next_behind finds s e None (nothing f) = no_more f
 next_behind finds s e (Some t) (iterating.at_once f not) = at_once f (λ is is'. not (is ∙ sym is', ap Some (sym is')))
 next_behind finds s e out (passed f empty f') = let same = same_some refl empty.1 in moved f (empty.0 ∙ sym same) (sym same) f'
 
 behind_last : (finds : FindingAll) (s : Search) (last : Option PatternMatch) (out : Option PatternMatch) → FindsNextAll finds (left_behind s last).search (left_behind s last).last_end out
-    → BehindLast (λ i. finds (from_place_on s i)) (λ a. a.start) (λ a. a.end) s.start last out
+    → BehindLast (finds_all_on finds s) s.start last out
 behind_last finds s None out next = next_at_first finds s out next
 behind_last finds s (Some t) out next = next_behind finds s t.end out next
 

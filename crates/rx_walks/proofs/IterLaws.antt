@@ -8,7 +8,7 @@ use Rattle.rx_walks.specs.Looks.{Look}
 use Rattle.rx_walks.specs.Finds.{Search, from_place_on}
 use Rattle.rx_walks.specs.Matches.{Next, no_more, at_once, moved, BehindLast}
 use Rattle.rx_walks.specs.Programs.{Program, Notes}
-use Rattle.rx_walks.specs.ProgramFinds.{ProgramFinds, ProgramFirstMatches, ProgramComesNext, start_of, end_of}
+use Rattle.rx_walks.specs.ProgramFinds.{ProgramFinds, ProgramFirstMatches, ProgramComesNext, finds_on, end_of}
 use Rattle.rx_walks.specs.Iterating as iterating
 use Rattle.rx_walks.specs.Iterating.{Finding, FindsNext, nothing, passed, MatchesLeft, matches_from, GivesFound, GivesMatch, not_refused, GivesInOrder, IteratorsGiveInOrder}
 use Rattle.rx_walks.proofs.WalkLaws.{same_some}
@@ -24,13 +24,13 @@ next_at_first finds s None (nothing f) = f
 next_at_first finds s (Some t) (iterating.at_once f not) = f
 next_at_first finds s out (passed f empty f') = absurd (cc empty.1)
 
-next_behind : (finds : Finding) (s : Search) (e : ℕ) (out : Option (Outcome Notes)) → FindsNext finds (from_place_on s e) (Some e) out → Next (λ i. finds (from_place_on s i)) start_of end_of e out
+next_behind : (finds : Finding) (s : Search) (e : ℕ) (out : Option (Outcome Notes)) → FindsNext finds (from_place_on s e) (Some e) out → Next (finds_on finds s) e out
 next_behind finds s e None (nothing f) = no_more f
 next_behind finds s e (Some t) (iterating.at_once f not) = at_once f (λ is is'. not (is ∙ sym is', ap Some (sym is')))
 next_behind finds s e out (passed f empty f') = let same = same_some refl empty.1 in moved f (empty.0 ∙ sym same) (sym same) f'
 
 behind_last : (finds : Finding) (s : Search) (last : Option (Outcome Notes)) (out : Option (Outcome Notes)) → FindsNext finds (left_behind s last).search (left_behind s last).last_end out
-    → BehindLast (λ i. finds (from_place_on s i)) start_of end_of s.start last out
+    → BehindLast (finds_on finds s) s.start last out
 behind_last finds s None out next = next_at_first finds s out next
 behind_last finds s (Some t) out next = next_behind finds s (end_of t) out next
 

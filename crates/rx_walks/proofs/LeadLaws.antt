@@ -3,7 +3,7 @@ use Rattle.std.proofs.Common.{◌≡◌, ℕ, zero, suc, ◌+◌, ◌<◌, ◌�
 use Rattle.rx_walks.specs.Machines.{Move, ends, goes, reads, Machine, Outcome, IsForward}
 use Rattle.rx_walks.specs.Walks.{IsNew, IsLeast, HasNoWalk}
 use Rattle.rx_walks.specs.Steps.{Best, miss}
-use Rattle.rx_walks.specs.Laws.{IsTold}
+use Rattle.rx_walks.specs.Laws.{IsDecidable}
 use Rattle.rx_walks.proofs.WalkLaws.{none_went, Contains-head, Contains-tail}
 use Rattle.rx_walks.proofs.FindLaws.{least_same}
 use Rattle.rx_walks.proofs.ExistLaws.{LeastOrNone, least_or_none, IsKnown, contained, without}
@@ -13,11 +13,11 @@ use Rattle.rx_walks.proofs.FollowLaws.{walk_leads_to, leads_walk, followed_best,
 
 -- ---- it is known whether a node leads
 
-pub known_by_least : {Q N : Type 0} {m : Machine Q N} {n : N} {q : Q} {i : ℕ} → IsTold Q → LeastOrNone m [] n q i → IsKnown (LeadsToMatch m q i)
+pub known_by_least : {Q N : Type 0} {m : Machine Q N} {n : N} {q : Q} {i : ℕ} → IsDecidable Q → LeastOrNone m [] n q i → IsKnown (LeadsToMatch m q i)
 known_by_least told (inl one) = inl (walk_leads_to one.1.walk)
 known_by_least told (inr never) = inr (λ leads. leads_walk told leads never)
 
-module _ {Q N : Type 0} (m : Machine Q N) (told : IsTold Q) (forward : IsForward m) (finite : IsFinite m) where
+module _ {Q N : Type 0} (m : Machine Q N) (told : IsDecidable Q) (forward : IsForward m) (finite : IsFinite m) where
   pub least_known : (n : N) (q : Q) (i : ℕ) → LeastOrNone m [] n q i
   least_known n q i = least_or_none m told forward finite.high finite.nodes finite.still_or_there (suc finite.high) i (omega arith) n q
 

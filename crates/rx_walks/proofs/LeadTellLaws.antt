@@ -10,7 +10,7 @@ use Rattle.rx_walks.proofs.WalkLaws.{goes_not_reads}
 use Rattle.rx_walks.proofs.ForwardLaws.{bytes_forward}
 use Rattle.rx_walks.specs.Reversed.{mirrored, last_by, back_program}
 use Rattle.rx_walks.specs.Leading.{LeadsToMatch}
-use Rattle.rx_walks.specs.Reached.{Comes, at_once, on_edge, on_read, Reached, ReadTo, Closes, StandsAt}
+use Rattle.rx_walks.specs.Reached.{Comes, at_once, on_edge, on_read, Reached, ReadTo, IsInClosure, ThreadStandsAt}
 use Rattle.rx_walks.specs.LeadBackLaws.{NoneReturns, back_machine, back_start_of, TellsLeads}
 use Rattle.rx_walks.proofs.ComeBackLaws.{to_back, from_back}
 use Rattle.rx_walks.proofs.ByteComeLaws.{comes_in, comes_out}
@@ -29,9 +29,6 @@ module _ {L S N : Type 0} (put : ℕ → ℕ → N → N) (member : S → ℕ �
   abbrev b : Machine (ℕ × ℕ) N
   b = back_machine put step p h
 
-  size : ℕ
-  size = length h.content
-
   forward : IsForward b
   forward = bytes_forward put step (back_program p).nodes (mirrored h)
 
@@ -42,7 +39,7 @@ module _ {L S N : Type 0} (put : ℕ → ℕ → N → N) (member : S → ℕ �
       by true is = omega (arith, within_low (mirrored h).low (mirrored h).high one.place is, forward one.place (length h.content - h.high) one.before q one.reading)
       by false is = goes_not_reads (ap (λ w. only_if w (by_byte step (mirrored h) one.place one.before.0 one.before.1 (slice_get (back_program p).nodes one.before.0))) is) one.reading
 
-  module _ (i : ℕ) (from : h.low ≤ i) (to : i ≤ h.high) (live : List (ℕ × (ℕ × ℕ))) (same : (q : ℕ × ℕ) → StandsAt live q ↔ ReadTo b (back_start_of p) (length h.content - i) q) (q : ℕ) (below : q < length p.nodes) where
+  module _ (i : ℕ) (from : h.low ≤ i) (to : i ≤ h.high) (live : List (ℕ × (ℕ × ℕ))) (same : (q : ℕ × ℕ) → ThreadStandsAt live q ↔ ReadTo b (back_start_of p) (length h.content - i) q) (q : ℕ) (below : q < length p.nodes) where
     leads_reached : LeadsToMatch (over_characters put (first_by member) p.nodes h) q i → Reached b (back_start_of p) (length h.content - i) (q, 0)
     leads_reached leads = let one = to_back put member p h low_in high_in q i leads in
         record { from = length h.content - one.0; comes = comes_in put (last_by member) step (back_program p).nodes (mirrored h) members never_back one.2 }
@@ -55,7 +52,7 @@ module _ {L S N : Type 0} (put : ℕ → ℕ → N → N) (member : S → ℕ �
         (subst (λ z. Comes (over_characters put (last_by member) (back_program p).nodes (mirrored h)) (back_program p).start z q (length h.content - i)) place
         (comes_out put (last_by member) step (back_program p).nodes (mirrored h) members never_back one.comes))
 
-    leads_closes : LeadsToMatch (over_characters put (first_by member) p.nodes h) q i ↔ Closes b (length h.content - i) (StandsAt (live ++ (length h.content - i, back_start_of p) ∷ [])) (q, 0)
+    leads_closes : LeadsToMatch (over_characters put (first_by member) p.nodes h) q i ↔ IsInClosure b (length h.content - i) (ThreadStandsAt (live ++ (length h.content - i, back_start_of p) ∷ [])) (q, 0)
     leads_closes =
         let here = reached_here b (back_start_of p) (length h.content - i) live same (q, 0) in
         ((λ leads. here.0 (leads_reached leads)), (λ closes. reached_leads (here.1 closes)))

@@ -7,7 +7,7 @@ use Rattle.rx_walks.specs.Finds.{Search, from_place_on}
 use Rattle.rx_walks.specs.Looks.{Look}
 use Rattle.rx_walks.specs.Programs.{Program, Notes, fresh_notes, put_note}
 use Rattle.rx_walks.specs.ProgramFinds.{haystack_of, holds_in, machine_of, highest}
-use Rattle.rx_walks.specs.Laws.{IsTold}
+use Rattle.rx_walks.specs.Laws.{IsDecidable}
 use Rattle.rx_walks.proofs.ForwardLaws.{characters_forward, number_told}
 use Rattle.rx_walks.proofs.ExistLaws.{IsKnown, both_known, possible_known, may_end_known, still_or_there, numbers_below}
 use Rattle.rx_walks.specs.Leading.{LeadsToMatch, Follows}
@@ -17,7 +17,7 @@ use Rattle.rx_walks.proofs.FollowLaws.{followed_is_least}
 use Rattle.rx_walks.proofs.LeadLaws.{answers, follows_least}
 use Rattle.rx_walks.proofs.CutLaws.{on_from}
 
-module _ {Q N : Type 0} (m : Machine Q N) (told : IsTold Q) (forward : IsForward m) (finite : IsFinite m) (start_at : ℕ → ℕ → Type 0) (start_known : (e i : ℕ) → IsKnown (start_at e i)) (fresh : ℕ → N) (q : Q)
+module _ {Q N : Type 0} (m : Machine Q N) (told : IsDecidable Q) (forward : IsForward m) (finite : IsFinite m) (start_at : ℕ → ℕ → Type 0) (start_known : (e i : ℕ) → IsKnown (start_at e i)) (fresh : ℕ → N) (q : Q)
     (n : ℕ) (inside : (e i : ℕ) → start_at e i → i ≤ n) where
   abbrev Lists : Bool → ℕ → ℕ → Type 0
   Lists after e i = (ms : List (Outcome N)) × Listing m start_at fresh q after e i ms

@@ -7,16 +7,16 @@ use Rattle.std.specs.Str.{IsCharBoundary}
 use Rattle.rx_walks.specs.Machines.{reads, Machine, Outcome, IsForward}
 use Rattle.rx_walks.specs.Walks.{Walk, ended, went, took, IsLeast, HasNoWalk}
 use Rattle.rx_walks.specs.Finds.{Search, from_place_on, Counts, IsFind}
-use Rattle.rx_walks.specs.Matches.{no_more, at_once, moved, Further, last, one_more, Matches, no_match, first}
+use Rattle.rx_walks.specs.Matches.{RepeatedFinds, no_more, at_once, moved, Further, last, one_more, Matches, no_match, first}
 use Rattle.rx_walks.specs.Looks.{Look}
 use Rattle.rx_walks.specs.Programs.{Node, match, pass, note, look, set, Program, Haystack, Notes, fresh_notes, put_note, only_if, is_within, by_character, note_at, over_characters}
-use Rattle.rx_walks.specs.ProgramFinds.{first_by, haystack_of, holds_in, machine_of, lowest, highest, start_node, IfStarts, ProgramFinds, ProgramMatches, start_of, end_of}
+use Rattle.rx_walks.specs.ProgramFinds.{first_by, haystack_of, holds_in, machine_of, lowest, highest, start_node, IfStarts, ProgramFinds, ProgramMatches, finds_on}
 use Rattle.rx_walks.specs.Steps.{FindsFrom, nowhere, found}
 use Rattle.rx_walks.specs.Bytes.{Automaton, over_bytes}
-use Rattle.rx_walks.specs.Laws.{Begins, IsTold, ReadsMembers}
+use Rattle.rx_walks.specs.Laws.{MayBegin, IsDecidable, ReadsMembers}
 use Rattle.rx_walks.proofs.FindLaws.{begins, find_from_finds}
 use Rattle.rx_walks.specs.Refinements.{Refines}
-use Rattle.rx_walks.specs.Likenesses.{noted_by, HasNotes}
+use Rattle.rx_walks.specs.Likenesses.{noted_by, HasNotes, Keeping}
 use Rattle.rx_walks.proofs.WalkLaws.{with_notes, same_walk}
 use Rattle.rx_walks.proofs.PathLaws.{path_has_walk}
 use Rattle.rx_walks.proofs.CutLaws.{on_from}
@@ -34,18 +34,18 @@ use Rattle.rx_walks.proofs.FollowLaws.{walk_leads_to, leads_walk, followed_is_le
 -- ---- any finds: where a start that counts is one that begins and leads; `kept` tells what is kept of a match
 
 -- a match of which this is kept
-pub record Own {A N : Type 0} (kept : A → Outcome N) (first_of last_of : A → ℕ) (j : ℕ) (t : Outcome N) (P : A → Type 0) : Type 0 where
+pub record Own {A N : Type 0} (kept : A → Outcome N) (finds : RepeatedFinds A) (j : ℕ) (t : Outcome N) (P : A → Type 0) : Type 0 where
   pub one : A
   pub is : kept one ≡ t
-  pub first_is : first_of one ≡ j
-  pub last_is : last_of one ≡ t.end
+  pub first_is : finds.start_of one ≡ j
+  pub last_is : finds.end_of one ≡ t.end
   pub on : j ≤ t.end
   pub has : P one
 
-module _ {Q N A : Type 0} (m : Machine Q N) (start_at : ℕ → ℕ → Type 0) (fresh : ℕ → N) (q : Q) (find : ℕ → Option A → Type 0) (first_of last_of : A → ℕ) (kept : A → Outcome N)
-    (base : ℕ) (none_from : (e : ℕ) → base ≤ e → ((j : ℕ) → e ≤ j → start_at e j → LeadsToMatch m q j → ⊥) → find e None)
+module _ {Q N A : Type 0} (m : Machine Q N) (start_at : ℕ → ℕ → Type 0) (fresh : ℕ → N) (q : Q) (finds : RepeatedFinds A) (kept : A → Outcome N)
+    (base : ℕ) (none_from : (e : ℕ) → base ≤ e → ((j : ℕ) → e ≤ j → start_at e j → LeadsToMatch m q j → ⊥) → finds.find e None)
     (some_from : (e j : ℕ) (t : Outcome N) → base ≤ e → e ≤ j → start_at e j → Follows m j [] ((fresh j, q) ∷ []) (Some t) → ((k : ℕ) → e ≤ k → k < j → start_at e k → LeadsToMatch m q k → ⊥)
-    → Own kept first_of last_of j t (λ a. find e (Some a))) where
+    → Own kept finds j t (λ a. finds.find e (Some a))) where
   -- no start counts between these places
   abbrev NoneIn : ℕ → ℕ → Type 0
   NoneIn e i = (j : ℕ) → e ≤ j → j < i → start_at e j → LeadsToMatch m q j → ⊥
@@ -56,25 +56,25 @@ module _ {Q N A : Type 0} (m : Machine Q N) (start_at : ℕ → ℕ → Type 0) 
     | inr other ↦ none j from (omega (arith, below, other)) b leads
   ]
 
-  none_at_all : {e i : ℕ} → base ≤ e → NoneIn e i → ((j : ℕ) → i ≤ j → start_at e j → LeadsToMatch m q j → ⊥) → find e None
+  none_at_all : {e i : ℕ} → base ≤ e → NoneIn e i → ((j : ℕ) → i ≤ j → start_at e j → LeadsToMatch m q j → ⊥) → finds.find e None
   none_at_all {e = e} {i = i} within none never = none_from e within (λ j from b leads. elim (cases_lt j i) [ inl below ↦ none j from below b leads | inr on ↦ never j on b leads ])
 
   none_yet : {e : ℕ} → NoneIn e e
   none_yet j from below b leads = omega (arith, from, below)
 
-  behind_empty : {e : ℕ} {a : A} {own : List A} → find e (Some a) → first_of a ≡ e → last_of a ≡ e → Matches find first_of last_of (e + 1) own → Further find first_of last_of e own
+  behind_empty : {e : ℕ} {a : A} {own : List A} → finds.find e (Some a) → finds.start_of a ≡ e → finds.end_of a ≡ e → Matches finds (e + 1) own → Further finds e own
   behind_empty f is is' (no_match f') = last (moved f is is' f')
   behind_empty f is is' (first f' others) = one_more (moved f is is' f') others
 
   abbrev Listed : Bool → ℕ → List A → Type 0
-  Listed false e own = Matches find first_of last_of e own
-  Listed true e own = Further find first_of last_of e own
+  Listed false e own = Matches finds e own
+  Listed true e own = Further finds e own
 
-  no_others : (after : Bool) {e : ℕ} → find e None → Listed after e []
+  no_others : (after : Bool) {e : ℕ} → finds.find e None → Listed after e []
   no_others false f = no_match f
   no_others true f = last (no_more f)
 
-  with_others : (after : Bool) {e : ℕ} {a : A} {own : List A} → find e (Some a) → (IsTrue after → first_of a ≡ e → last_of a ≡ e → ⊥) → Further find first_of last_of (last_of a) own → Listed after e (a ∷ own)
+  with_others : (after : Bool) {e : ℕ} {a : A} {own : List A} → finds.find e (Some a) → (IsTrue after → finds.start_of a ≡ e → finds.end_of a ≡ e → ⊥) → Further finds (finds.end_of a) own → Listed after e (a ∷ own)
   with_others false f not others = first f others
   with_others true f not others = one_more (at_once f (not refl)) others
 
@@ -92,7 +92,7 @@ module _ {Q N A : Type 0} (m : Machine Q N) (start_at : ℕ → ℕ → Type 0) 
         ap₂ (λ x xs. x ∷ xs) a.is others.1,
         with_others after a.has
             (λ is at at'. not is (sym a.first_is ∙ at) (sym a.last_is ∙ at' ∙ sym at ∙ a.first_is))
-            (subst (λ x. Further find first_of last_of x others.0) (sym a.last_is) others.2),
+            (subst (λ x. Further finds x others.0) (sym a.last_is) others.2),
       )
 
 -- ---- programs: from a place on the walks are the same, wherever the span starts before it
@@ -121,9 +121,6 @@ max_below : (a b c : ℕ) → a ≤ c → b ≤ c → max a b ≤ c
 max_below a b c below below' = grind (arith, nat_tests, below, below')
 
 module _ {S : Type 0} (member : S → ℕ → Bool) (is_word : ℕ → Bool) (p : Program Look S) (s : Search) where
-  h_from : ℕ → Haystack Look
-  h_from e = haystack_of (holds_in is_word p.line_terminator s) (from_place_on s e)
-
   abbrev m_from : ℕ → Machine ℕ Notes
   m_from e = machine_of member is_word p (from_place_on s e)
 
@@ -154,7 +151,7 @@ module _ {S : Type 0} (member : S → ℕ → Bool) (is_word : ℕ → Bool) (p 
       (characters_forward put_note member p.nodes (haystack_of (holds_in is_word p.line_terminator s) s)) (omega arith) w
 
   -- a start counts exactly where one begins and its node leads
-  pub starts_count : (q i : ℕ) → ((t : Outcome Notes) × Counts m fresh_notes s q i t) ↔ (Begins s i × LeadsToMatch m q i)
+  pub starts_count : (q i : ℕ) → ((t : Outcome Notes) × Counts m fresh_notes s q i t) ↔ (MayBegin s i × LeadsToMatch m q i)
   starts_count q i = (
     (λ one. (begins at_whole one.1, walk_leads_to one.1.least.walk)),
     (λ both. by_least both.0 both.1 (characters_least put_note member p.nodes h (fresh_notes i) q i)),
@@ -166,15 +163,18 @@ module _ {S : Type 0} (member : S → ℕ → Bool) (is_word : ℕ → Bool) (p 
       at_whole : (i j q r : ℕ) → m.move i q ≡ reads r j → IsCharBoundary s.content i
       at_whole i j q r e = reads_whole put_note member p.nodes (haystack_of (holds_in is_word p.line_terminator s) s) i j q r e
 
-      by_least : Begins s i → LeadsToMatch m q i → LeastOrNone m [] (fresh_notes i) q i → (t : Outcome Notes) × Counts m fresh_notes s q i t
+      by_least : MayBegin s i → LeadsToMatch m q i → LeastOrNone m [] (fresh_notes i) q i → (t : Outcome Notes) × Counts m fresh_notes s q i t
       by_least b leads (inl one) = (one.0, record { possible = b.0; least = one.1; may_end = inr b.1 })
       by_least b leads (inr never) = absurd (leads_walk number_told leads never)
 
   -- a machine whose walks from a node are those of the program, and which keeps something of what is noted
-  module _ {B N : Type 0} (kept : Notes → N) (bytes : Machine B N) (q : ℕ) (qb : B) (starts : start_node p s.anchoring ≡ Some q) (told : IsTold B) (leads : (i : ℕ) → LeadsToMatch m q i → LeadsToMatch bytes qb i)
+  module _ {B N : Type 0} (kept : Notes → N) (bytes : Machine B N) (q : ℕ) (qb : B) (starts : start_node p s.anchoring ≡ Some q) (told : IsDecidable B) (leads : (i : ℕ) → LeadsToMatch m q i → LeadsToMatch bytes qb i)
       (least : (i : ℕ) (t : Outcome N) → IsLeast bytes [] (kept (fresh_notes i)) qb i t → (t' : Outcome Notes) × (noted_by kept t' ≡ t) × IsLeast m [] (fresh_notes i) q i t') where
     abbrev Found : ℕ → Option (Outcome Notes) → Type 0
     Found e out = ProgramFinds member is_word p (from_place_on s e) out
+
+    abbrev repeated : RepeatedFinds (Outcome Notes)
+    repeated = finds_on (ProgramFinds member is_word p) s
 
     finds_here : {e : ℕ} {out : Option (Outcome Notes)} → FindsFrom (m_from e) (begins_from s e) fresh_notes q e out → Found e out
     finds_here {e = e} {out = out} finds = subst (λ o. IfStarts o (IsFind (m_from e) fresh_notes (from_place_on s e)) out) (sym starts)
@@ -187,7 +187,7 @@ module _ {S : Type 0} (member : S → ℕ → Bool) (is_word : ℕ → Bool) (p 
     none_from e within never = finds_here (nowhere (λ j from b. no_walk within b (never j from b)))
 
     some_from : (e j : ℕ) (t : Outcome N) → s.start ≤ e → e ≤ j → begins_from s e j → Follows bytes j [] ((kept (fresh_notes j), qb) ∷ []) (Some t)
-        → ((k : ℕ) → e ≤ k → k < j → begins_from s e k → LeadsToMatch bytes qb k → ⊥) → Own (noted_by kept) start_of end_of j t (λ a. Found e (Some a))
+        → ((k : ℕ) → e ≤ k → k < j → begins_from s e k → LeadsToMatch bytes qb k → ⊥) → Own (noted_by kept) repeated j t (λ a. Found e (Some a))
     some_from e j t within from b follows before =
         let own = least j t (followed_is_least told follows) in
         let h = haystack_of (holds_in is_word p.line_terminator s) s in
@@ -204,7 +204,7 @@ module _ {S : Type 0} (member : S → ℕ → Bool) (is_word : ℕ → Bool) (p 
 
     pub program_listing : (ms : List (Outcome N)) → Listing bytes (begins_from s) (λ i. kept (fresh_notes i)) qb false s.start s.start ms
         → (own : List (Outcome Notes)) × (map (noted_by kept) own ≡ ms) × ProgramMatches member is_word p s own
-    program_listing ms lists = listing_matches bytes (begins_from s) (λ i. kept (fresh_notes i)) qb Found start_of end_of (noted_by kept) s.start none_from some_from (omega arith) (omega arith)
+    program_listing ms lists = listing_matches bytes (begins_from s) (λ i. kept (fresh_notes i)) qb repeated (noted_by kept) s.start none_from some_from (omega arith) (omega arith)
         (λ j from below b leads'. omega (arith, from, below)) lists
 
   same_kept : (own : List (Outcome Notes)) → map (noted_by (λ n. n)) own ≡ own
@@ -216,28 +216,27 @@ module _ {S : Type 0} (member : S → ℕ → Bool) (is_word : ℕ → Bool) (p 
       let on = program_listing (λ n. n) m q q starts number_told (λ i leads. leads) (λ i t one. (t, refl, one)) ms lists in
       subst (λ xs. ProgramMatches member is_word p s xs) (sym (same_kept on.0) ∙ on.1) on.2
 
-  pub byte_listings_are_matches : {N : Type 0} (put : ℕ → ℕ → N → N) (kept : Notes → N) (step : ℕ → Automaton) → ReadsMembers (first_by member) step p.nodes
-      → ((slot i : ℕ) (n : Notes) → put slot i (kept n) ≡ kept (put_note slot i n)) → (q : ℕ) (ms : List (Outcome N)) → start_node p s.anchoring ≡ Some q
-      → Listing (over_bytes put step p.nodes (haystack_of (holds_in is_word p.line_terminator s) s)) (begins_from s) (λ i. kept (fresh_notes i)) (q, 0) false s.start s.start ms
-      → (own : List (Outcome Notes)) × (map (noted_by kept) own ≡ ms) × ProgramMatches member is_word p s own
-  byte_listings_are_matches {N} put kept step members keeps q ms starts lists =
-      program_listing kept (over_bytes put step p.nodes h) q (q, 0) starts pair_told leads_too least_too ms lists
+  pub byte_listings_are_matches : {N : Type 0} (keeping : Keeping N) (step : ℕ → Automaton) → ReadsMembers (first_by member) step p.nodes → (q : ℕ) (ms : List (Outcome N)) → start_node p s.anchoring ≡ Some q
+      → Listing (over_bytes keeping.put step p.nodes (haystack_of (holds_in is_word p.line_terminator s) s)) (begins_from s) (λ i. keeping.kept (fresh_notes i)) (q, 0) false s.start s.start ms
+      → (own : List (Outcome Notes)) × (map (noted_by keeping.kept) own ≡ ms) × ProgramMatches member is_word p s own
+  byte_listings_are_matches {N} keeping step members q ms starts lists =
+      program_listing keeping.kept (over_bytes keeping.put step p.nodes h) q (q, 0) starts pair_told leads_too least_too ms lists
     where
       h : Haystack Look
       h = haystack_of (holds_in is_word p.line_terminator s) s
 
-      notes : HasNotes m (over_characters put (first_by member) p.nodes h) kept
-      notes = keeps_notes put kept (first_by member) p.nodes h keeps
+      notes : HasNotes m (over_characters keeping.put (first_by member) p.nodes h) keeping.kept
+      notes = keeps_notes keeping (first_by member) p.nodes h
 
-      refines : Refines (over_characters put (first_by member) p.nodes h) (over_bytes put step p.nodes h) (λ q. (q, 0))
-      refines = bytes_refine put (first_by member) step p.nodes h members
+      refines : Refines (over_characters keeping.put (first_by member) p.nodes h) (over_bytes keeping.put step p.nodes h) (λ q. (q, 0))
+      refines = bytes_refine keeping.put (first_by member) step p.nodes h members
 
-      leads_too : (i : ℕ) → LeadsToMatch m q i → LeadsToMatch (over_bytes put step p.nodes h) (q, 0) i
+      leads_too : (i : ℕ) → LeadsToMatch m q i → LeadsToMatch (over_bytes keeping.put step p.nodes h) (q, 0) i
       leads_too i leads = let on = path_has_walk number_told leads.path (fresh_notes i) in walk_leads_to (refined refines (renoted_by notes on.walk))
 
-      least_too : (i : ℕ) (t : Outcome N) → IsLeast (over_bytes put step p.nodes h) [] (kept (fresh_notes i)) (q, 0) i t → (t' : Outcome Notes) × (noted_by kept t' ≡ t) × IsLeast m [] (fresh_notes i) q i t'
+      least_too : (i : ℕ) (t : Outcome N) → IsLeast (over_bytes keeping.put step p.nodes h) [] (keeping.kept (fresh_notes i)) (q, 0) i t → (t' : Outcome Notes) × (noted_by keeping.kept t' ≡ t) × IsLeast m [] (fresh_notes i) q i t'
       least_too i t one =
-          let whole : IsLeast (over_characters put (first_by member) p.nodes h) [] (kept (fresh_notes i)) q i t = (least_refined refines).1 one in
+          let whole : IsLeast (over_characters keeping.put (first_by member) p.nodes h) [] (keeping.kept (fresh_notes i)) q i t = (least_refined refines).1 one in
           let back = noted_back (fresh_notes i) notes whole.walk in (
             back.0,
             same_walk (renoted_by notes back.1) whole.walk,

@@ -6,8 +6,9 @@ use Rattle.std.proofs.lemmas.List.{append-nil}
 use Rattle.rx_walks.specs.Machines.{Outcome}
 use Rattle.rx_walks.specs.Looks.{Look}
 use Rattle.rx_walks.specs.Finds.{Search, from_place_on, PatternMatch, IsFind, IsFindAll, is_found, none_at_all}
+use Rattle.rx_walks.specs.Matches.{RepeatedFinds}
 use Rattle.rx_walks.specs.Programs.{Program, Notes, fresh_notes, put_note}
-use Rattle.rx_walks.specs.ProgramFinds.{ProgramFinds, ProgramFindsAll, ProgramMatchesAll, IfStarts, haystack_of, holds_in, machine_of, start_node}
+use Rattle.rx_walks.specs.ProgramFinds.{ProgramFinds, ProgramFindsAll, ProgramMatchesAll, finds_all_on, IfStarts, haystack_of, holds_in, machine_of, start_node}
 use Rattle.rx_walks.specs.MatchesAll.{HasFirstMatchesAll, StandsWhole}
 use Rattle.rx_walks.proofs.ExistLaws.{program_find_exists}
 use Rattle.rx_walks.proofs.FindBackLaws.{starts_first}
@@ -23,6 +24,9 @@ module _ {S : Type 0} (member : S → ℕ → Bool) (is_word : ℕ → Bool) (p 
   abbrev FoundAll : ℕ → Option PatternMatch → Type 0
   FoundAll i out = ProgramFindsAll member is_word p (from_place_on s i) out
 
+  abbrev repeated_all : RepeatedFinds PatternMatch
+  repeated_all = finds_all_on (ProgramFindsAll member is_word p) s
+
   exists : (i : ℕ) → (out : Option PatternMatch) × FoundAll i out
   exists i = program_find_all_exists member is_word p (from_place_on s i)
 
@@ -31,22 +35,22 @@ module _ {S : Type 0} (member : S → ℕ → Bool) (is_word : ℕ → Bool) (p 
 
   pub program_first_matches_all : HasFirstMatchesAll member is_word p s
   program_first_matches_all = record {
-    none = matches_exist FoundAll (λ a. a.start) (λ a. a.end) exists (length s.content) (lies_all member is_word p s) s.start;
+    none = matches_exist repeated_all exists (length s.content) (lies_all member is_word p s) s.start;
     one_more = λ ms t. (
-      (λ h. one_more_first FoundAll (λ a. a.start) (λ a. a.end) is_one s.start ms h.0.0 t h.0.1 h.1),
-      (λ h. let is = subst (λ xs. ProgramMatchesAll member is_word p s xs) (append_assoc ms (t ∷ []) h.0) h.1 in ((t ∷ h.0, is), comes_next FoundAll (λ a. a.start) (λ a. a.end) s.start ms t h.0 is)),
+      (λ h. one_more_first repeated_all is_one s.start ms h.0.0 t h.0.1 h.1),
+      (λ h. let is = subst (λ xs. ProgramMatchesAll member is_word p s xs) (append_assoc ms (t ∷ []) h.0) h.1 in ((t ∷ h.0, is), comes_next repeated_all s.start ms t h.0 is)),
     );
     all = λ ms. (
-      (λ h. all_first FoundAll (λ a. a.start) (λ a. a.end) is_one s.start ms h.0.0 h.0.1 h.1),
-      (λ is. (([], subst (λ xs. ProgramMatchesAll member is_word p s xs) (sym (append-nil ms)) is), none_comes_next FoundAll (λ a. a.start) (λ a. a.end) s.start ms is)),
+      (λ h. all_first repeated_all is_one s.start ms h.0.0 h.0.1 h.1),
+      (λ is. (([], subst (λ xs. ProgramMatchesAll member is_word p s xs) (sym (append-nil ms)) is), none_comes_next repeated_all s.start ms is)),
     );
-    next = λ ms. comes_next_exists FoundAll (λ a. a.start) (λ a. a.end) exists s.start (last_or None ms);
-    next_is_one = λ ms out out' next next'. comes_next_once FoundAll (λ a. a.start) (λ a. a.end) is_one s.start (last_or None ms) out out' next next';
+    next = λ ms. comes_next_exists repeated_all exists s.start (last_or None ms);
+    next_is_one = λ ms out out' next next'. comes_next_once repeated_all is_one s.start (last_or None ms) out out' next next';
   }
 
   pub matches_all_stand_at_boundaries : (ms : List PatternMatch) → IsUtf8 s.content → IsTrue s.utf8_empty → ProgramMatchesAll member is_word p s ms → All (StandsWhole s.content) ms
   matches_all_stand_at_boundaries ms utf8 on is =
-      members FoundAll (λ a. a.start) (λ a. a.end) (length s.content) (lies_all member is_word p s) (StandsWhole s.content)
+      members repeated_all (length s.content) (lies_all member is_word p s) (StandsWhole s.content)
       (λ i a from f. finds_all_stand_at_boundaries member is_word p (from_place_on s i) utf8 on a f) is
 
 -- ---- where something is found

@@ -9,13 +9,13 @@ use Rattle.rx_walks.specs.Finds.{Anchoring, unanchored, anchored, anchored_patte
 use Rattle.rx_walks.specs.Programs.{pass, Program, IsAbovePatterns, one_pattern, several, Haystack, Notes, fresh_notes, put_note, over_characters}
 use Rattle.rx_walks.specs.ProgramFinds.{first_by, haystack_of, holds_in, machine_of, lowest, highest, start_node, IfStarts}
 use Rattle.rx_walks.specs.Bytes.{Automaton, over_bytes}
-use Rattle.rx_walks.specs.Laws.{ReadsMembers, Begins}
+use Rattle.rx_walks.specs.Laws.{ReadsMembers, MayBegin}
 use Rattle.rx_walks.specs.StepsAll.{SearchesAll}
 use Rattle.rx_walks.proofs.WalkLaws.{same_some}
 use Rattle.rx_walks.proofs.PathLaws.{path_has_walk, walk_reaches}
 use Rattle.rx_walks.proofs.ForwardLaws.{number_told}
 use Rattle.rx_walks.proofs.AllFindLaws.{readers_find_all}
-use Rattle.rx_walks.specs.Backward.{CountsBack, IsFindBack, none_back, least_back, FitsContent, mirrored_search, turned, IsToldBack, none_found, told, not_told}
+use Rattle.rx_walks.specs.Backward.{CountsBack, IsFindBack, none_back, least_back, FitsContent, mirrored_search, turned_match, IsToldBack, none_found, told, not_told}
 use Rattle.rx_walks.specs.Reversed.{mirrored, last_by, back_start, back_program}
 use Rattle.rx_walks.specs.Owners.{KeepsPatterns}
 use Rattle.rx_walks.specs.BackLaws.{SearchesBack}
@@ -134,7 +134,7 @@ module _ {S : Type 0} (member : S → ℕ → Bool) (is_word : ℕ → Bool) (p 
         (counts.inside.4, omega (arith, counts.at_end, fits.end), on.1)
 
     abbrev mirror : PatternMatch → PatternMatch
-    mirror b = turned s b
+    mirror b = turned_match s b
 
     counts_turned : (b : PatternMatch) → CountsBack m fresh_notes s q b → CountsAmongAll c fresh_notes (mirrored_search s) r (mirror b)
     counts_turned b counts =
@@ -147,11 +147,11 @@ module _ {S : Type 0} (member : S → ℕ → Bool) (is_word : ℕ → Bool) (p 
         }
 
     record Answer (a : PatternMatch) : Type 0 where
-      path : Path m q (turned s a).start a.pattern (turned s a).end
-      end : (turned s a).end ≡ s.end
+      path : Path m q (turned_match s a).start a.pattern (turned_match s a).end
+      end : (turned_match s a).end ≡ s.end
       within : a.end ≤ size
-      inside : IsInside s (turned s a).start
-      ordered : (turned s a).start ≤ s.end
+      inside : IsInside s (turned_match s a).start
+      ordered : (turned_match s a).start ≤ s.end
 
     answer_is : (a : PatternMatch) → CountsAmongAll c fresh_notes (mirrored_search s) r a → Answer a
     answer_is a counts =
@@ -169,7 +169,7 @@ module _ {S : Type 0} (member : S → ℕ → Bool) (is_word : ℕ → Bool) (p 
         }
 
     least : (a b : PatternMatch) → CountsAmongAll c fresh_notes (mirrored_search s) r a → ((b : PatternMatch) → CountsAmongAll c fresh_notes (mirrored_search s) r b → IsAtLeast a b) → CountsBack m fresh_notes s q b
-        → ((turned s a).start ≤ b.start) × (b.start ≡ (turned s a).start → a.pattern ≤ b.pattern)
+        → ((turned_match s a).start ≤ b.start) × (b.start ≡ (turned_match s a).start → a.pattern ≤ b.pattern)
     least a b counts best counts_b =
         let one = best (mirror b) (counts_turned b counts_b) in
         let inside = path_in b counts_b in
@@ -191,9 +191,9 @@ module _ {S : Type 0} (member : S → ℕ → Bool) (is_word : ℕ → Bool) (p 
         let is = answer_is a counts in
         let first = (least a b counts best counts_b).0 in
         let inside = path_in b counts_b in
-        elim (cases_order (turned s a).end (turned s a).start) [
+        elim (cases_order (turned_match s a).end (turned_match s a).start) [
           | inl e ↦
-              let same : b.start ≡ (turned s a).start = omega (arith, e, is.end, first, inside.2, counts_b.at_end) in
+              let same : b.start ≡ (turned_match s a).start = omega (arith, e, is.end, first, inside.2, counts_b.at_end) in
               elim counts_b.may_end [
                 | inl other ↦ other (omega (arith, same, e, is.end, counts_b.at_end))
                 | inr may ↦ never (inr (subst (λ z. IsTrue s.utf8_empty → IsCharBoundary s.content z) same may))
@@ -202,7 +202,7 @@ module _ {S : Type 0} (member : S → ℕ → Bool) (is_word : ℕ → Bool) (p 
         ])
 
   module _ (step : ℕ → Automaton) (above : IsAbovePatterns p) (members : ReadsMembers (last_by member) step (back_program p).nodes) (keeps : KeepsPatterns member is_word p s) where
-    found : (r : ℕ) (out : Option PatternMatch) → SearchesAll (over_bytes put_note step (back_program p).nodes (mirrored h)) (Begins (mirrored_search s)) (r, 0) (mirrored_search s).start [] None out
+    found : (r : ℕ) (out : Option PatternMatch) → SearchesAll (over_bytes put_note step (back_program p).nodes (mirrored h)) (MayBegin (mirrored_search s)) (r, 0) (mirrored_search s).start [] None out
         → IsFindAll c fresh_notes (mirrored_search s) r out
     found r out searches = readers_find_all put_note (last_by member) step (back_program p).nodes (mirrored h) (mirrored_search s) fresh_notes r out members whole searches
 

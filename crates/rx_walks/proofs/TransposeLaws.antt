@@ -8,51 +8,51 @@ use Rattle.rx_walks.specs.Characters.{len_if, last_character}
 use Rattle.rx_walks.proofs.WalkLaws.{same_some}
 use Rattle.rx_walks.proofs.CharacterLaws.{member_stands, stands_first}
 use Rattle.rx_walks.proofs.LookLaws.{last_stands, stands_last}
-use Rattle.rx_walks.specs.Transposed.{Place, leads_in, prior, at_the_end, ReadsBack, LeadsBack, ReadsFirst, ReadsLast}
+use Rattle.rx_walks.specs.Transposed.{ReadingPlace, leads_in, prior, at_the_end, StandsForPlaces, LeadsBack, ReadsFirst, ReadsLast}
 
 -- from a place these bytes, all of them, lead to one of those
-abbrev into : Automaton → (Place → Bool) → Place → List ℕ → Bool
+abbrev into : Automaton → (ReadingPlace → Bool) → ReadingPlace → List ℕ → Bool
 into step those place [] = those place
 into step those None (b ∷ bs) = false
 into step those (Some s) (b ∷ bs) = leads_in (λ x. into step those x bs) (step s b)
 
-abbrev into_from : Automaton → (Place → Bool) → Option Place → List ℕ → Bool
+abbrev into_from : Automaton → (ReadingPlace → Bool) → Option ReadingPlace → List ℕ → Bool
 into_from step those o bs = leads_in (λ x. into step those x bs) o
 
-from_each : (step : Automaton) (those : Place → Bool) (bs : List ℕ) (o : Option Place) → ((x : Place) → into step those x bs ≡ false) → into_from step those o bs ≡ false
+from_each : (step : Automaton) (those : ReadingPlace → Bool) (bs : List ℕ) (o : Option ReadingPlace) → ((x : ReadingPlace) → into step those x bs ≡ false) → into_from step those o bs ≡ false
 from_each step those bs None each = refl
 from_each step those bs (Some x) each = each x
 
-into_none : (step : Automaton) (those : Place → Bool) → ((x : Place) → those x ≡ false) → (bs : List ℕ) (place : Place) → into step those place bs ≡ false
+into_none : (step : Automaton) (those : ReadingPlace → Bool) → ((x : ReadingPlace) → those x ≡ false) → (bs : List ℕ) (place : ReadingPlace) → into step those place bs ≡ false
 into_none step those never [] place = never place
 into_none step those never (b ∷ bs) None = refl
 into_none step those never (b ∷ bs) (Some s) = from_each step those bs (step s b) (λ x. into_none step those never bs x)
 
-into_one : (step : Automaton) (those : Place → Bool) (o : Option Place) → into_from step those o [] ≡ leads_in those o
+into_one : (step : Automaton) (those : ReadingPlace → Bool) (o : Option ReadingPlace) → into_from step those o [] ≡ leads_in those o
 into_one step those None = refl
 into_one step those (Some x) = refl
 
-from_same : (step : Automaton) (those others : Place → Bool) (bs cs : List ℕ) (o : Option Place) → ((x : Place) → into step those x bs ≡ into step others x cs) → into_from step those o bs ≡ into_from step others o cs
+from_same : (step : Automaton) (those others : ReadingPlace → Bool) (bs cs : List ℕ) (o : Option ReadingPlace) → ((x : ReadingPlace) → into step those x bs ≡ into step others x cs) → into_from step those o bs ≡ into_from step others o cs
 from_same step those others bs cs None same = refl
 from_same step those others bs cs (Some x) same = same x
 
 -- one byte more at the end
-one_more : (step : Automaton) (those : Place → Bool) (b : ℕ) (xs : List ℕ) (place : Place) → into step those place (xs ++ b ∷ []) ≡ into step (prior step those b) place xs
+one_more : (step : Automaton) (those : ReadingPlace → Bool) (b : ℕ) (xs : List ℕ) (place : ReadingPlace) → into step those place (xs ++ b ∷ []) ≡ into step (prior step those b) place xs
 one_more step those b [] None = refl
 one_more step those b [] (Some s) = into_one step those (step s b)
 one_more step those b (c ∷ xs) None = refl
 one_more step those b (c ∷ xs) (Some s) = from_same step those (prior step those b) (xs ++ b ∷ []) xs (step s c) (λ x. one_more step those b xs x)
 
-turned_one : (step : Automaton) (those : Place → Bool) (b : ℕ) (xs : List ℕ) (place : Place) → into step those place (reverse (b ∷ xs)) ≡ into step (prior step those b) place (reverse xs)
+turned_one : (step : Automaton) (those : ReadingPlace → Bool) (b : ℕ) (xs : List ℕ) (place : ReadingPlace) → into step those place (reverse (b ∷ xs)) ≡ into step (prior step those b) place (reverse xs)
 turned_one step those b xs place = ap (into step those place) (reverse-append (b ∷ []) xs) ∙ one_more step those b (reverse xs) place
 
 -- what a byte leads to, read on
-abbrev after : Automaton → Option Place → List ℕ → Option ℕ
+abbrev after : Automaton → Option ReadingPlace → List ℕ → Option ℕ
 after step None bs = None
 after step (Some None) bs = Some 1
 after step (Some (Some s)) bs = option_map suc (run step s bs)
 
-run_after : (step : Automaton) (t : Option Place) (bs : List ℕ) → (elim t [ None ↦ None | Some None ↦ Some 1 | Some (Some s') ↦ option_map suc (run step s' bs) ]) ≡ after step t bs
+run_after : (step : Automaton) (t : Option ReadingPlace) (bs : List ℕ) → (elim t [ None ↦ None | Some None ↦ Some 1 | Some (Some s') ↦ option_map suc (run step s' bs) ]) ≡ after step t bs
 run_after step None bs = refl
 run_after step (Some None) bs = refl
 run_after step (Some (Some s)) bs = refl
@@ -65,16 +65,16 @@ map_suc None k e = absurd (cc e)
 map_suc (Some j) k e = (j, refl, sym (same_some refl e))
 
 -- what is read back leads there
-abbrev Sound : Automaton → Automaton → (Place → Bool) → ℕ → List ℕ → ℕ → Type 0
+abbrev Sound : Automaton → Automaton → (ReadingPlace → Bool) → ℕ → List ℕ → ℕ → Type 0
 Sound step back those t bs k = (into step those (Some 0) (reverse (take k bs)) ≡ true) × (k ≤ length bs) × (1 ≤ k)
 
-sound : (n : ℕ) (step back : Automaton) (more : ℕ) (those : Place → Bool) (t : ℕ) → ReadsBack n step back more those t → (bs : List ℕ) (k : ℕ) → run back t bs ≡ Some k → Sound step back those t bs k
+sound : (n : ℕ) (step back : Automaton) (more : ℕ) (those : ReadingPlace → Bool) (t : ℕ) → StandsForPlaces n step back more those t → (bs : List ℕ) (k : ℕ) → run back t bs ≡ Some k → Sound step back those t bs k
 sound n step back more those t reads [] k e = absurd (cc e)
 sound n step back zero those t reads (b ∷ bs) k e = absurd (cc (sym (ap (λ o. after back o bs) (reads b)) ∙ sym (runs back t b bs) ∙ e))
 sound n step back (suc more) those t reads (b ∷ bs) k e = by_lead (λ t' reads' j e'. sound n step back more (prior step those b) t' reads' bs j e') (back t b) (reads b) (sym (runs back t b bs) ∙ e)
   where
-    by_lead : ((t' : ℕ) → ReadsBack n step back more (prior step those b) t' → (j : ℕ) → run back t' bs ≡ Some j → Sound step back (prior step those b) t' bs j)
-        → (o : Option Place) → LeadsBack n step (λ next s. ReadsBack n step back more next s) those b o → after back o bs ≡ Some k → Sound step back those t (b ∷ bs) k
+    by_lead : ((t' : ℕ) → StandsForPlaces n step back more (prior step those b) t' → (j : ℕ) → run back t' bs ≡ Some j → Sound step back (prior step those b) t' bs j)
+        → (o : Option ReadingPlace) → LeadsBack n step (λ next s. StandsForPlaces n step back more next s) those b o → after back o bs ≡ Some k → Sound step back those t (b ∷ bs) k
     by_lead again None never e = absurd (cc e)
     by_lead again (Some None) is e =
         let one : 1 ≡ k = same_some refl e in
@@ -85,7 +85,7 @@ sound n step back (suc more) those t reads (b ∷ bs) k e = by_lead (λ t' reads
         subst (λ z. Sound step back those t (b ∷ bs) z) (sym one.2) (turned_one step those b (take one.0 bs) (Some 0) ∙ on.0, omega (arith, on.1), omega arith)
 
 -- what leads there is read back
-complete : (n : ℕ) (step back : Automaton) (more : ℕ) (those : Place → Bool) (t : ℕ) → ReadsBack n step back more those t → (bs : List ℕ) (k : ℕ) → 1 ≤ k → k ≤ more → k ≤ length bs
+complete : (n : ℕ) (step back : Automaton) (more : ℕ) (those : ReadingPlace → Bool) (t : ℕ) → StandsForPlaces n step back more those t → (bs : List ℕ) (k : ℕ) → 1 ≤ k → k ≤ more → k ≤ length bs
     → into step those (Some 0) (reverse (take k bs)) ≡ true → (j : ℕ) × (run back t bs ≡ Some j)
 complete n step back zero those t reads bs k some few within e = absurd (omega (arith, some, few))
 complete n step back (suc more) those t reads [] k some few within e = absurd (omega (arith, some, within))
@@ -94,13 +94,13 @@ complete n step back (suc more) those t reads (b ∷ bs) (suc k) some few within
     by_lead (λ t' reads' some' e'. complete n step back more (prior step those b) t' reads' bs k some' (omega (arith, few)) (omega (arith, within)) e') (back t b) refl (reads b) k refl
     (sym (turned_one step those b (take k bs) (Some 0)) ∙ e)
   where
-    none_left : (o : Option Place) → LeadsBack n step (λ next s. ReadsBack n step back more next s) those b o → o ≡ None → (x : Place) → prior step those b x ≡ false
+    none_left : (o : Option ReadingPlace) → LeadsBack n step (λ next s. StandsForPlaces n step back more next s) those b o → o ≡ None → (x : ReadingPlace) → prior step those b x ≡ false
     none_left None never e None = refl
     none_left None never e (Some s) = never s
     none_left (Some o) leads e x = absurd (cc e)
 
-    by_lead : ((t' : ℕ) → ReadsBack n step back more (prior step those b) t' → 1 ≤ k → into step (prior step those b) (Some 0) (reverse (take k bs)) ≡ true → (j : ℕ) × (run back t' bs ≡ Some j))
-        → (o : Option Place) → back t b ≡ o → LeadsBack n step (λ next s. ReadsBack n step back more next s) those b o → (k' : ℕ) → k ≡ k' → into step (prior step those b) (Some 0) (reverse (take k bs)) ≡ true → (j : ℕ) × (run back t (b ∷ bs) ≡ Some j)
+    by_lead : ((t' : ℕ) → StandsForPlaces n step back more (prior step those b) t' → 1 ≤ k → into step (prior step those b) (Some 0) (reverse (take k bs)) ≡ true → (j : ℕ) × (run back t' bs ≡ Some j))
+        → (o : Option ReadingPlace) → back t b ≡ o → LeadsBack n step (λ next s. StandsForPlaces n step back more next s) those b o → (k' : ℕ) → k ≡ k' → into step (prior step those b) (Some 0) (reverse (take k bs)) ≡ true → (j : ℕ) × (run back t (b ∷ bs) ≡ Some j)
     by_lead again None is never k' same e = absurd (cc (sym (into_none step (prior step those b) (none_left None never refl) (reverse (take k bs)) (Some 0)) ∙ e))
     by_lead again (Some None) is leads k' same e = (1, runs back t b bs ∙ ap (λ o. after back o bs) is)
     by_lead again (Some (Some t')) is leads zero same e = absurd (cc (sym leads.0 ∙ ap (λ z. into step (prior step those b) (Some 0) (reverse (take z bs))) (sym same) ∙ e))
@@ -113,7 +113,7 @@ takes : (step : Automaton) (s : ℕ) (xs : List ℕ) → into step at_the_end (S
 takes step s [] e = absurd (cc e)
 takes step s (b ∷ xs) e = runs step s b xs ∙ by_lead (λ s' e'. takes step s' xs e') (step s b) xs e
   where
-    by_lead : ((s' : ℕ) → into step at_the_end (Some s') xs ≡ true → run step s' xs ≡ Some (length xs)) → (o : Option Place) → (ys : List ℕ) → into_from step at_the_end o xs ≡ true → after step o xs ≡ Some (suc (length xs))
+    by_lead : ((s' : ℕ) → into step at_the_end (Some s') xs ≡ true → run step s' xs ≡ Some (length xs)) → (o : Option ReadingPlace) → (ys : List ℕ) → into_from step at_the_end o xs ≡ true → after step o xs ≡ Some (suc (length xs))
     by_lead again None ys e = absurd (cc e)
     by_lead again (Some None) ys e = ended xs e
       where
@@ -126,7 +126,7 @@ taken : (step : Automaton) (s : ℕ) (xs : List ℕ) → run step s xs ≡ Some 
 taken step s [] e = absurd (cc e)
 taken step s (b ∷ xs) e = by_lead (λ s' e'. taken step s' xs e') (step s b) (sym (runs step s b xs) ∙ e)
   where
-    by_lead : ((s' : ℕ) → run step s' xs ≡ Some (length xs) → into step at_the_end (Some s') xs ≡ true) → (o : Option Place) → after step o xs ≡ Some (suc (length xs)) → into_from step at_the_end o xs ≡ true
+    by_lead : ((s' : ℕ) → run step s' xs ≡ Some (length xs) → into step at_the_end (Some s') xs ≡ true) → (o : Option ReadingPlace) → after step o xs ≡ Some (suc (length xs)) → into_from step at_the_end o xs ≡ true
     by_lead again None e = absurd (cc e)
     by_lead again (Some None) e = ended xs (same_some refl e)
       where
@@ -194,7 +194,7 @@ module _ (member : ℕ → Bool) (step : Automaton) (reads : ReadsFirst member s
       by_last None is e = absurd (cc e)
       by_last (Some c) is e = by_member c is (member c) refl e
 
-  pub transposed_reads_last : (n : ℕ) (back : Automaton) → ReadsBack n step back 4 at_the_end 0 → ReadsLast member back
+  pub transposed_reads_last : (n : ℕ) (back : Automaton) → StandsForPlaces n step back 4 at_the_end 0 → ReadsLast member back
   transposed_reads_last n back reads_back bs = same_option (run back 0 bs) (len_if member (last_character bs)) forth there
     where
       forth : (k : ℕ) → run back 0 bs ≡ Some k → len_if member (last_character bs) ≡ Some k
@@ -207,35 +207,35 @@ module _ (member : ℕ → Bool) (step : Automaton) (reads : ReadsFirst member s
           one.1 ∙ ap Some (same_some (forth one.0 one.1) e)
 
 -- further states change nothing
-pub reads_on : (step back back' : Automaton) (n n' more : ℕ) → n ≤ n' → ((s : ℕ) → 0 < s → s < n → (b : ℕ) → back s b ≡ back' s b) → (those : Place → Bool) (t : ℕ) → 0 < t → t < n
-    → ReadsBack n step back more those t → ReadsBack n' step back' more those t
+pub reads_on : (step back back' : Automaton) (n n' more : ℕ) → n ≤ n' → ((s : ℕ) → 0 < s → s < n → (b : ℕ) → back s b ≡ back' s b) → (those : ReadingPlace → Bool) (t : ℕ) → 0 < t → t < n
+    → StandsForPlaces n step back more those t → StandsForPlaces n' step back' more those t
 reads_on step back back' n n' zero on same those t some past reads = λ b. sym (same t some past b) ∙ reads b
 reads_on step back back' n n' (suc more) on same those t some past reads = λ b.
-    subst (LeadsBack n' step (λ next s. ReadsBack n' step back' more next s) those b) (same t some past b)
+    subst (LeadsBack n' step (λ next s. StandsForPlaces n' step back' more next s) those b) (same t some past b)
     (by_lead b (λ t' some' past' reads'. reads_on step back back' n n' more on same (prior step those b) t' some' past' reads') (back t b) (reads b))
   where
-    by_lead : (b : ℕ) → ((t' : ℕ) → 0 < t' → t' < n → ReadsBack n step back more (prior step those b) t' → ReadsBack n' step back' more (prior step those b) t')
-        → (o : Option Place) → LeadsBack n step (λ next s. ReadsBack n step back more next s) those b o → LeadsBack n' step (λ next s. ReadsBack n' step back' more next s) those b o
+    by_lead : (b : ℕ) → ((t' : ℕ) → 0 < t' → t' < n → StandsForPlaces n step back more (prior step those b) t' → StandsForPlaces n' step back' more (prior step those b) t')
+        → (o : Option ReadingPlace) → LeadsBack n step (λ next s. StandsForPlaces n step back more next s) those b o → LeadsBack n' step (λ next s. StandsForPlaces n' step back' more next s) those b o
     by_lead b again None leads = leads
     by_lead b again (Some None) leads = leads
     by_lead b again (Some (Some t')) leads = (leads.0, again t' leads.2 leads.3 leads.1, leads.2, omega (arith, leads.3, on))
 
 -- the same set, told otherwise
-same_lead : (those others : Place → Bool) → ((x : Place) → those x ≡ others x) → (o : Option Place) → leads_in those o ≡ leads_in others o
+same_lead : (those others : ReadingPlace → Bool) → ((x : ReadingPlace) → those x ≡ others x) → (o : Option ReadingPlace) → leads_in those o ≡ leads_in others o
 same_lead those others same None = refl
 same_lead those others same (Some x) = same x
 
-same_prior : (step : Automaton) (those others : Place → Bool) → ((x : Place) → those x ≡ others x) → (b : ℕ) (x : Place) → prior step those b x ≡ prior step others b x
+same_prior : (step : Automaton) (those others : ReadingPlace → Bool) → ((x : ReadingPlace) → those x ≡ others x) → (b : ℕ) (x : ReadingPlace) → prior step those b x ≡ prior step others b x
 same_prior step those others same b None = refl
 same_prior step those others same b (Some s) = same_lead those others same (step s b)
 
-pub reads_alike : (step back : Automaton) (n more : ℕ) (those others : Place → Bool) → ((x : Place) → those x ≡ others x) → (t : ℕ) → ReadsBack n step back more those t → ReadsBack n step back more others t
+pub reads_alike : (step back : Automaton) (n more : ℕ) (those others : ReadingPlace → Bool) → ((x : ReadingPlace) → those x ≡ others x) → (t : ℕ) → StandsForPlaces n step back more those t → StandsForPlaces n step back more others t
 reads_alike step back n zero those others same t reads = reads
 reads_alike step back n (suc more) those others same t reads = λ b.
     by_lead b (λ t' reads'. reads_alike step back n more (prior step those b) (prior step others b) (same_prior step those others same b) t' reads') (back t b) (reads b)
   where
-    by_lead : (b : ℕ) → ((t' : ℕ) → ReadsBack n step back more (prior step those b) t' → ReadsBack n step back more (prior step others b) t')
-        → (o : Option Place) → LeadsBack n step (λ next s. ReadsBack n step back more next s) those b o → LeadsBack n step (λ next s. ReadsBack n step back more next s) others b o
+    by_lead : (b : ℕ) → ((t' : ℕ) → StandsForPlaces n step back more (prior step those b) t' → StandsForPlaces n step back more (prior step others b) t')
+        → (o : Option ReadingPlace) → LeadsBack n step (λ next s. StandsForPlaces n step back more next s) those b o → LeadsBack n step (λ next s. StandsForPlaces n step back more next s) others b o
     by_lead b again None leads = λ s. sym (same_lead those others same (step s b)) ∙ leads s
     by_lead b again (Some None) leads = sym (same_lead those others same (step 0 b)) ∙ leads
     by_lead b again (Some (Some t')) leads = (sym (same_lead those others same (step 0 b)) ∙ leads.0, again t' leads.1, leads.2, leads.3)

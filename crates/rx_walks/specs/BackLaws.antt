@@ -4,7 +4,7 @@ use Rattle.rx_walks.specs.Machines.{Machine, Outcome}
 use Rattle.rx_walks.specs.Finds.{Search, PatternMatch, IsFindAll}
 use Rattle.rx_walks.specs.Looks.{Look}
 use Rattle.rx_walks.specs.Bytes.{Automaton, over_bytes}
-use Rattle.rx_walks.specs.Laws.{ReadsMembers, ReadsWhole, Begins}
+use Rattle.rx_walks.specs.Laws.{ReadsMembers, ReadsWhole, MayBegin}
 use Rattle.rx_walks.specs.Paths.{Path}
 use Rattle.rx_walks.specs.Trails.{Trail, cut_at}
 use Rattle.rx_walks.specs.StepsAll.{SearchesAll}
@@ -49,9 +49,9 @@ pub record IsFirstStart {Q N : Type 0} (m : Machine Q N) (begins : ℕ → Type 
 pub record StartsFirst {S : Type 0} (member : S → ℕ → Bool) (is_word : ℕ → Bool)
     (p : Program Look S) (s : Search) (q : ℕ) : Type 0 where
   pub found : (t : Outcome Notes) → ProgramFinds member is_word p s (Some t)
-      → IsFirstStart (machine_of member is_word p s) (Begins s) q (start_of t)
+      → IsFirstStart (machine_of member is_word p s) (MayBegin s) q (start_of t)
   pub not_found : ProgramFinds member is_word p s None
-      → (i k e : ℕ) → Begins s i → Path (machine_of member is_word p s) q i k e → ⊥
+      → (i k e : ℕ) → MayBegin s i → Path (machine_of member is_word p s) q i k e → ⊥
 
 abbrev pub FindsStartFirst : {S : Type 0} → (S → ℕ → Bool) → (ℕ → Bool) → Program Look S → Type 0
 FindsStartFirst member is_word p = (s : Search) (q : ℕ) → start_node p s.anchoring ≡ Some q
@@ -66,7 +66,7 @@ abbrev pub ReadersFindAll : {L S N : Type 0} → (ℕ → ℕ → N → N) → (
 ReadersFindAll {L} {S} {N} put first step nodes h =
     (s : Search) (fresh : ℕ → N) (q : ℕ) (out : Option PatternMatch)
     → ReadsMembers first step nodes → ReadsWhole (over_characters put first nodes h) s.content
-    → SearchesAll (over_bytes put step nodes h) (Begins s) (q, 0) s.start [] None out
+    → SearchesAll (over_bytes put step nodes h) (MayBegin s) (q, 0) s.start [] None out
     → IsFindAll (over_characters put first nodes h) fresh s q out
 
 -- ---- what is found back
@@ -154,7 +154,7 @@ pub record SearchesBack {S : Type 0} (member : S → ℕ → Bool) (is_word : �
       → SearchesAll
       (over_bytes put_note step (back_program p).nodes
       (mirrored (haystack_of (holds_in is_word p.line_terminator s) s)))
-      (Begins (mirrored_search s)) (r, 0) (mirrored_search s).start [] None out
+      (MayBegin (mirrored_search s)) (r, 0) (mirrored_search s).start [] None out
       → IsToldBack s out told → ProgramFindsBack member is_word p s told
   pub unknown : start_node (back_program p) s.anchoring ≡ None
       → ProgramFindsBack member is_word p s None

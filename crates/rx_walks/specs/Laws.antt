@@ -13,15 +13,15 @@ use Rattle.rx_walks.specs.Bytes.{Automaton, run, over_bytes}
 use Rattle.rx_walks.specs.Steps.{Best, Steps, Searches, either}
 use Rattle.rx_walks.specs.StepsAll.{SearchesAll}
 use Rattle.rx_walks.specs.Refinements.{Refines}
-use Rattle.rx_walks.specs.Likenesses.{noted_by}
+use Rattle.rx_walks.specs.Likenesses.{noted_by, Keeping}
 
 -- a start begins at each possible place at which an empty match may stand
-abbrev pub Begins : Search → ℕ → Type 0
-Begins s i = IsPossible s i × (IsTrue s.utf8_empty → IsCharBoundary s.content i)
+abbrev pub MayBegin : Search → ℕ → Type 0
+MayBegin s i = IsPossible s i × (IsTrue s.utf8_empty → IsCharBoundary s.content i)
 
 -- of two nodes it is known whether they are one
-abbrev pub IsTold : Type 0 → Type 0
-IsTold Q = (a b : Q) → (a ≡ b) ⊎ (a ≡ b → ⊥)
+abbrev pub IsDecidable : Type 0 → Type 0
+IsDecidable Q = (a b : Q) → (a ≡ b) ⊎ (a ≡ b → ⊥)
 
 -- reads begin where a character may begin
 abbrev pub ReadsWhole : {Q N : Type 0} → Machine Q N → List ℕ → Type 0
@@ -153,22 +153,22 @@ StepsKeepBest {Q} {N} m =
 abbrev pub SearchesFind : {C B N : Type 0} → Machine C N → Machine B N → (C → B) → Type 0
 SearchesFind {C} {B} {N} c b f =
     (s : Search) (fresh : ℕ → N) (q : C) (out : Option (Outcome N)) → Refines c b f
-    → ReadsWhole c s.content → Searches b (Begins s) fresh (f q) s.start [] None out
+    → ReadsWhole c s.content → Searches b (MayBegin s) fresh (f q) s.start [] None out
     → IsFind c fresh s q out
 
 -- without a cut it finds the greatest end
 abbrev pub SearchesFindAll : {C B N : Type 0} → Machine C N → Machine B N → (C → B) → Type 0
 SearchesFindAll {C} {B} {N} c b f =
     (s : Search) (fresh : ℕ → N) (q : C) (out : Option PatternMatch) → Refines c b f
-    → ReadsWhole c s.content → IsForward b → IsTold C → IsTold B
-    → SearchesAll b (Begins s) (f q) s.start [] None out → IsFindAll c fresh s q out
+    → ReadsWhole c s.content → IsForward b → IsDecidable C → IsDecidable B
+    → SearchesAll b (MayBegin s) (f q) s.start [] None out → IsFindAll c fresh s q out
 
 -- ---- paths and smaller steps
 
 -- some path leads to an end exactly where some walk does
 abbrev pub PathsHaveWalks : {Q N : Type 0} → Machine Q N → Type 0
 PathsHaveWalks {Q} {N} m =
-    IsTold Q → (n : N) (q : Q) (i p e : ℕ) → Path m q i p e ↔ Reaches m [] n q i p e
+    IsDecidable Q → (n : N) (q : Q) (i p e : ℕ) → Path m q i p e ↔ Reaches m [] n q i p e
 
 -- the walks of both machines, and their least walks, are equal
 abbrev pub WalksAgree : {C B N : Type 0} → Machine C N → Machine B N → (C → B) → Type 0
@@ -179,7 +179,8 @@ WalksAgree {C} {B} {N} c b f = Refines c b f → (seen : List C) (n : N) (q : C)
 
 -- and so are their paths
 abbrev pub PathsAgree : {C B N : Type 0} → Machine C N → Machine B N → (C → B) → Type 0
-PathsAgree {C} {B} {N} c b f = Refines c b f → IsTold C → IsTold B → N → (q : C) (i p e : ℕ)
+PathsAgree {C} {B} {N} c b f = Refines c b f → IsDecidable C → IsDecidable B → N
+    → (q : C) (i p e : ℕ)
     → Path c q i p e ↔ Path b (f q) i p e
 
 -- ---- programs
@@ -218,7 +219,7 @@ abbrev pub ProgramsFind : {L S N : Type 0} → (ℕ → ℕ → N → N) → (S 
 ProgramsFind {L} {S} {N} put member step nodes holds =
     (s : Search) (fresh : ℕ → N) (q : ℕ) (out : Option (Outcome N))
     → ReadsMembers (first_by member) step nodes
-    → Searches (over_bytes put step nodes (haystack_of holds s)) (Begins s) fresh
+    → Searches (over_bytes put step nodes (haystack_of holds s)) (MayBegin s) fresh
     (q, 0) s.start [] None out
     → IsFind (over_characters put (first_by member) nodes (haystack_of holds s)) fresh s q out
 
@@ -228,7 +229,7 @@ abbrev pub ProgramsFindAll : {L S N : Type 0} → (ℕ → ℕ → N → N) → 
 ProgramsFindAll {L} {S} {N} put member step nodes holds =
     (s : Search) (fresh : ℕ → N) (q : ℕ) (out : Option PatternMatch)
     → ReadsMembers (first_by member) step nodes
-    → SearchesAll (over_bytes put step nodes (haystack_of holds s)) (Begins s)
+    → SearchesAll (over_bytes put step nodes (haystack_of holds s)) (MayBegin s)
     (q, 0) s.start [] None out
     → IsFindAll (over_characters put (first_by member) nodes (haystack_of holds s)) fresh s q out
 
@@ -237,26 +238,27 @@ abbrev pub ProgramIsSearched : {S : Type 0} → (S → ℕ → Bool) → (ℕ �
     → (ℕ → Automaton) → Type 0
 ProgramIsSearched member is_word p step = ReadsMembers (first_by member) step p.nodes
     → (s : Search) (q : ℕ) (out : Option (Outcome Notes)) → start_node p s.anchoring ≡ Some q
-    → Searches (byte_machine_of is_word p step s) (Begins s) fresh_notes (q, 0) s.start [] None out
+    → Searches (byte_machine_of is_word p step s) (MayBegin s) fresh_notes
+    (q, 0) s.start [] None out
     → ProgramFinds member is_word p s out
 
--- and by machines that keep something else of what is noted: `kept` tells what they keep
-abbrev pub ProgramIsSearchedKeeping : {S N : Type 0} → (ℕ → ℕ → N → N) → (Notes → N)
-    → (S → ℕ → Bool) → (ℕ → Bool) → Program Look S → (ℕ → Automaton) → Type 0
-ProgramIsSearchedKeeping {S} {N} put kept member is_word p step =
+-- and by machines that keep something else of what is noted
+abbrev pub ProgramIsSearchedKeeping : {S N : Type 0} → Keeping N → (S → ℕ → Bool) → (ℕ → Bool)
+    → Program Look S → (ℕ → Automaton) → Type 0
+ProgramIsSearchedKeeping {S} {N} keeping member is_word p step =
     ReadsMembers (first_by member) step p.nodes
-    → ((slot i : ℕ) (n : Notes) → put slot i (kept n) ≡ kept (put_note slot i n))
     → (s : Search) (q : ℕ) (out : Option (Outcome N)) → start_node p s.anchoring ≡ Some q
-    → Searches (over_bytes put step p.nodes (haystack_of (holds_in is_word p.line_terminator s) s))
-    (Begins s) (λ i. kept (fresh_notes i)) (q, 0) s.start [] None out
-    → (found : Option (Outcome Notes)) × (option_map (noted_by kept) found ≡ out)
+    → Searches
+    (over_bytes keeping.put step p.nodes (haystack_of (holds_in is_word p.line_terminator s) s))
+    (MayBegin s) (λ i. keeping.kept (fresh_notes i)) (q, 0) s.start [] None out
+    → (found : Option (Outcome Notes)) × (option_map (noted_by keeping.kept) found ≡ out)
     × ProgramFinds member is_word p s found
 
 abbrev pub ProgramIsSearchedForAll : {S : Type 0} → (S → ℕ → Bool) → (ℕ → Bool) → Program Look S
     → (ℕ → Automaton) → Type 0
 ProgramIsSearchedForAll member is_word p step = ReadsMembers (first_by member) step p.nodes
     → (s : Search) (q : ℕ) (out : Option PatternMatch) → start_node p s.anchoring ≡ Some q
-    → SearchesAll (byte_machine_of is_word p step s) (Begins s) (q, 0) s.start [] None out
+    → SearchesAll (byte_machine_of is_word p step s) (MayBegin s) (q, 0) s.start [] None out
     → ProgramFindsAll member is_word p s out
 
 -- both machines of a program read forward

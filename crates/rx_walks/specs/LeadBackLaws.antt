@@ -1,5 +1,5 @@
 -- Laws of nodes that lead, told by the program turned round.
-use Rattle.std.specs.Prelude.{◌≡◌, ℕ, ◌+◌, ◌-◌, ◌<◌, ◌≤◌, ◌↔◌, Bool, List, [], ◌∷◌, ◌++◌, length, Option, Some}
+use Rattle.std.specs.Prelude.{ℕ, ◌+◌, ◌-◌, ◌<◌, ◌≤◌, ◌↔◌, Bool, List, [], ◌∷◌, ◌++◌, length, Option}
 use Rattle.rx_walks.specs.Machines.{Machine}
 use Rattle.rx_walks.specs.Programs.{Node, Program, Haystack, over_characters}
 use Rattle.rx_walks.specs.ProgramFinds.{first_by}
@@ -10,7 +10,7 @@ use Rattle.rx_walks.specs.Transposed.{NeverReturns}
 use Rattle.rx_walks.specs.Reversed.{mirrored, last_by, back_program}
 use Rattle.rx_walks.specs.Leading.{LeadsToMatch}
 use Rattle.rx_walks.specs.LeadLaws.{IsStepped}
-use Rattle.rx_walks.specs.Reached.{Comes, Reached, ReadTo, Closes, StandsAt}
+use Rattle.rx_walks.specs.Reached.{Comes, Reached, ReadTo, IsInClosure, ThreadStandsAt}
 
 -- a node leads at a place exactly where the program turned round comes to that node there, from its
 -- start at some place
@@ -27,10 +27,10 @@ ReverseTellsLeads put member p h = h.low ≤ length h.content → h.high ≤ len
 -- and the nodes reached here are those that empty edges lead to
 abbrev pub ListsHoldReached : {Q N : Type 0} → Machine Q N → Type 0
 ListsHoldReached {Q} m = IsStepped m → (start : Q) (i : ℕ) (live next : List (ℕ × Q))
-    (ms : List (ℕ × ℕ)) → ((q : Q) → StandsAt live q ↔ ReadTo m start i q)
+    (ms : List (ℕ × ℕ)) → ((q : Q) → ThreadStandsAt live q ↔ ReadTo m start i q)
     → StepsAll m i [] (live ++ (i, start) ∷ []) next ms
-    → ((q : Q) → StandsAt next q ↔ ReadTo m start (i + 1) q)
-    × ((q : Q) → Reached m start i q ↔ Closes m i (StandsAt (live ++ (i, start) ∷ [])) q)
+    → ((q : Q) → ThreadStandsAt next q ↔ ReadTo m start (i + 1) q)
+    × ((q : Q) → Reached m start i q ↔ IsInClosure m i (ThreadStandsAt (live ++ (i, start) ∷ [])) q)
 
 -- no byte leads to the first state of a node's automaton
 abbrev pub NoneReturns : (ℕ → Automaton) → Type 0
@@ -58,12 +58,12 @@ pub record TellsLeads {L S N : Type 0} (put : ℕ → ℕ → N → N) (member :
   pub none_at_first : (q : ℕ × ℕ)
       → ReadTo (back_machine put step p h) (back_start_of p) (length h.content - h.high) q → ⊥
   pub leads : (i : ℕ) → h.low ≤ i → i ≤ h.high → (live : List (ℕ × (ℕ × ℕ)))
-      → ((q : ℕ × ℕ) → StandsAt live q
+      → ((q : ℕ × ℕ) → ThreadStandsAt live q
       ↔ ReadTo (back_machine put step p h) (back_start_of p) (length h.content - i) q)
       → (q : ℕ) → q < length p.nodes
       → LeadsToMatch (over_characters put (first_by member) p.nodes h) q i
-      ↔ Closes (back_machine put step p h) (length h.content - i)
-      (StandsAt (live ++ (length h.content - i, back_start_of p) ∷ [])) (q, 0)
+      ↔ IsInClosure (back_machine put step p h) (length h.content - i)
+      (ThreadStandsAt (live ++ (length h.content - i, back_start_of p) ∷ [])) (q, 0)
 
 abbrev pub ListsTellLeads : {L S N : Type 0} → (ℕ → ℕ → N → N) → (S → ℕ → Bool)
     → (ℕ → Automaton) → Program L S → Haystack L → Type 0

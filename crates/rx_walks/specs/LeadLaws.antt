@@ -4,11 +4,11 @@ use Rattle.rx_walks.specs.Machines.{Machine, Outcome, IsForward, goes, reads}
 use Rattle.rx_walks.specs.Walks.{IsLeast}
 use Rattle.rx_walks.specs.Looks.{Look}
 use Rattle.rx_walks.specs.Finds.{Search, from_place_on, Counts}
-use Rattle.rx_walks.specs.Programs.{Node, Haystack, Program, Notes, fresh_notes, put_note}
+use Rattle.rx_walks.specs.Programs.{Node, Haystack, Program, Notes, fresh_notes}
 use Rattle.rx_walks.specs.ProgramFinds.{ProgramMatches, machine_of, start_node, first_by, haystack_of, holds_in}
 use Rattle.rx_walks.specs.Bytes.{Automaton, over_bytes}
-use Rattle.rx_walks.specs.Likenesses.{noted_by}
-use Rattle.rx_walks.specs.Laws.{Begins, IsTold, ReadsMembers}
+use Rattle.rx_walks.specs.Likenesses.{noted_by, Keeping}
+use Rattle.rx_walks.specs.Laws.{MayBegin, IsDecidable, ReadsMembers}
 use Rattle.rx_walks.specs.Leading.{LeadsToMatch, Follows, LeadsBy}
 use Rattle.rx_walks.specs.Listings.{Listing}
 
@@ -26,7 +26,7 @@ pub record IsFinite {Q N : Type 0} (m : Machine Q N) : Type 0 where
 
 -- it is known of each node whether it leads
 abbrev pub LeadsIsKnown : {Q N : Type 0} → Machine Q N → Type 0
-LeadsIsKnown {Q} {N} m = N → IsTold Q → IsForward m → IsFinite m → (q : Q) (i : ℕ)
+LeadsIsKnown {Q} {N} m = N → IsDecidable Q → IsForward m → IsFinite m → (q : Q) (i : ℕ)
     → LeadsToMatch m q i ⊎ (LeadsToMatch m q i → ⊥)
 
 -- each read is of one place
@@ -41,12 +41,12 @@ LeadsIsToldBack {Q} m = IsStepped m → (i : ℕ) (beyond : Q → Bool)
 
 -- from each node the least walk is followed, or the node doesn't lead
 abbrev pub LeastIsFollowed : {Q N : Type 0} → Machine Q N → Type 0
-LeastIsFollowed {Q} {N} m = IsTold Q → IsForward m → IsFinite m → (n : N) (q : Q) (i : ℕ)
+LeastIsFollowed {Q} {N} m = IsDecidable Q → IsForward m → IsFinite m → (n : N) (q : Q) (i : ℕ)
     → FollowsLeast m n q i
 
 -- what is followed is the least walk in any machine
 abbrev pub FollowedIsLeast : {Q N : Type 0} → Machine Q N → Type 0
-FollowedIsLeast {Q} {N} m = IsTold Q → (n : N) (q : Q) (i : ℕ) (t : Outcome N)
+FollowedIsLeast {Q} {N} m = IsDecidable Q → (n : N) (q : Q) (i : ℕ) (t : Outcome N)
     → Follows m i [] ((n, q) ∷ []) (Some t) → IsLeast m [] n q i t
 
 -- a start counts exactly where one begins and the node leads
@@ -54,12 +54,12 @@ abbrev pub StartsCountWhereTheyLead : {S : Type 0} → (S → ℕ → Bool) → 
     → Type 0
 StartsCountWhereTheyLead member is_word p = (s : Search) (q i : ℕ)
     → ((t : Outcome Notes) × Counts (machine_of member is_word p s) fresh_notes s q i t)
-    ↔ (Begins s i × LeadsToMatch (machine_of member is_word p s) q i)
+    ↔ (MayBegin s i × LeadsToMatch (machine_of member is_word p s) q i)
 
 -- a list made by nodes that lead is the list of matches; a find from a place on may begin at the
 -- places of the search from there
 abbrev pub begins_from : Search → ℕ → ℕ → Type 0
-begins_from s from i = Begins (from_place_on s from) i
+begins_from s from i = MayBegin (from_place_on s from) i
 
 abbrev pub ListingsAreMatches : {S : Type 0} → (S → ℕ → Bool) → (ℕ → Bool) → Program Look S → Type 0
 ListingsAreMatches member is_word p = (s : Search) (q : ℕ) (ms : List (Outcome Notes))
@@ -79,14 +79,13 @@ BytesAreStepped put step nodes h = IsStepped (over_bytes put step nodes h)
 
 -- so is a list that is made over bytes; where machines keep something else of what is noted, it has
 -- what they keep of the matches
-abbrev pub ByteListingsAreMatches : {S N : Type 0} → (ℕ → ℕ → N → N) → (Notes → N)
-    → (S → ℕ → Bool) → (ℕ → Bool) → Program Look S → (ℕ → Automaton) → Type 0
-ByteListingsAreMatches {S} {N} put kept member is_word p step =
+abbrev pub ByteListingsAreMatches : {S N : Type 0} → Keeping N → (S → ℕ → Bool) → (ℕ → Bool)
+    → Program Look S → (ℕ → Automaton) → Type 0
+ByteListingsAreMatches {S} {N} keeping member is_word p step =
     ReadsMembers (first_by member) step p.nodes
-    → ((slot i : ℕ) (n : Notes) → put slot i (kept n) ≡ kept (put_note slot i n))
     → (s : Search) (q : ℕ) (ms : List (Outcome N)) → start_node p s.anchoring ≡ Some q
     → Listing
-    (over_bytes put step p.nodes (haystack_of (holds_in is_word p.line_terminator s) s))
-    (begins_from s) (λ i. kept (fresh_notes i)) (q, 0) false s.start s.start ms
-    → (own : List (Outcome Notes)) × (map (noted_by kept) own ≡ ms)
+    (over_bytes keeping.put step p.nodes (haystack_of (holds_in is_word p.line_terminator s) s))
+    (begins_from s) (λ i. keeping.kept (fresh_notes i)) (q, 0) false s.start s.start ms
+    → (own : List (Outcome Notes)) × (map (noted_by keeping.kept) own ≡ ms)
     × ProgramMatches member is_word p s own

@@ -1,33 +1,33 @@
--- The matches that repeated finds give, one after the other. `find` says what is found from a place
--- on.
+-- The matches that repeated finds give, one after the other.
 use Rattle.std.specs.Prelude.{◌≡◌, ℕ, ◌+◌, ◌≤◌, List, [], ◌∷◌, ◌++◌, Option, Some, None}
 use Rattle.std.specs.List.{last_or}
 
+-- what is found from a place on, and where that starts and ends
+pub record RepeatedFinds (A : Type 0) : Type 1 where
+  pub find : ℕ → Option A → Type 0
+  pub start_of : A → ℕ
+  pub end_of : A → ℕ
+
 -- what is found after a match that ends at e: the find from e on, and where that is an empty match
 -- at e, the one from e + 1
-pub data Next {A : Type 0} (find : ℕ → Option A → Type 0) (start_of end_of : A → ℕ)
-    (e : ℕ) : Option A → Type 0 where
-  no_more : find e None → Next find start_of end_of e None
-  at_once : {a : A} → find e (Some a) → (start_of a ≡ e → end_of a ≡ e → ⊥)
-      → Next find start_of end_of e (Some a)
-  moved : {a : A} {out : Option A} → find e (Some a) → start_of a ≡ e → end_of a ≡ e
-      → find (e + 1) out
-      → Next find start_of end_of e out
+pub data Next {A : Type 0} (finds : RepeatedFinds A) (e : ℕ) : Option A → Type 0 where
+  no_more : finds.find e None → Next finds e None
+  at_once : {a : A} → finds.find e (Some a) → (finds.start_of a ≡ e → finds.end_of a ≡ e → ⊥)
+      → Next finds e (Some a)
+  moved : {a : A} {out : Option A} → finds.find e (Some a) → finds.start_of a ≡ e
+      → finds.end_of a ≡ e → finds.find (e + 1) out → Next finds e out
 
 -- the matches after one that ends at e
-pub data Further {A : Type 0} (find : ℕ → Option A → Type 0) (start_of end_of : A → ℕ) : ℕ → List A
-    → Type 0 where
-  last : {e : ℕ} → Next find start_of end_of e None → Further find start_of end_of e []
-  one_more : {e : ℕ} {a : A} {others : List A} → Next find start_of end_of e (Some a)
-      → Further find start_of end_of (end_of a) others → Further find start_of end_of e (a ∷ others)
+pub data Further {A : Type 0} (finds : RepeatedFinds A) : ℕ → List A → Type 0 where
+  last : {e : ℕ} → Next finds e None → Further finds e []
+  one_more : {e : ℕ} {a : A} {others : List A} → Next finds e (Some a)
+      → Further finds (finds.end_of a) others → Further finds e (a ∷ others)
 
 -- the matches from a place on
-pub data Matches {A : Type 0} (find : ℕ → Option A → Type 0) (start_of end_of : A → ℕ)
-    (start : ℕ) : List A → Type 0 where
-  no_match : find start None → Matches find start_of end_of start []
-  first : {a : A} {others : List A} → find start (Some a)
-      → Further find start_of end_of (end_of a) others
-      → Matches find start_of end_of start (a ∷ others)
+pub data Matches {A : Type 0} (finds : RepeatedFinds A) (start : ℕ) : List A → Type 0 where
+  no_match : finds.find start None → Matches finds start []
+  first : {a : A} {others : List A} → finds.find start (Some a)
+      → Further finds (finds.end_of a) others → Matches finds start (a ∷ others)
 
 -- each starts at this place or behind it, and ends where it starts or behind that; and so do the
 -- others from its end on
@@ -37,19 +37,14 @@ FollowEachOther start_of end_of at (a ∷ others) =
     (at ≤ start_of a) × (start_of a ≤ end_of a) × FollowEachOther start_of end_of (end_of a) others
 
 -- what comes next behind the last match; where there was none yet, the find from the start on
-abbrev pub BehindLast : {A : Type 0} → (ℕ → Option A → Type 0) → (A → ℕ) → (A → ℕ) → ℕ → Option A
-    → Option A → Type 0
-BehindLast find start_of end_of start None out = find start out
-BehindLast find start_of end_of start (Some a) out = Next find start_of end_of (end_of a) out
+abbrev pub BehindLast : {A : Type 0} → RepeatedFinds A → ℕ → Option A → Option A → Type 0
+BehindLast finds start None out = finds.find start out
+BehindLast finds start (Some a) out = Next finds (finds.end_of a) out
 
 -- what comes next behind these matches
-abbrev pub ComesNext : {A : Type 0} → (ℕ → Option A → Type 0) → (A → ℕ) → (A → ℕ) → ℕ → List A
-    → Option A → Type 0
-ComesNext find start_of end_of start ms out =
-    BehindLast find start_of end_of start (last_or None ms) out
+abbrev pub ComesNext : {A : Type 0} → RepeatedFinds A → ℕ → List A → Option A → Type 0
+ComesNext finds start ms out = BehindLast finds start (last_or None ms) out
 
 -- the first members of the matches from a place on: more may come
-abbrev pub FirstMatches : {A : Type 0} → (ℕ → Option A → Type 0) → (A → ℕ) → (A → ℕ) → ℕ → List A
-    → Type 0
-FirstMatches {A} find start_of end_of start ms =
-    (others : List A) × Matches find start_of end_of start (ms ++ others)
+abbrev pub FirstMatches : {A : Type 0} → RepeatedFinds A → ℕ → List A → Type 0
+FirstMatches {A} finds start ms = (others : List A) × Matches finds start (ms ++ others)

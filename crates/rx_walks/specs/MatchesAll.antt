@@ -8,22 +8,20 @@ use Rattle.rx_walks.specs.Looks.{Look}
 use Rattle.rx_walks.specs.Finds.{Search, from_place_on, PatternMatch}
 use Rattle.rx_walks.specs.Matches.{ComesNext, FirstMatches}
 use Rattle.rx_walks.specs.Programs.{Program}
-use Rattle.rx_walks.specs.ProgramFinds.{ProgramFinds, ProgramFindsAll, ProgramMatchesAll}
+use Rattle.rx_walks.specs.ProgramFinds.{ProgramFinds, ProgramFindsAll, ProgramMatchesAll, finds_all_on}
 use Rattle.rx_walks.specs.Iterating.{MatchesLeft, matches_from, not_refused}
 
 -- the first members of the list: more may come
 abbrev pub ProgramFirstMatchesAll : {S : Type 0} → (S → ℕ → Bool) → (ℕ → Bool) → Program Look S
     → Search → List PatternMatch → Type 0
 ProgramFirstMatchesAll member is_word p s ms =
-    FirstMatches (λ i out. ProgramFindsAll member is_word p (from_place_on s i) out)
-    (λ a. a.start) (λ a. a.end) s.start ms
+    FirstMatches (finds_all_on (ProgramFindsAll member is_word p) s) s.start ms
 
 -- what comes next in it behind these, or that none comes
 abbrev pub ProgramComesNextAll : {S : Type 0} → (S → ℕ → Bool) → (ℕ → Bool) → Program Look S
     → Search → List PatternMatch → Option PatternMatch → Type 0
 ProgramComesNextAll member is_word p s ms out =
-    ComesNext (λ i out. ProgramFindsAll member is_word p (from_place_on s i) out)
-    (λ a. a.start) (λ a. a.end) s.start ms out
+    ComesNext (finds_all_on (ProgramFindsAll member is_word p) s) s.start ms out
 
 -- what the first members are: none are; with what comes next they are one more; and they are all
 -- where none comes next

@@ -6,7 +6,7 @@ use Rattle.rx_walks.specs.Characters.{member_len}
 use Rattle.rx_walks.specs.Looks.{Look, holds_between}
 use Rattle.rx_walks.specs.Programs.{Program, Haystack, Notes, fresh_notes, put_note, over_characters}
 use Rattle.rx_walks.specs.Finds.{Anchoring, unanchored, anchored, anchored_pattern, Search, from_place_on, PatternMatch, IsFind, IsFindAll}
-use Rattle.rx_walks.specs.Matches.{Matches, ComesNext, FirstMatches}
+use Rattle.rx_walks.specs.Matches.{RepeatedFinds, Matches, ComesNext, FirstMatches}
 
 -- what stands before a place in the slice, from the place back; and what stands after it
 abbrev pub before_in : Search → ℕ → List ℕ
@@ -71,30 +71,44 @@ start_of t = t.notes.start
 abbrev pub end_of : Outcome Notes → ℕ
 end_of t = t.end
 
+-- what searches find, one after the other from further places on
+abbrev pub finds_on : (Search → Option (Outcome Notes) → Type 0) → Search
+    → RepeatedFinds (Outcome Notes)
+finds_on finds s = record {
+  find = λ i out. finds (from_place_on s i) out;
+  start_of = start_of;
+  end_of = end_of;
+}
+
+-- and where all matches are wanted
+abbrev pub finds_all_on : (Search → Option PatternMatch → Type 0) → Search
+    → RepeatedFinds PatternMatch
+finds_all_on finds s = record {
+  find = λ i out. finds (from_place_on s i) out;
+  start_of = λ a. a.start;
+  end_of = λ a. a.end;
+}
+
 -- the matches of a program, in order
 abbrev pub ProgramMatches : {S : Type 0} → (S → ℕ → Bool) → (ℕ → Bool) → Program Look S → Search
     → List (Outcome Notes) → Type 0
 ProgramMatches member is_word p s ms =
-    Matches
-    (λ i out. ProgramFinds member is_word p (from_place_on s i) out) start_of end_of s.start ms
+    Matches (finds_on (ProgramFinds member is_word p) s) s.start ms
 
 -- the first members of that list: more may come
 abbrev pub ProgramFirstMatches : {S : Type 0} → (S → ℕ → Bool) → (ℕ → Bool) → Program Look S
     → Search → List (Outcome Notes) → Type 0
 ProgramFirstMatches member is_word p s ms =
-    FirstMatches
-    (λ i out. ProgramFinds member is_word p (from_place_on s i) out) start_of end_of s.start ms
+    FirstMatches (finds_on (ProgramFinds member is_word p) s) s.start ms
 
 -- what comes next in it behind these, or that none comes
 abbrev pub ProgramComesNext : {S : Type 0} → (S → ℕ → Bool) → (ℕ → Bool) → Program Look S → Search
     → List (Outcome Notes) → Option (Outcome Notes) → Type 0
 ProgramComesNext member is_word p s ms out =
-    ComesNext
-    (λ i out. ProgramFinds member is_word p (from_place_on s i) out) start_of end_of s.start ms out
+    ComesNext (finds_on (ProgramFinds member is_word p) s) s.start ms out
 
 -- and where all matches are wanted
 abbrev pub ProgramMatchesAll : {S : Type 0} → (S → ℕ → Bool) → (ℕ → Bool) → Program Look S → Search
     → List PatternMatch → Type 0
 ProgramMatchesAll member is_word p s ms =
-    Matches (λ i out. ProgramFindsAll member is_word p (from_place_on s i) out) (λ a. a.start)
-    (λ a. a.end) s.start ms
+    Matches (finds_all_on (ProgramFindsAll member is_word p) s) s.start ms

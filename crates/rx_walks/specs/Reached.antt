@@ -23,11 +23,11 @@ pub record ReadTo {Q N : Type 0} (m : Machine Q N) (start : Q) (i : ℕ) (q : Q)
   pub reading : m.move place before ≡ reads q i
 
 -- empty edges lead at a place from some of these nodes to a node
-pub data Closes {Q N : Type 0} (m : Machine Q N) (i : ℕ) (from : Q → Type 0) : Q → Type 0 where
-  among : {q : Q} → from q → Closes m i from q
-  onward : {q r : Q} (rs : List Q) (k : ℕ) → Closes m i from q → m.move i q ≡ goes rs
-      → slice_get rs k ≡ Some r → Closes m i from r
+pub data IsInClosure {Q N : Type 0} (m : Machine Q N) (i : ℕ) (from : Q → Type 0) : Q → Type 0 where
+  among : {q : Q} → from q → IsInClosure m i from q
+  onward : {q r : Q} (rs : List Q) (k : ℕ) → IsInClosure m i from q → m.move i q ≡ goes rs
+      → slice_get rs k ≡ Some r → IsInClosure m i from r
 
 -- a thread stands at a node
-abbrev pub StandsAt : {Q : Type 0} → List (ℕ × Q) → Q → Type 0
-StandsAt threads q = (s : ℕ) × Contains threads (s, q)
+abbrev pub ThreadStandsAt : {Q : Type 0} → List (ℕ × Q) → Q → Type 0
+ThreadStandsAt threads q = (s : ℕ) × Contains threads (s, q)

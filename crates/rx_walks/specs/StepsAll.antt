@@ -40,11 +40,11 @@ pub data StepsAll {Q N : Type 0} (m : Machine Q N) (i : ℕ) : List Q → List (
       → StepsAll m i seen ((s, q) ∷ others) ((s, r) ∷ next) met
 
 -- starts that do not fall, from low up to high
-pub data RiseFrom {Q : Type 0} (high : ℕ) : ℕ → List (ℕ × Q) → Type 0 where
-  no_more : {low : ℕ} → RiseFrom high low []
+pub data StartsRise {Q : Type 0} (high : ℕ) : ℕ → List (ℕ × Q) → Type 0 where
+  no_more : {low : ℕ} → StartsRise high low []
   one_more : {low s : ℕ} {q : Q} {others : List (ℕ × Q)} → low ≤ s → s ≤ high
-      → RiseFrom high s others
-      → RiseFrom high low ((s, q) ∷ others)
+      → StartsRise high s others
+      → StartsRise high low ((s, q) ∷ others)
 
 -- an end with this start and pattern was met
 pub data Met (s p : ℕ) : List (ℕ × ℕ) → Type 0 where

@@ -5,6 +5,7 @@ ghost use Rattle.rx_walks.specs.Iterating.{IteratorsGiveInOrder, MatchesLeft};
 ghost use Rattle.rx_walks.specs.MatchLaws.{FirstMatchesGrow, MatchesAllExist, MatchesAllRise, MatchesAreFound, MatchesStandAtBoundaries, MatchesExist, MatchesRise};
 ghost use Rattle.rx_walks.specs.Machines.{Machine, Outcome};
 ghost use Rattle.rx_walks.specs.Programs.{Haystack, Node, Notes, Program};
+ghost use Rattle.rx_walks.specs.Likenesses.{Keeping};
 ghost use Rattle.rx_walks.specs.Looks.{Look};
 ghost use Rattle.rx_walks.specs.Bytes.{Automaton};
 ghost use Rattle.std.specs.Prelude.{ℕ, List, Option, Bool};
@@ -228,9 +229,9 @@ pub fn program_is_searched<S>()
 /// And so it does where its walks keep a list in place of their notes, if a note does to that list
 /// what it does to the notes.
 pub fn program_is_searched_keeping<S, T>()
-    ensures { (put : ℕ → ℕ → List T → List T) (kept : Notes → List T) (member : S → ℕ → Bool)
-        (is_word : ℕ → Bool) (p : Program Look S) (step : ℕ → Automaton)
-        → ProgramIsSearchedKeeping put kept member is_word p step }
+    ensures { (keeping : Keeping (List T)) (member : S → ℕ → Bool) (is_word : ℕ → Bool)
+        (p : Program Look S) (step : ℕ → Automaton)
+        → ProgramIsSearchedKeeping keeping member is_word p step }
 {}
 
 /// And without a cut what it finds where all matches are wanted.

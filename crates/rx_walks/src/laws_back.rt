@@ -3,7 +3,7 @@
 
 ghost use Rattle.rx_walks.specs.Transposed.{ReadsAlike, ReadsOn, TransposedReadsLast};
 ghost use Rattle.rx_walks.specs.BackLaws.{FindsBackAtMostOne, FindsMatchBack, FindsStartBack, FindsStartFirst, NothingIsFoundOutside, OwnersKeepPatterns, PathsAreCut, PathsAreTrails, ProgramIsSearchedBack, ProgramTurns, ProgramTurnsInBytes, ReadersFindAll, ReadsTurn};
-ghost use Rattle.rx_walks.specs.Laws.{IsTold};
+ghost use Rattle.rx_walks.specs.Laws.{IsDecidable};
 ghost use Rattle.rx_walks.specs.Programs.{Haystack, Node, Program};
 ghost use Rattle.rx_walks.specs.Looks.{Look};
 ghost use Rattle.rx_walks.specs.Bytes.{Automaton};
@@ -26,12 +26,12 @@ pub fn transposed_reads_alike()
 
 /// Of two numbers it is known whether they are one.
 pub fn numbers_are_told()
-    ensures { IsTold ℕ }
+    ensures { IsDecidable ℕ }
 {}
 
 /// And so it is of two pairs of numbers, as a program's node and a state of its automaton.
 pub fn pairs_are_told()
-    ensures { IsTold (ℕ × ℕ) }
+    ensures { IsDecidable (ℕ × ℕ) }
 {}
 
 /// A path of a program is one edge after the other.

@@ -3,7 +3,8 @@
 ghost use Rattle.rx_walks.specs.LeadLaws.{FollowedIsLeast, LeadsIsKnown, LeastIsFollowed, StartsCountWhereTheyLead, ListingsAreMatches, ByteListingsAreMatches, ListingsExist, LeadsIsToldBack, BytesAreStepped};
 ghost use Rattle.rx_walks.specs.LeadBackLaws.{BytesComeAlike, ListsHoldReached, ListsTellLeads, ReverseTellsLeads};
 ghost use Rattle.rx_walks.specs.Machines.{Machine};
-ghost use Rattle.rx_walks.specs.Programs.{Node, Haystack, Program, Notes};
+ghost use Rattle.rx_walks.specs.Programs.{Node, Haystack, Program};
+ghost use Rattle.rx_walks.specs.Likenesses.{Keeping};
 ghost use Rattle.rx_walks.specs.Looks.{Look};
 ghost use Rattle.rx_walks.specs.Bytes.{Automaton};
 ghost use Rattle.std.specs.Prelude.{ℕ, Bool, List, Option};
@@ -42,9 +43,9 @@ pub fn listings_are_matches<S>()
 
 /// And so is one that is made over bytes, of what is kept of the matches.
 pub fn byte_listings_are_matches<S, T>()
-    ensures { (put : ℕ → ℕ → List T → List T) (kept : Notes → List T) (member : S → ℕ → Bool)
-        (is_word : ℕ → Bool) (p : Program Look S) (step : ℕ → Automaton)
-        → ByteListingsAreMatches put kept member is_word p step }
+    ensures { (keeping : Keeping (List T)) (member : S → ℕ → Bool) (is_word : ℕ → Bool)
+        (p : Program Look S) (step : ℕ → Automaton)
+        → ByteListingsAreMatches keeping member is_word p step }
 {}
 
 /// Nodes that lead make a list.

@@ -1,4 +1,4 @@
-use Rattle.std.proofs.Common.{Err, length, ap, sym, ◌∙◌, arith}
+use Rattle.std.proofs.Common.{Err, length, ap, arith}
 use Rattle.std.proofs.lemmas.Str.{encodes-chars}
 use Rattle.rx_grammar.proofs.OutcomeLaws.{never_here}
 use Rattle.rx_grammar.proofs.explanations.explain.Goals as goal

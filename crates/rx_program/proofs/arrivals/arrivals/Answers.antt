@@ -2,7 +2,7 @@ use Rattle.std.proofs.Common.{◌≡◌, ◌+◌, ◌*◌, ◌<◌, ◌==◌, �
 use Rattle.std.proofs.lemmas.List.{length-map, take_more}
 use Rattle.rx_walks.specs.Reversed.{leads_to, those}
 use Rattle.rx_program.specs.Programs.{node_of}
-use Rattle.rx_program.specs.Arrivals.{lists_of}
+use Rattle.rx_utf8.specs.Subsets.{lists_of}
 use Rattle.rx_program.proofs.ArrivalLaws.{lists_next, those_below}
 use Rattle.rx_program.proofs.arrivals.arrivals.Goals as goal
 

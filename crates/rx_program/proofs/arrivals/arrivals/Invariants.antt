@@ -1,7 +1,8 @@
 use Rattle.std.proofs.Common.{◌*◌, ◌++◌, ◌==◌, length, map, take}
 use Rattle.rx_walks.specs.Reversed.{those, leads_to}
 use Rattle.rx_program.specs.Programs.{node_of}
-use Rattle.rx_program.specs.Arrivals.{AreLists, lists_of}
+use Rattle.rx_utf8.specs.Subsets.{lists_of}
+use Rattle.rx_program.specs.Arrivals.{AreLists}
 use Rattle.rx_program.proofs.arrivals.arrivals.Given as goal
 
 -- the lists have all edges, and the starts of the patterns so far

@@ -2,7 +2,7 @@ use Rattle.std.proofs.Common.{◌≡◌, ◌+◌, ◌<◌, [], map, take, length
 use Rattle.std.proofs.lemmas.List.{length-map}
 use Rattle.rx_walks.specs.Reversed.{leads_to}
 use Rattle.rx_program.specs.Programs.{node_of}
-use Rattle.rx_program.specs.Arrivals.{lists_of}
+use Rattle.rx_utf8.specs.Subsets.{lists_of}
 use Rattle.rx_program.proofs.ArrivalLaws.{lists_next, taken}
 use Rattle.rx_program.proofs.arrivals.edges_to.Goals as goal
 

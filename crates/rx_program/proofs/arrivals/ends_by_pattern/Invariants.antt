@@ -1,7 +1,8 @@
 use Rattle.std.proofs.Common.{[], ◌++◌, map, take}
 use Rattle.rx_walks.specs.Reversed.{those, is_match_of}
 use Rattle.rx_program.specs.Programs.{node_of}
-use Rattle.rx_program.specs.Arrivals.{AreLists, lists_of}
+use Rattle.rx_utf8.specs.Subsets.{lists_of}
+use Rattle.rx_program.specs.Arrivals.{AreLists}
 use Rattle.rx_program.proofs.arrivals.ends_by_pattern.Given as goal
 
 -- the lists have the matches of the states so far

@@ -1,7 +1,8 @@
 use Rattle.std.proofs.Common.{◌++◌, map, ap, ◌∙◌}
 use Rattle.rx_walks.specs.Reversed.{arrived}
 use Rattle.rx_program.specs.Programs.{node_of}
-use Rattle.rx_program.specs.Arrivals.{lists_of, unions}
+use Rattle.rx_utf8.specs.Subsets.{lists_of}
+use Rattle.rx_program.specs.Arrivals.{unions}
 use Rattle.rx_program.specs.Reversed.{back_node_of}
 use Rattle.rx_program.proofs.ArrivalLaws.{lists_are}
 use Rattle.rx_program.proofs.ReverseLaws.{on_ok}

@@ -3,7 +3,8 @@ use Rattle.std.proofs.lemmas.List.{map-append}
 use Rattle.rx_walks.specs.Programs.{pass}
 use Rattle.rx_walks.specs.Reversed.{those, is_match, is_match_of, indexed}
 use Rattle.rx_program.specs.Programs.{node_of}
-use Rattle.rx_program.specs.Arrivals.{lists_of, unions}
+use Rattle.rx_utf8.specs.Subsets.{lists_of}
+use Rattle.rx_program.specs.Arrivals.{unions}
 use Rattle.rx_program.specs.Reversed.{back_node_of}
 use Rattle.rx_program.proofs.ArrivalLaws.{lists_are}
 use Rattle.rx_program.proofs.ReverseLaws.{on_ok}

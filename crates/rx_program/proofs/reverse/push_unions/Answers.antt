@@ -1,7 +1,8 @@
 use Rattle.std.proofs.Common.{◌≡◌, ◌+◌, ◌<◌, ◌++◌, [], ◌∷◌, map, take, length, ap, ap₂, sym, append_assoc, ◌∙◌, arith}
 use Rattle.std.proofs.lemmas.List.{map-append}
 use Rattle.rx_walks.specs.Programs.{pass}
-use Rattle.rx_program.specs.Arrivals.{lists_of, unions}
+use Rattle.rx_utf8.specs.Subsets.{lists_of}
+use Rattle.rx_program.specs.Arrivals.{unions}
 use Rattle.rx_program.specs.Reversed.{back_node_of}
 use Rattle.rx_program.proofs.ArrivalLaws.{taken}
 use Rattle.rx_program.proofs.ReverseLaws.{all_more}

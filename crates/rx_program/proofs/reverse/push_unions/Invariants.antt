@@ -1,6 +1,7 @@
 use Rattle.std.proofs.Common.{◌≡◌, ◌++◌, map, take}
 use Rattle.std.specs.List.{All}
-use Rattle.rx_program.specs.Arrivals.{lists_of, unions}
+use Rattle.rx_utf8.specs.Subsets.{lists_of}
+use Rattle.rx_program.specs.Arrivals.{unions}
 use Rattle.rx_program.specs.Reversed.{back_node_of, ReadsItsSetBack}
 use Rattle.rx_program.proofs.reverse.push_unions.Given as goal
 

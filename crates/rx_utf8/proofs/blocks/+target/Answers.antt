@@ -1,8 +1,8 @@
-use Rattle.std.proofs.Common.{rules, ◌≡◌, ◌<◌, ◌≤◌, ◌+◌, ◌++◌, length, [], ◌∷◌, ◌-◌, ◌*◌, ℕ, true, Some, subst, sym, ap, ◌∙◌, arith}
+use Rattle.std.proofs.Common.{rules, ◌≡◌, ◌<◌, ◌≤◌, ◌+◌, ◌++◌, length, [], ◌∷◌, ◌-◌, ◌*◌, ℕ, true, Some, subst, sym, ◌∙◌, arith}
 use Rattle.std.specs.List.{All}
-use Rattle.std.proofs.lemmas.List.{map-append, length-map}
+use Rattle.std.proofs.lemmas.List.{length-map}
 use Rattle.rx_sets.specs.Sets.{in_ranges}
-use Rattle.rx_utf8.specs.Automata.{step_in, IsRow}
+use Rattle.rx_utf8.specs.Automata.{step_in, IsAutomatonRow}
 use Rattle.rx_utf8.specs.Blocks.{size, AllBetween, Fits, rows_of}
 use Rattle.rx_utf8.proofs.TargetLaws.{Filled, extends_on, whole_fits, filled_push, filled_skip, filled_fits, part_fits, rows_one_more}
 use Rattle.rx_utf8.proofs.blocks.+target.Goals.{in-Some+in_ok-push_byte, in_default}
@@ -74,4 +74,4 @@ returns-clause-kept t c =
     let inv = c.loop-byte.invariant in
     let pushed : R ++ row ∷ [] ≡ rows_of c.push_row.new.rows.items = sym c.in_ok-push_row.ensures in
     let few : c.loop-byte.byte ≤ 256 = omega (arith, c.loop-byte.auto.byte-end) in
-    subst (All IsRow) pushed (rows_one_more R row c.loop-byte.byte few inv.kept inv.filled.rises)
+    subst (All IsAutomatonRow) pushed (rows_one_more R row c.loop-byte.byte few inv.kept inv.filled.rises)

@@ -3,7 +3,7 @@ use Rattle.std.specs.List.{All}
 use Rattle.std.specs.Str.{continuation_len, lead_bits}
 use Rattle.std.proofs.lemmas.List.Elements.{All-set}
 use Rattle.rx_sets.specs.Sets.{Range, in_ranges}
-use Rattle.rx_utf8.specs.Automata.{step_in, IsRow, RiseWithin}
+use Rattle.rx_utf8.specs.Automata.{step_in, IsAutomatonRow, RiseWithin}
 use Rattle.rx_utf8.specs.Blocks.{prepared, Fits, rows_of, pick, ReadsAll}
 use Rattle.rx_utf8.proofs.TargetLaws.{extends_on}
 use Rattle.rx_utf8.proofs.StartLaws.{Started, started_push, started_skip, started_reads, set_first}
@@ -52,4 +52,4 @@ returns-clause-disjoint c =
     let inv = c.loop-code.invariant in
     let end : c.loop-code.code ≡ 256 = omega (arith, c.loop-code-test.false, c.loop-code.auto.code-end) in
     let rises : RiseWithin 0 256 c.loop-code.start.items = subst (λ x. RiseWithin 0 x c.loop-code.start.items) end inv.started.rises in
-    subst (All IsRow) (set_first c.loop-code.rows.items c.loop-code.start) (All-set IsRow R 0 c.loop-code.start.items rises inv.kept)
+    subst (All IsAutomatonRow) (set_first c.loop-code.rows.items c.loop-code.start) (All-set IsAutomatonRow R 0 c.loop-code.start.items rises inv.kept)

@@ -1,7 +1,7 @@
 use Rattle.std.proofs.Common.{◌≡◌, ◌+◌, ◌-◌, suc, [], length, sym, ap, subst, arith}
 use Rattle.std.specs.List.{All}
 use Rattle.std.proofs.lemmas.List.Elements.{All-nil}
-use Rattle.rx_utf8.specs.Automata.{step_in, IsRow}
+use Rattle.rx_utf8.specs.Automata.{step_in, IsAutomatonRow}
 use Rattle.rx_utf8.specs.Blocks.{rows_of}
 use Rattle.rx_utf8.specs.Subsets.{lists_of}
 use Rattle.rx_utf8.proofs.SubsetLaws.{Made, made_none, made_more, made_all}
@@ -13,7 +13,7 @@ loop-init c =
     let maker = c.in_ok-maker.maker in
     let none : rows_of maker.rows.items ≡ [] = ap rows_of c.in_ok-maker.ensures.rows in
     record {
-      made = made_none (length c.args.forward.now) step (lists_of maker.subsets.sets.items) (rows_of maker.rows.items) (λ back. c.transposed_reads_alike.ensures step back) (subst (All IsRow) (sym none) (All-nil IsRow)) c.in_ok-maker.ensures.sets none;
+      made = made_none (length c.args.forward.now) step (lists_of maker.subsets.sets.items) (rows_of maker.rows.items) (λ back. c.transposed_reads_alike.ensures step back) (subst (All IsAutomatonRow) (sym none) (All-nil IsAutomatonRow)) c.in_ok-maker.ensures.sets none;
       states = c.in_ok-maker.ensures.states;
       lists = c.in_ok-maker.ensures.lists;
     }

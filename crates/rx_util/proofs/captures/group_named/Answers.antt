@@ -1,4 +1,4 @@
-use Rattle.std.proofs.Common.{◌≡◌, ap, sym, ◌∙◌, true≢false, arith}
+use Rattle.std.proofs.Common.{sym, ◌∙◌, true≢false, arith}
 use Rattle.rx_util.specs.Groups.{names_of}
 use Rattle.rx_util.proofs.NameLemmas.{further_at, not_yet, none_named}
 use Rattle.rx_util.proofs.captures.group_named.Goals as goal

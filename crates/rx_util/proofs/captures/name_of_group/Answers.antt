@@ -1,4 +1,4 @@
-use Rattle.std.proofs.Common.{◌≡◌, ap, sym, ◌∙◌, arith}
+use Rattle.std.proofs.Common.{sym, ◌∙◌}
 use Rattle.rx_util.proofs.NameLemmas.{name_at}
 use Rattle.rx_util.proofs.captures.name_of_group.Goals as goal
 

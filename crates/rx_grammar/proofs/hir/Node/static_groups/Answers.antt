@@ -1,5 +1,5 @@
-use Rattle.std.proofs.Common.{◌+◌, ◌<◌, ◌^◌, take, Some, None, unwrap_or, refl, sym, ap, subst, ◌∙◌, arith}
-use Rattle.rx_grammar.specs.Subtrees.{width_of}
+use Rattle.std.proofs.Common.{take, None, unwrap_or, sym, ap, subst, ◌∙◌, arith}
+use Rattle.rx_grammar.specs.Subtrees.{child_count}
 use Rattle.rx_grammar.specs.Nodes.{kind_of}
 use Rattle.rx_grammar.proofs.StaticGroupLaws.{concat-groups, alternation-groups, IsGroup, group-groups, groups_in-le}
 use Rattle.rx_grammar.proofs.hir.Node.static_groups.Goals as goal
@@ -14,5 +14,5 @@ returns-in_ok-below-in-Alternation c = λ trees may is.
 
 pub returns-in-Group : goal.returns-in-Group
 returns-in-Group c = λ trees may is.
-    c.both.ensures (λ n m e d. omega (arith, c.requires, is.extent, groups_in-le (take (width_of (kind_of c.args.self.now)) trees) (sym is.groups ∙ e), ap (λ a. unwrap_or a 0) d))
+    c.both.ensures (λ n m e d. omega (arith, c.requires, is.extent, groups_in-le (take (child_count (kind_of c.args.self.now)) trees) (sym is.groups ∙ e), ap (λ a. unwrap_or a 0) d))
     ∙ group-groups trees c.args.self.now (subst IsGroup (sym c.in-Group.is) tt) may is

@@ -1,6 +1,6 @@
 use Rattle.std.proofs.Common.{◌≡◌, ◌&&◌, ◌||◌, Some, refl, sym, ap, ap₂, ◌∙◌, arith}
 use Rattle.rx_grammar.specs.declared.properties.Properties.{Properties}
-use Rattle.rx_grammar.specs.StaticGroups.{both_groups, static_groups}
+use Rattle.rx_grammar.specs.StaticGroups.{both_groups}
 use Rattle.rx_grammar.specs.Rows.{common_with}
 use Rattle.rx_grammar.proofs.RowLaws.{IsRowOf-more}
 use Rattle.rx_grammar.proofs.StaticGroupLaws.{groups_in-last, common_in-last, groups_in-le, static_groups-less}

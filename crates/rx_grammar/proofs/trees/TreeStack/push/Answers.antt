@@ -1,7 +1,7 @@
 use Rattle.std.proofs.Common.{◌≡◌, ◌+◌, ◌-◌, ◌<◌, ◌^◌, [], ◌∷◌, ◌++◌, map, take, sym, ap, subst, ◌∙◌, arith}
 use Rattle.std.proofs.lemmas.List.{map-append}
 use Rattle.rx_grammar.specs.Postorder.{after_node, trees_of, first_of}
-use Rattle.rx_grammar.specs.Rows.{MayFollow, IsRowOf, AreStacked}
+use Rattle.rx_grammar.specs.Rows.{MayFollow, AreRowProperties, AreStacked}
 use Rattle.rx_grammar.specs.Nodes.{kind_of, properties_of}
 use Rattle.rx_grammar.proofs.StackLaws.{trees_of-push, length-trees_of}
 use Rattle.rx_grammar.proofs.SubtreeLaws.{AreStacked-push}
@@ -20,7 +20,7 @@ invariant_of-self-2 c =
     let height = c.self.inside.height - c.width-width.result + 1 in
     let trees = trees_of c.args.self.now in
     let may : MayFollow (trees_of nodes) node = subst (λ x. MayFollow (trees_of x) node) (sym c.self.view_is) c.requires in
-    let row = subst (λ n. IsRowOf c.last_row.result (take n trees)) c.width-width.ensures c.last_row.ensures.row in
+    let row = subst (λ n. AreRowProperties c.last_row.result (take n trees)) c.width-width.ensures c.last_row.ensures.row in
     let own = c.properties-properties.ensures trees c.requires row ∙ ap (λ x. properties_of (first_of (after_node (trees_of x) node))) (sym c.self.view_is) in
     let e : map kind_of c.push.new.self.items ≡ nodes ++ node ∷ [] =
     ap (map kind_of) c.in_ok-push.ensures.items ∙ map-append kind_of c.self.inside.nodes.items (c.args.node ∷ []) in

@@ -1,7 +1,7 @@
 use Rattle.std.proofs.Common.{Some, None, Ok, Err, refl, sym, ap, subst, ◌∙◌, arith}
 use Rattle.std.proofs.RetainMut.{Called-Mut}
 use Rattle.std.proofs.lemmas.Result.{err_from_is_err_and}
-use Rattle.rx_input.specs.Searchers.{SearcherState, HasPassed, finder_of, Advances, IsAtLast, end_of_half}
+use Rattle.rx_input.specs.Searchers.{SearcherState, HasPassedMatch, finder_of, Advances, IsAtLast, end_of_half}
 use Rattle.rx_input.proofs.SearcherLaws.{err_told, none_told, found_told, err_further, none_further, found_further, may_start}
 use Rattle.rx_input.proofs.iter.Searcher.advance_half_by.Goals as goal
 
@@ -34,7 +34,7 @@ returns-then-not-is_at_last-clause-advances g c =
     let tells = finder_of g.F.FnMut g.I.Searched.state in
     let m : SearcherState = record { input = g.I.Searched.state c.self.inside.input; last_match_end = c.self.inside.last_match_end } in
     let told : tells c.args.finder.now c.finder.new.self m.input (Ok c.in_ok-found.field-0) (g.I.Searched.state c.finder.new.arg2) = (c.self.inside.input, c.finder.new.arg2, Called-Mut g.F.FnMut c.in_ok-found.ensures, refl, refl) in
-    let passed = subst (λ k. HasPassed (g.I.Searched.state c.finder.new.arg2) k c.pass.new.self) c.offset-end.ensures c.pass.ensures in
+    let passed = subst (λ k. HasPassedMatch (g.I.Searched.state c.finder.new.arg2) k c.pass.new.self) c.offset-end.ensures c.pass.ensures in
     subst (λ x. Advances tells end_of_half IsAtLast c.args.finder.now c.finder.new.self x (Ok (Some c.in-Some.found)) c.pass.new.self) c.self.view_is (found_told tells end_of_half IsAtLast c.args.finder.now c.finder.new.self m c.pass.new.self c.in_ok-found.field-0 c.in-Some.found (g.I.Searched.state c.finder.new.arg2) c.in-Some.is told (λ is. c.is_at_last.ensures.elsewhere c.if-not-is_at_last.true (is ∙ ap Some (sym c.offset-end.ensures))) passed)
 
 -- ---- by a second one
@@ -84,5 +84,5 @@ returns-clause-advances g c =
     let m : SearcherState = record { input = g.I.Searched.state c.self.inside.input; last_match_end = c.self.inside.last_match_end } in
     let told : tells c.args.finder.now c.finder.new.self m.input (Ok c.in_ok-found.field-0) (g.I.Searched.state c.finder.new.arg2) = (c.self.inside.input, c.finder.new.arg2, Called-Mut g.F.FnMut c.in_ok-found.ensures, refl, refl) in
     let second : tells c.finder.new.self c.finder-2.new.self c.step.new.self.input (Ok c.in_ok-further.field-0) (g.I.Searched.state c.finder-2.new.arg2) = (c.self-2.inside.input, c.finder-2.new.arg2, Called-Mut g.F.FnMut c.in_ok-further.ensures, ap (λ s. s.input) c.self-2.view_is, refl) in
-    let passed = subst (λ k. HasPassed (g.I.Searched.state c.finder-2.new.arg2) k c.pass-2.new.self) c.offset-end_further.ensures c.pass-2.ensures in
+    let passed = subst (λ k. HasPassedMatch (g.I.Searched.state c.finder-2.new.arg2) k c.pass-2.new.self) c.offset-end_further.ensures c.pass-2.ensures in
     subst (λ x. Advances tells end_of_half IsAtLast c.args.finder.now c.finder-2.new.self x (Ok (Some c.in-Some-2.further)) c.pass-2.new.self) c.self.view_is (found_further tells end_of_half IsAtLast c.args.finder.now c.finder-2.new.self m c.pass-2.new.self c.finder.new.self c.in_ok-found.field-0 c.in-Some.found (g.I.Searched.state c.finder.new.arg2) c.step.new.self.input c.in-Some.is told (c.is_at_last.ensures.here c.if-not-is_at_last.false ∙ ap Some c.offset-end.ensures) c.step.ensures.further c.in_ok-further.field-0 c.in-Some-2.further (g.I.Searched.state c.finder-2.new.arg2) c.in-Some-2.is second passed)

@@ -4,12 +4,12 @@ use Rattle.rx_literals.specs.declared.prefilter.Searcher.TheVariants as searcher
 use Rattle.rx_literals.specs.declared.first_bytes.FirstBytes.{FirstBytes}
 use Rattle.rx_literals.specs.FirstBytes.{BeginAmong}
 use Rattle.rx_literals.specs.Needles.{FoundBetween}
-use Rattle.rx_literals.specs.Prefilters.{Searches}
+use Rattle.rx_literals.specs.Prefilters.{SearchesNeedles}
 use Rattle.rx_literals.proofs.SliceLaws.{only_needle}
 use Rattle.rx_literals.proofs.prefilter.Parts.find.Goals as goal
 
-one_by : (s : Searcher) (finder : List ℕ) (needles : List (List ℕ)) → s ≡ searcher.One finder → Searches s needles → needles ≡ finder ∷ []
-one_by s finder needles is searches = subst (λ x. Searches x needles) is searches
+one_by : (s : Searcher) (finder : List ℕ) (needles : List (List ℕ)) → s ≡ searcher.One finder → SearchesNeedles s needles → needles ≡ finder ∷ []
+one_by s finder needles is searches = subst (λ x. SearchesNeedles x needles) is searches
 
 pub find_one-requires : goal.find_one-requires
 find_one-requires c = only_needle _ c.in-One.finder (one_by c.self.inside.searcher c.in-One.finder _ c.in-One.is c.self.invariant.searches) c.self.invariant.are.each
@@ -19,8 +19,8 @@ returns-in-One c =
     let one : c.args.self.now ≡ c.in-One.finder ∷ [] = sym c.self.view_is ∙ one_by c.self.inside.searcher c.in-One.finder _ c.in-One.is c.self.invariant.searches in
     subst (λ needles. FoundBetween c.args.hay.now needles 0 (length c.args.hay.now) c.find_one.result) (sym one) c.find_one.ensures
 
-first_by : (s : Searcher) (first : FirstBytes) (needles : List (List ℕ)) → s ≡ searcher.First first → Searches s needles → BeginAmong first needles
-first_by s first needles is searches = subst (λ x. Searches x needles) is searches
+first_by : (s : Searcher) (first : FirstBytes) (needles : List (List ℕ)) → s ≡ searcher.First first → SearchesNeedles s needles → BeginAmong first needles
+first_by s first needles is searches = subst (λ x. SearchesNeedles x needles) is searches
 
 pub try_first-requires : goal.try_first-requires
 try_first-requires c =

@@ -1,5 +1,5 @@
 use Rattle.std.proofs.Common.{String, Global, string_bytes, List, ℕ, map, sym, subst}
-use Rattle.rx_program.specs.Programs.{characters_of}
+use Rattle.rx_program.specs.Programs.{character_program}
 use Rattle.rx_literals.specs.Ways.{Stem, StandFor}
 use Rattle.rx_literals.proofs.KeptLaws.{stand_on}
 use Rattle.rx_literals.proofs.WayLaws.{begin_if}
@@ -16,4 +16,4 @@ returns c =
     stand_on (bytes_in c.in_ok-literals.literals.items) (bytes_in c.in_ok-kept.kept.items) shortest c.in_ok-kept.ensures c.in_ok-shortest.ensures in
     let stand : StandFor shortest stems = subst (λ others. StandFor shortest others) c.in_ok-literals.ensures both in
     let told : StandFor (bytes_in c.deref.result.now) stems = subst (λ literals. StandFor (bytes_in literals) stems) (sym c.deref.ensures.value) stand in
-    begin_if (characters_of c.args.program.now) c.in_ok-beginnings.beginnings.list.items (bytes_in c.deref.result.now) c.prefilter_of.result c.in_ok-beginnings.ensures told c.prefilter_of.ensures
+    begin_if (character_program c.args.program.now) c.in_ok-beginnings.beginnings.list.items (bytes_in c.deref.result.now) c.prefilter_of.result c.in_ok-beginnings.ensures told c.prefilter_of.ensures

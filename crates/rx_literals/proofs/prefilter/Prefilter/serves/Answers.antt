@@ -1,5 +1,5 @@
 use Rattle.std.proofs.Common.{String, Global, string_bytes, List, ℕ, map, subst, ap, ◌∙◌}
-use Rattle.rx_program.specs.Programs.{characters_of}
+use Rattle.rx_program.specs.Programs.{character_program}
 use Rattle.rx_literals.specs.Ways.{Stem, StandFor}
 use Rattle.rx_literals.proofs.WayLaws.{begin_with}
 use Rattle.rx_literals.proofs.prefilter.Prefilter.serves.Goals as goal
@@ -13,4 +13,4 @@ returns c = λ is.
     let stand = c.begin_with_needles.ensures is in
     let known : StandFor c.args.self.now (bytes_in c.deref.result.now) = subst (λ needles. StandFor needles (bytes_in c.deref.result.now)) c.needles.ensures.needles stand in
     let told : StandFor c.args.self.now stems = subst (λ literals. StandFor c.args.self.now literals) (ap bytes_in c.deref.ensures.value ∙ c.in_ok-literals.ensures) known in
-    begin_with (characters_of c.args.program.now) c.in_ok-beginnings.beginnings.list.items c.args.self.now c.in_ok-beginnings.ensures told
+    begin_with (character_program c.args.program.now) c.in_ok-beginnings.beginnings.list.items c.args.self.now c.in_ok-beginnings.ensures told

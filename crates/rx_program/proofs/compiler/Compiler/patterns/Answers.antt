@@ -1,4 +1,4 @@
-use Rattle.std.proofs.Common.{◌≡◌, ◌+◌, ◌*◌, ◌++◌, length, map, drop, ap, ap₂, ◌∙◌, arith}
+use Rattle.std.proofs.Common.{◌≡◌, ◌+◌, ◌*◌, ◌++◌, length, map, drop, ap₂, ◌∙◌, arith}
 use Rattle.rx_grammar.specs.Trees.{numbers_of}
 use Rattle.rx_grammar.specs.Postorder.{tree_of}
 use Rattle.rx_program.specs.Code.{patterns_code}

@@ -1,6 +1,6 @@
 use Rattle.rx_utf8.specs.Automata.{is_in}
 use Rattle.rx_walks.proofs.ProgramTurnLaws.{program_turns_in_bytes}
-use Rattle.rx_program.specs.Programs.{characters_of}
+use Rattle.rx_program.specs.Programs.{character_program}
 use Rattle.rx_program.specs.Reversed.{back_automata_of}
 use Rattle.rx_program.proofs.ReverseLaws.{nodes_are, characters_are, reads_backwards, walks_are}
 use Rattle.rx_program.proofs.program.Program.reversed.Goals as goal
@@ -19,4 +19,4 @@ pub returns-clause-reads : goal.returns-clause-reads
 returns-clause-reads c = reads_backwards _ c.in_ok-push_starts.ensures.reads
 
 pub returns-clause-walks : goal.returns-clause-walks
-returns-clause-walks c = walks_are c.args.self.now _ (returns-clause-characters c) (returns-clause-reads c) (λ back. program_turns_in_bytes is_in (characters_of c.args.self.now) (back_automata_of back))
+returns-clause-walks c = walks_are c.args.self.now _ (returns-clause-characters c) (returns-clause-reads c) (λ back. program_turns_in_bytes is_in (character_program c.args.self.now) (back_automata_of back))

@@ -1,4 +1,3 @@
-use Rattle.std.proofs.Common.{◌≡◌}
 use Rattle.rx_util.proofs.captures.Captures.get_group_by_name.Goals as goal
 
 pub returns-clause-unnamed : goal.returns-clause-unnamed

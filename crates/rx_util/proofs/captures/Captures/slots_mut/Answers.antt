@@ -1,10 +1,10 @@
-use Rattle.std.proofs.Common.{◌≡◌, ℕ, ◌++◌, List, Option, length, take, drop, ◌≤◌, refl, ap, subst, ◌∙◌}
-use Rattle.rx_util.specs.Groups.{Groups, slot_len}
+use Rattle.std.proofs.Common.{ℕ, ◌++◌, List, Option, length, take, drop, ◌≤◌, refl, ap, subst, ◌∙◌}
+use Rattle.rx_util.specs.Groups.{GroupNames, slot_len}
 use Rattle.rx_util.specs.Captured.{Captured}
 use Rattle.rx_util.specs.Lending.{with_slots}
 use Rattle.rx_util.proofs.captures.Captures.slots_mut.Goals as goal
 
-abbrev captured : Groups → Option ℕ → List (Option ℕ) → Captured
+abbrev captured : GroupNames → Option ℕ → List (Option ℕ) → Captured
 captured groups pattern slots = record { groups = groups; pattern = pattern; slots = slots }
 
 pub returns : goal.returns

@@ -1,6 +1,6 @@
 use Rattle.std.proofs.Common.{◌≡◌, ℕ, List, Option, Vec, String, Global, ◌+◌, ◌*◌, ◌<◌, ◌^◌, length, ap, sym, arith, subst, get_or, [], option_map, string_bytes}
 use Rattle.std.proofs.lemmas.List.{length-map}
-use Rattle.rx_util.specs.Groups.{Groups, HasDistinctNames, names_of, named_groups, slot_len}
+use Rattle.rx_util.specs.Groups.{GroupNames, HasDistinctNames, names_of, named_groups}
 use Rattle.rx_util.specs.Slots.{IsLaidOut}
 use Rattle.rx_util.specs.declared.captures.GroupInfoInner.{GroupInfoInner}
 use Rattle.rx_util.proofs.SlotLemmas.{AreStartsUpTo, AreStartsUpTo-none, AreStartsUpTo-more, next_at_end}
@@ -14,7 +14,7 @@ further_len patterns i len pattern lt is same =
     omega (arith, same, pattern.ok.0, length-map pattern.items (option_map string_bytes), ap length (named_groups-at patterns i pattern lt is))
 
 -- all are laid out
-laid_out : (groups : Groups) (n len : ℕ) (starts : List ℕ) → n ≡ length groups → HasDistinctNames groups → AreStartsUpTo groups n starts len → len < 2 ^ 64 → IsLaidOut groups starts len
+laid_out : (groups : GroupNames) (n len : ℕ) (starts : List ℕ) → n ≡ length groups → HasDistinctNames groups → AreStartsUpTo groups n starts len → len < 2 ^ 64 → IsLaidOut groups starts len
 laid_out groups n len starts e distinct all fits =
     let whole = subst (λ k. AreStartsUpTo groups k starts len) e all in
     let is = next_at_end groups whole in

@@ -1,18 +1,18 @@
-use Rattle.std.proofs.Common.{◌≡◌, ℕ, List, ◌+◌, ◌*◌, ◌-◌, ◌<◌, ◌≤◌, ◌^◌, Some, slice_get, get_or, length, subst, sym, ap, ◌∙◌, arith, unwrap_or}
+use Rattle.std.proofs.Common.{◌≡◌, ℕ, List, ◌+◌, ◌*◌, ◌-◌, ◌<◌, ◌^◌, Some, get_or, subst, sym, ap, ◌∙◌, arith, unwrap_or}
 use Rattle.std.proofs.lemmas.Option.{get_or_from_slice_get}
-use Rattle.rx_util.specs.Groups.{Groups, group_len, slot_len, slot_place, first_slot}
+use Rattle.rx_util.specs.Groups.{GroupNames, group_len, slot_len, slot_place}
 use Rattle.rx_util.specs.Slots.{IsLaidOut}
 use Rattle.rx_util.specs.declared.captures.GroupInfoInner.{GroupInfoInner}
-use Rattle.rx_util.proofs.SlotLemmas.{IsGroup, group_is, slot_place-within, slot_place-before, first_slot-of_group}
+use Rattle.rx_util.proofs.SlotLemmas.{group_is, slot_place-within, slot_place-before, first_slot-of_group}
 use Rattle.rx_util.proofs.captures.GroupInfo.slot.Goals as goal
 
 -- what is answered for a further group: its first slot, and the second one is a slot too
-record IsSlot (groups : Groups) (p g slot : ℕ) : Type 0 where
+record IsSlot (groups : GroupNames) (p g slot : ℕ) : Type 0 where
   pub is : slot ≡ slot_place groups p g
   pub within : slot + 1 < slot_len groups
   pub fits : slot_len groups < 2 ^ 64
 
-slot_of_further : (groups : Groups) (starts : List ℕ) (len p g start : ℕ) → IsLaidOut groups starts len → g < group_len groups p → (g ≡ 0 → ⊥)
+slot_of_further : (groups : GroupNames) (starts : List ℕ) (len p g start : ℕ) → IsLaidOut groups starts len → g < group_len groups p → (g ≡ 0 → ⊥)
     → start ≡ get_or starts p start → IsSlot groups p g (start + 2 * (g - 1))
 slot_of_further groups starts len p g start laid lt further read =
     let is = group_is groups p g lt in

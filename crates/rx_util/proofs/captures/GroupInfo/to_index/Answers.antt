@@ -1,4 +1,4 @@
-use Rattle.std.proofs.Common.{◌≡◌, ap, sym, ◌∙◌, option_map}
+use Rattle.std.proofs.Common.{ap, sym, ◌∙◌, option_map}
 use Rattle.rx_util.specs.Groups.{names_of}
 use Rattle.rx_util.proofs.NameLemmas.{named_exactly}
 use Rattle.rx_util.proofs.captures.GroupInfo.to_index.Goals as goal

@@ -1,4 +1,4 @@
-use Rattle.std.proofs.Common.{◌≡◌, ◌<◌, ◌∷◌, [], ◌++◌, length, take, Contains, true≢false, sym, ap, ◌∙◌, subst, arith}
+use Rattle.std.proofs.Common.{◌<◌, ◌∷◌, [], ◌++◌, Contains, true≢false, sym, ap, ◌∙◌, subst, arith}
 use Rattle.rx_util.proofs.SparseSetLemmas.{has_room, IsIndexed-insert, members-insert}
 use Rattle.rx_util.proofs.sparse_set.SparseSet.insert.Goals as goal
 
