@@ -14,7 +14,7 @@ use Rattle.rx_walks.specs.Machines.{Outcome}
 use Rattle.rx_walks.specs.Programs.{Notes, Program, fresh_notes}
 use Rattle.rx_walks.specs.ProgramFinds.{haystack_of, holds_in, lowest, machine_of, start_of}
 use Rattle.rx_walks.proofs.InsideLaws.{walk_keeps}
-use Rattle.rx_program.specs.Programs.{ByteProgram, characters_of}
+use Rattle.rx_program.specs.Programs.{ByteProgram, character_program}
 use Rattle.rx_steps.specs.Searching.{anchoring_of, search_of}
 use Rattle.rx_dfa.specs.Searching.{IsHalfAnswer}
 use Rattle.rx_literals.proofs.LowLaws.{least_from}
@@ -35,7 +35,7 @@ anchored_at s place = record s { start = place; anchoring = anchored }
 
 module _ (p : ByteProgram) (s : Search) where
   abbrev C : Program Look (List Range)
-  C = characters_of p
+  C = character_program p
 
   abbrev S : Search
   S = freed s

@@ -1,8 +1,7 @@
 -- What is told of inputs that show the same bytes and ask for the same.
-use Rattle.std.proofs.Common.{◌≡◌, ℕ, Bool, false, List, length, Option, option_map, sym, ap, ap₂, subst, ◌∙◌}
+use Rattle.std.proofs.Common.{◌≡◌, ℕ, false, List, length, Option, option_map, sym, ap, ap₂, subst, ◌∙◌}
 use Rattle.rx_util.specs.Search.{Found}
 use Rattle.rx_input.specs.Inputs.{Asked, InputState}
-use Rattle.rx_walks.specs.Finds.{Search}
 use Rattle.rx_walks.specs.Machines.{Outcome}
 use Rattle.rx_walks.specs.Programs.{Notes}
 use Rattle.rx_steps.specs.Searching.{answer_slots}

@@ -10,7 +10,7 @@ use Rattle.rx_walks.specs.Programs.{Notes, slot_of}
 use Rattle.rx_walks.specs.Finds.{Search}
 use Rattle.rx_walks.specs.ProgramFinds.{start_of, end_of}
 use Rattle.rx_program.specs.Laws.{HasNotedOwn}
-use Rattle.rx_program.specs.Programs.{ByteProgram, characters_of}
+use Rattle.rx_program.specs.Programs.{ByteProgram, character_program}
 use Rattle.rx_input.specs.Inputs.{InputState}
 use Rattle.rx_input.specs.Searchers.{EndsInside}
 use Rattle.rx_steps.specs.Searching.{answer_slots, search_of}
@@ -158,7 +158,7 @@ module _ (e : Engine) (first : IsFirst e) (i : InputState) (part : Part) (k : �
 
   pub part_ends_inside : InsideLaw → length i.cursor.content < 2 ^ 63 → EndsInside i part.span.end
   part_ends_inside inside bound =
-      let lies = inside is_in is_word_char (characters_of e.program) (search_of e.utf8_empty i) ends_there.found found_whole in
+      let lies = inside is_in is_word_char (character_program e.program) (search_of e.utf8_empty i) ends_there.found found_whole in
       record {
         behind_start = omega (arith, ends_there.end_is, lies.found.possible.0.2, lies.found.ordered);
         before_end = omega (arith, ends_there.end_is, lies.found.inside.3);
@@ -166,7 +166,7 @@ module _ (e : Engine) (first : IsFirst e) (i : InputState) (part : Part) (k : �
       }
 
 -- and a literal that is one
-pub literal_half : (e : Engine) → IsFirst e → (i : InputState) (span : Span) (half : HalfFound) → half.pattern ≡ 0 → half.offset ≡ span.end → FindsLiteral (characters_of e.program) is_word_char (search_of e.utf8_empty i) span → TellsHalf e i (Some half)
+pub literal_half : (e : Engine) → IsFirst e → (i : InputState) (span : Span) (half : HalfFound) → half.pattern ≡ 0 → half.offset ≡ span.end → FindsLiteral (character_program e.program) is_word_char (search_of e.utf8_empty i) span → TellsHalf e i (Some half)
 literal_half e first i span half pattern offset literal =
     let found : Found = record { pattern = 0; span = span } in
     record {

@@ -4,9 +4,9 @@ use Rattle.std.proofs.lemmas.List.{length-take, get_or-take, get_or-drop, take_a
 use Rattle.unicode.specs.Perl.{is_word_char}
 use Rattle.rx_util.specs.declared.search.Span.{Span}
 use Rattle.rx_input.specs.Inputs.{between}
-use Rattle.rx_program.specs.Programs.{characters_of}
+use Rattle.rx_program.specs.Programs.{character_program}
 use Rattle.rx_literals.specs.Needles.{AreNeedles, FoundAt, no_needle, this_needle, other_needle, FoundBetween, nowhere, at_least_place}
-use Rattle.rx_literals.specs.Beginnings.{BeginsWith, NoNeedleNoMatch}
+use Rattle.rx_literals.specs.Beginnings.{MatchesBeginWith, NoNeedleNoMatch}
 use Rattle.rx_literals.proofs.NeedleLaws.{found_start}
 use Rattle.regex_cursor.specs.Patterns.{HasNoMatchBetween, TreeFinds, program_for, search_from}
 use Rattle.regex_cursor.specs.Regexes.{RegexView, IsRegexOf}
@@ -58,10 +58,10 @@ found_within {bytes} {needles} (at_least_place i low high here before) e =
 
 -- ---- what that tells of a regex whose matches begin with the needles
 
-module _ (text : List ℕ) (re : RegexView) (built : IsRegexOf text re) (needles : List (List ℕ)) (begins : BeginsWith needles (characters_of re.engine.program)) (are : AreNeedles needles) (law : NoNeedleNoMatch) where
+module _ (text : List ℕ) (re : RegexView) (built : IsRegexOf text re) (needles : List (List ℕ)) (begins : MatchesBeginWith needles (character_program re.engine.program)) (are : AreNeedles needles) (law : NoNeedleNoMatch) where
   none_there : (part : List ℕ) → ((i : ℕ) → i < length part → FoundAt part i needles None) → TreeFinds built.tree part 0 None
   none_there part none =
-      let of_tree : BeginsWith needles (program_for built.tree) = subst (λ p. BeginsWith needles p) (program-is text re built) begins in
+      let of_tree : MatchesBeginWith needles (program_for built.tree) = subst (λ p. MatchesBeginWith needles p) (program-is text re built) begins in
       let whole : take (length part) part ≡ part = take_all (length part) part (omega arith) in
       law needles (program_for built.tree) is_word_char (search_from part 0) are of_tree refl
       (nowhere (λ i low below. subst (λ bytes. FoundAt bytes i needles None) (sym whole) (none i below)))

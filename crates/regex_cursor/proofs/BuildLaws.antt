@@ -1,5 +1,5 @@
 -- A regex of one pattern is one of a list of patterns.
-use Rattle.std.proofs.Common.{◌≡◌, ℕ, zero, suc, List, [], ◌∷◌, Result, Ok, Err, IfErr, unwrap_or, sym, ap, subst}
+use Rattle.std.proofs.Common.{ℕ, zero, suc, List, [], ◌∷◌, Result, Ok, Err, IfErr, unwrap_or, sym, ap, subst}
 use Rattle.std.proofs.lemmas.Option.{none-some}
 use Rattle.rx_grammar.specs.Trees.{Tree}
 use Rattle.rx_program.specs.declared.error.BuildError.{BuildError}

@@ -10,7 +10,7 @@ use Rattle.rx_util.specs.declared.search.Span.{Span}
 use Rattle.rx_util.specs.Search.{Found, HalfFound}
 use Rattle.rx_walks.specs.Backward.{CountsBack, IsFindBack, ProgramFindsBack, anchored_as, back_from, least_back}
 use Rattle.rx_walks.specs.Finds.{Counts, IsFind, PatternMatch, Search, from_place_on, is_anchored, is_found, unanchored, up_to_place}
-use Rattle.rx_walks.specs.Laws.{Begins}
+use Rattle.rx_walks.specs.Laws.{MayBegin}
 use Rattle.rx_walks.specs.Looks.{Look}
 use Rattle.rx_walks.specs.Machines.{Outcome}
 use Rattle.rx_walks.specs.Programs.{Notes, Program, fresh_notes, put_note}
@@ -20,7 +20,7 @@ use Rattle.rx_walks.proofs.FindBackLaws.{finds_match_back, starts_first}
 use Rattle.rx_walks.proofs.InsideLaws.{walk_keeps}
 use Rattle.rx_walks.proofs.PathLaws.{walk_reaches}
 use Rattle.rx_walks.proofs.WholeLaws.{reads_whole}
-use Rattle.rx_program.specs.Programs.{ByteProgram, characters_of}
+use Rattle.rx_program.specs.Programs.{ByteProgram, character_program}
 use Rattle.rx_program.specs.Reversed.{ReverseByteProgram}
 use Rattle.rx_steps.specs.Reversed.{IsHalfAnswerBack, IsReverseOf}
 use Rattle.rx_literals.specs.Endings.{EndsWithSlice}
@@ -43,7 +43,7 @@ use Rattle.regex_cursor.proofs.LowerLaws.{cut_law, exist_law, inside_law, one_la
 
 module _ (p : ByteProgram) (s : Search) (t : Outcome Notes) where
   abbrev C : Program Look (List Range)
-  C = characters_of p
+  C = character_program p
 
   abbrev On : Search
   On = from_place_on s (start_of t)
@@ -72,15 +72,15 @@ module _ (p : ByteProgram) (s : Search) (t : Outcome Notes) where
 -- in it that is found alone
 pub found_part : (p : ByteProgram) (s : Search) (t : Outcome Notes) → Finds p s (Some t) → IsPart p s (record { span = (match_of t).span; pattern = Some t.pattern })
 found_part p s t finds =
-    let lies = inside_law is_in is_word_char (characters_of p) s t finds in
+    let lies = inside_law is_in is_word_char (character_program p) s t finds in
     let span : Span = (match_of t).span in
-    let there : Finds p (within s span) (Some t) = begun p (up_to_place s (end_of t)) t (cut_law is_in is_word_char (characters_of p) s t finds) in
+    let there : Finds p (within s span) (Some t) = begun p (up_to_place s (end_of t)) t (cut_law is_in is_word_char (character_program p) s t finds) in
     record {
       holds = record {
         behind = lies.found.possible.0.2;
         ordered = lies.found.ordered;
         before = lies.found.inside.3;
-        finds = λ out found. subst (λ o. Finds p s o) (sym (one_law is_in is_word_char (characters_of p) (within s span) out (Some t) found there)) finds;
+        finds = λ out found. subst (λ o. Finds p s o) (sym (one_law is_in is_word_char (character_program p) (within s span) out (Some t) found there)) finds;
       };
       match = record { found = t; finds = there; pattern_is = refl; end_is = refl };
     }
@@ -100,23 +100,23 @@ back_half a = record { pattern = a.pattern; offset = a.start }
 abbrev own_match : Outcome Notes → PatternMatch
 own_match t = record { start = start_of t; pattern = t.pattern; end = t.end }
 
-module _ (p : ByteProgram) (s : Search) (ends : EndsWithSlice (characters_of p)) (free : s.anchoring ≡ unanchored) where
+module _ (p : ByteProgram) (s : Search) (ends : EndsWithSlice (character_program p)) (free : s.anchoring ≡ unanchored) where
   ends_last : (t : Outcome Notes) → Finds p s (Some t) → t.end ≡ min s.slice_end (length s.content)
-  ends_last t finds = ends is_word_char s t (ap (start_node (characters_of p)) free) finds
+  ends_last t finds = ends is_word_char s t (ap (start_node (character_program p)) free) finds
 
   -- nothing is found in a span that ends before
   pub none_before : s.end < min s.slice_end (length s.content) → Finds p s None
-  none_before before = let there = exist_law is_in is_word_char (characters_of p) s in by there.0 there.1
+  none_before before = let there = exist_law is_in is_word_char (character_program p) s in by there.0 there.1
     where
       by : (out : Option (Outcome Notes)) → Finds p s out → Finds p s None
       by None finds = finds
       by (Some t) finds =
-          let lies = inside_law is_in is_word_char (characters_of p) s t finds in
+          let lies = inside_law is_in is_word_char (character_program p) s t finds in
           absurd (omega (arith, lies.found.inside.3, ends_last t finds, before))
 
-module _ (p : ByteProgram) (s : Search) (turned : ReverseByteProgram) (of : IsReverseOf p turned) (ends : EndsWithSlice (characters_of p)) (free : s.anchoring ≡ unanchored) (last : s.end ≡ min s.slice_end (length s.content)) where
+module _ (p : ByteProgram) (s : Search) (turned : ReverseByteProgram) (of : IsReverseOf p turned) (ends : EndsWithSlice (character_program p)) (free : s.anchoring ≡ unanchored) (last : s.end ≡ min s.slice_end (length s.content)) where
   abbrev P : Program Look (List Range)
-  P = characters_of p
+  P = character_program p
 
   ends_there : (t : Outcome Notes) → Finds p s (Some t) → t.end ≡ s.end
   ends_there t finds = ends_last p s ends free t finds ∙ sym last
@@ -130,7 +130,7 @@ module _ (p : ByteProgram) (s : Search) (turned : ReverseByteProgram) (of : IsRe
   not_anchored : IsTrue (is_anchored s.anchoring) → ⊥
   not_anchored is = let told : is_anchored s.anchoring ≡ true = is in absurd (cc (told, ap is_anchored free))
 
-  begins_there : (a : PatternMatch) → CountsBack (machine_of is_in is_word_char P s) fresh_notes (back_from s s.end) P.start a → Begins s a.start
+  begins_there : (a : PatternMatch) → CountsBack (machine_of is_in is_word_char P s) fresh_notes (back_from s s.end) P.start a → MayBegin s a.start
   begins_there a counts = ((counts.inside, λ is. absurd (not_anchored is)), λ on. at_boundary on)
     where
       at_boundary : IsTrue s.utf8_empty → IsCharBoundary s.content a.start

@@ -10,7 +10,7 @@ use Rattle.rx_walks.specs.Programs.{Notes}
 use Rattle.rx_walks.specs.Finds.{Search, from_place_on, up_to_place}
 use Rattle.rx_walks.specs.ProgramFinds.{end_of}
 use Rattle.rx_walks.specs.Iterating.{nothing, at_once, passed}
-use Rattle.rx_program.specs.Programs.{ByteProgram, characters_of}
+use Rattle.rx_program.specs.Programs.{ByteProgram, character_program}
 use Rattle.rx_literals.specs.Literals.{FindsLiteral, literal_match, within}
 use Rattle.rx_chunk.specs.Engines.{Finds}
 use Rattle.rx_chunk.specs.Iterating.{ComesNext}
@@ -40,31 +40,31 @@ module _ (p : ByteProgram) (s : Search) where
   pub up_to_left : OneLaw → InsideLaw → CutLaw → (start k end : ℕ) → s.start ≡ start → FindsUpTo p s k end → IsPart p s (record { span = record { start = start; end = end }; pattern = Some k })
   up_to_left one inside cut start k end same up =
       let t = up.found in
-      let lies = inside is_in is_word_char (characters_of p) s t up.finds in
+      let lies = inside is_in is_word_char (character_program p) s t up.finds in
       let at = lies.found.inside in
-      let cut_there : Finds p (up_to_place s end) (Some t) = subst (λ e. Finds p (up_to_place s e) (Some t)) up.end_is (cut is_in is_word_char (characters_of p) s t up.finds) in
+      let cut_there : Finds p (up_to_place s end) (Some t) = subst (λ e. Finds p (up_to_place s e) (Some t)) up.end_is (cut is_in is_word_char (character_program p) s t up.finds) in
       let there : Finds p (within s (record { start = start; end = end })) (Some t) = subst (λ x. Finds p (within s (record { start = x; end = end })) (Some t)) same cut_there in
       record {
         holds = record {
           behind = omega (arith, same);
           ordered = omega (arith, same, at.2, up.end_is);
           before = omega (arith, at.3, up.end_is);
-          finds = λ out finds. subst (λ o. Finds p s o) (sym (one is_in is_word_char (characters_of p) (within s (record { start = start; end = end })) out (Some t) finds there)) up.finds;
+          finds = λ out finds. subst (λ o. Finds p s o) (sym (one is_in is_word_char (character_program p) (within s (record { start = start; end = end })) out (Some t) finds there)) up.finds;
         };
         match = record { found = t; finds = there; pattern_is = up.pattern_is; end_is = up.end_is };
       }
 
   -- the span that the literal takes
-  pub literal_left : OneLaw → InsideLaw → (span : Span) → FindsLiteral (characters_of p) is_word_char s span → IsPart p s (record { span = span; pattern = Some 0 })
+  pub literal_left : OneLaw → InsideLaw → (span : Span) → FindsLiteral (character_program p) is_word_char s span → IsPart p s (record { span = span; pattern = Some 0 })
   literal_left one inside span literal =
       let t = literal_match span in
-      let lies = inside is_in is_word_char (characters_of p) s t literal.finds in
+      let lies = inside is_in is_word_char (character_program p) s t literal.finds in
       record {
         holds = record {
           behind = lies.found.possible.0.2;
           ordered = omega (arith, literal.some);
           before = lies.found.inside.3;
-          finds = λ out finds. subst (λ o. Finds p s o) (sym (one is_in is_word_char (characters_of p) (within s span) out (Some t) finds literal.alone)) literal.finds;
+          finds = λ out finds. subst (λ o. Finds p s o) (sym (one is_in is_word_char (character_program p) (within s span) out (Some t) finds literal.alone)) literal.finds;
         };
         match = record { found = t; finds = literal.alone; pattern_is = refl; end_is = refl };
       }
@@ -97,10 +97,10 @@ module _ (p : ByteProgram) (s : Search) where
 
       by : (o : Option ℕ) → part.pattern ≡ o → IfSome o (λ k. FindsUpTo p (within s part.span) k part.span.end) → ⊥
       by (Some k) has up =
-          let same : t ≡ up.found = same_Some t up.found (one is_in is_word_char (characters_of p) (within s part.span) (Some t) (Some up.found) finds up.finds) in
+          let same : t ≡ up.found = same_Some t up.found (one is_in is_word_char (character_program p) (within s part.span) (Some t) (Some up.found) finds up.finds) in
           never (known k has (ends_ ∙ ap Some (ap (λ (x : Outcome Notes). end_of x) same ∙ up.end_is)))
       by None has none_there =
-          let lies = inside is_in is_word_char (characters_of p) (within s part.span) t finds in
+          let lies = inside is_in is_word_char (character_program p) (within s part.span) t finds in
           never (unknown (end_of t) has ends_ (omega (arith, lies.found.possible.0.2, lies.found.ordered)))
 
   -- ---- from a place on
@@ -124,12 +124,12 @@ module _ (p : ByteProgram) (s : Search) where
 
   -- a span that is done has no match
   pub none_done : ExistLaw → InsideLaw → s.end < s.start → Finds p s None
-  none_done exist inside done = let there = exist is_in is_word_char (characters_of p) s in by there.0 there.1
+  none_done exist inside done = let there = exist is_in is_word_char (character_program p) s in by there.0 there.1
     where
       by : (out : Option (Outcome Notes)) → Finds p s out → Finds p s None
       by None finds = finds
       by (Some t) finds =
-          let at = (inside is_in is_word_char (characters_of p) s t finds).found.inside in
+          let at = (inside is_in is_word_char (character_program p) s t finds).found.inside in
           absurd (omega (arith, at.2, at.3, done))
 
 pub done_span : (start end : ℕ) (b : Bool) → b ≡ nat_lt end start → b ≡ true → end < start

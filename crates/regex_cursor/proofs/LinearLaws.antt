@@ -1,50 +1,41 @@
 -- Lists of the matches behind one, and the one that comes next.
-use Rattle.std.proofs.Common.{◌≡◌, ℕ, zero, suc, ◌+◌, ◌-◌, ◌*◌, ◌≤◌, ◌==◌, Bool, true, false, cond, List, [], ◌∷◌, length, map, take, drop, Option, Some, None, is_some, IfSome, IsSome, option_map, refl, sym, ap, ap₂, subst, ◌∙◌, arith}
+use Rattle.std.proofs.Common.{◌≡◌, ℕ, zero, suc, ◌+◌, ◌-◌, ◌*◌, ◌≤◌, ◌==◌, Bool, true, false, cond, List, [], ◌∷◌, length, map, take, drop, Option, Some, None, is_some, IfSome, option_map, refl, sym, ap, ap₂, subst, ◌∙◌, arith}
 use Rattle.std.proofs.lemmas.Bool.{eqb-true, eqb-false}
 use Rattle.std.proofs.lemmas.Option.{same_Some}
-use Rattle.unicode.specs.Perl.{is_word_char}
-use Rattle.rx_sets.specs.Sets.{Range}
-use Rattle.rx_utf8.specs.Automata.{is_in}
-use Rattle.rx_util.specs.declared.search.MatchKind.TheVariants.{LeftmostFirst}
 use Rattle.std.specs.Option.{ForSome}
 use Rattle.rx_util.specs.Search.{HalfFound}
 use Rattle.rx_util.specs.Captured.{span_between}
 use Rattle.rx_util.specs.declared.search.Span.{Span}
-use Rattle.rx_input.specs.Cursors.{IsSameContent}
 use Rattle.rx_input.specs.Inputs.{Asked, InputState}
 use Rattle.rx_walks.specs.Finds.{Search, from_place_on}
 use Rattle.rx_walks.specs.Iterating as iterating
 use Rattle.rx_walks.specs.Iterating.{Finding, FindsNext, MatchesLeft}
-use Rattle.rx_walks.specs.Looks.{Look}
 use Rattle.rx_walks.specs.Machines.{Outcome}
 use Rattle.rx_walks.specs.Matches as matches
 use Rattle.rx_walks.specs.Matches.{Further, Matches, Next}
-use Rattle.rx_walks.specs.ProgramFinds.{ProgramFinds, highest, lowest, start_of, end_of}
-use Rattle.rx_walks.specs.Programs.{Notes, Program, slot_of}
+use Rattle.rx_walks.specs.ProgramFinds.{finds_on, highest, start_of, end_of}
+use Rattle.rx_walks.specs.Programs.{Notes, slot_of}
 use Rattle.rx_steps.specs.Searching.{answer_slots, search_of, slots_from}
 use Rattle.rx_steps.specs.Threads.{Slots, no_slots}
 use Rattle.rx_steps.proofs.SlotLaws.{slots_from_len}
 use Rattle.rx_lists.specs.Lists.{AreAllMatches, Listed, listed_of}
-use Rattle.rx_chunk.specs.Engines.{Engine, EngineFinds, Finds, FindsOfKind, IsEngine, match_of, whole_span}
+use Rattle.rx_chunk.specs.Engines.{Engine, EngineFinds, IsEngine, match_of, whole_span}
 use Rattle.rx_chunk.specs.Iterating.{ComesNext, EndsAhead, IsNextAnswer, StartsFrom, left_behind}
 use Rattle.rx_chunk.proofs.FoundLaws.{notes_places, two_places}
-use Rattle.rx_chunk.proofs.IterLaws.{found_ends, moved_on, moved_search}
+use Rattle.rx_chunk.proofs.IterLaws.{found_ends, moved_search}
 use Rattle.rx_chunk.proofs.KindLaws.{inside_of}
-use Rattle.regex_cursor.specs.Linear.{AreBehind, FindAlike, GivesSlots, IsLeftBehind, IsLinear, IsRestOf, LinearState, Rest, TellsNext, all_places, left_of, passed_over, places_read}
+use Rattle.regex_cursor.specs.Linear.{AreBehind, GivesSlots, IsLeftBehind, IsRestOf, LinearState, FurtherMatches, TellsWhatComes, all_places, left_of, passed_over, places_read}
 use Rattle.regex_cursor.proofs.FurtherLaws.{found_on}
 use Rattle.regex_cursor.proofs.StrategyLaws.{IsFirst, by_engine}
 
 -- ---- what is listed from a place on
 
 module _ (e : Engine) (s : Search) where
-  abbrev Find : ℕ → Option (Outcome Notes) → Type 0
-  Find i out = EngineFinds e (from_place_on s i) out
-
-  behind_first : (len : ℕ) (t : Outcome Notes) (ms : List (Outcome Notes)) (b : Bool) → (end_of t == s.start) ≡ b → Find s.start (Some t) → Further Find start_of end_of (end_of t) ms
+  behind_first : (len : ℕ) (t : Outcome Notes) (ms : List (Outcome Notes)) (b : Bool) → (end_of t == s.start) ≡ b → EngineFinds e (from_place_on s s.start) (Some t) → Further (finds_on (EngineFinds e) s) (end_of t) ms
       → AreBehind e s s.start len (drop (cond b 1 0) (map (listed_of len) (t ∷ ms)))
   behind_first len t ms true here found further = record {
     matches = ms;
-    further = subst (λ k. Further Find start_of end_of k ms) (eqb-true (end_of t) s.start here) further;
+    further = subst (λ k. Further (finds_on (EngineFinds e) s) k ms) (eqb-true (end_of t) s.start here) further;
     found_are = refl;
   }
   behind_first len t ms false apart found further = record {
@@ -53,22 +44,19 @@ module _ (e : Engine) (s : Search) where
     found_are = refl;
   }
 
-  behind_by : (len : ℕ) (ms : List (Outcome Notes)) → Matches Find start_of end_of s.start ms → AreBehind e s s.start len (drop (passed_over s.start (map (listed_of len) ms)) (map (listed_of len) ms))
+  behind_by : (len : ℕ) (ms : List (Outcome Notes)) → Matches (finds_on (EngineFinds e) s) s.start ms → AreBehind e s s.start len (drop (passed_over s.start (map (listed_of len) ms)) (map (listed_of len) ms))
   behind_by len [] (matches.no_match none) = record { matches = []; further = matches.last (matches.no_more none); found_are = refl }
   behind_by len (t ∷ ms) (matches.first found further) = behind_first len t ms (end_of t == s.start) refl found further
 
 pub behind_listed : (e : Engine) → IsFirst e → (s : Search) (len : ℕ) (listed : List Listed) → AreAllMatches e.program s len listed → AreBehind e s s.start len (drop (passed_over s.start listed) listed)
 behind_listed e leftmost s len listed all =
     subst (λ xs. AreBehind e s s.start len (drop (passed_over s.start xs) xs)) (sym all.found_are)
-    (behind_by e s len all.matches (by_engine e leftmost (λ finding. Matches (λ i out. finding (from_place_on s i) out) start_of end_of s.start all.matches) all.are_all))
+    (behind_by e s len all.matches (by_engine e leftmost (λ finding. Matches (finds_on finding s) s.start all.matches) all.are_all))
 
 -- ---- what comes next of it
 
 module _ (e : Engine) (s : Search) where
-  abbrev FindOn : ℕ → Option (Outcome Notes) → Type 0
-  FindOn i out = EngineFinds e (from_place_on s i) out
-
-  next_by : (out : Option (Outcome Notes)) → Next FindOn start_of end_of s.start out → FindsNext (EngineFinds e) s (Some s.start) out
+  next_by : (out : Option (Outcome Notes)) → Next (finds_on (EngineFinds e) s) s.start out → FindsNext (EngineFinds e) s (Some s.start) out
   next_by out (matches.no_more none) = iterating.nothing none
   next_by out (matches.at_once {a = t} found not) = iterating.at_once found (λ empty.
       let same : s.start ≡ end_of t = same_Some s.start (end_of t) empty.1 in
@@ -79,7 +67,7 @@ module _ (e : Engine) (s : Search) where
   pub nothing_behind : (len : ℕ) → AreBehind e s s.start len [] → ComesNext (EngineFinds e) s (Some s.start) None
   nothing_behind len behind = by behind.matches behind.further behind.found_are
     where
-      by : (ms : List (Outcome Notes)) → Further FindOn start_of end_of s.start ms → [] ≡ map (listed_of len) ms → ComesNext (EngineFinds e) s (Some s.start) None
+      by : (ms : List (Outcome Notes)) → Further (finds_on (EngineFinds e) s) s.start ms → [] ≡ map (listed_of len) ms → ComesNext (EngineFinds e) s (Some s.start) None
       by [] (matches.last none) are = next_by None none
       by (t ∷ ms) further are = absurd (cc are)
 
@@ -93,7 +81,7 @@ module _ (e : Engine) (s : Search) where
   pub head_behind : (len : ℕ) (l : Listed) (others : List Listed) → AreBehind e s s.start len (l ∷ others) → IsHead len l others
   head_behind len l others behind = by behind.matches behind.further behind.found_are
     where
-      by : (ms : List (Outcome Notes)) → Further FindOn start_of end_of s.start ms → l ∷ others ≡ map (listed_of len) ms → IsHead len l others
+      by : (ms : List (Outcome Notes)) → Further (finds_on (EngineFinds e) s) s.start ms → l ∷ others ≡ map (listed_of len) ms → IsHead len l others
       by [] further are = absurd (cc are)
       by (t ∷ ms) (matches.one_more next further) are = record {
         outcome = t;
@@ -113,18 +101,9 @@ first_slots (suc n) first (suc len) notes few = ap (λ xs. slot_of notes first �
 pub behind_moved : (e : Engine) (s t : Search) (start end len : ℕ) (found : List Listed) → t ≡ from_place_on s start → AreBehind e s end len found → AreBehind e t end len found
 behind_moved e s t start end len found same behind = record {
   matches = behind.matches;
-  further = subst (λ x. Further (λ i out. EngineFinds e (from_place_on x i) out) start_of end_of end behind.matches) (sym same) behind.further;
+  further = subst (λ x. Further (finds_on (EngineFinds e) x) end behind.matches) (sym same) behind.further;
   found_are = behind.found_are;
 }
-
-pub alike_finds : (e f : Engine) → e.match_kind ≡ LeftmostFirst → FindAlike e f → EngineFinds e ≡ EngineFinds f
-alike_finds e f leftmost alike =
-    by_kind e leftmost
-    ∙ ap {B = Finding} (λ (c : Program Look (List Range)) s out. ProgramFinds is_in is_word_char c s out) alike.characters
-    ∙ sym (by_kind f (sym alike.kind ∙ leftmost))
-  where
-    by_kind : (x : Engine) → x.match_kind ≡ LeftmostFirst → EngineFinds x ≡ Finds x.program
-    by_kind x is = ap (λ k. FindsOfKind k x.program) is
 
 -- ---- where it ends
 
@@ -133,7 +112,7 @@ comes_ahead e s last t comes = found_ends (EngineFinds e) last s (match_of t) (i
 
 -- ---- a step
 
-pub gives_slots : (finding : Finding) (m n : MatchesLeft) (half : Option HalfFound) (pattern : Option ℕ) (slots : Slots) → TellsNext finding m.search m.last_end half slots → pattern ≡ option_map (λ (h : HalfFound). h.pattern) half
+pub gives_slots : (finding : Finding) (m n : MatchesLeft) (half : Option HalfFound) (pattern : Option ℕ) (slots : Slots) → TellsWhatComes finding m.search m.last_end half slots → pattern ≡ option_map (λ (h : HalfFound). h.pattern) half
     → (half ≡ None → n.is_over ≡ true) → IfSome half (λ h. n ≡ left_behind m h.offset) → GivesSlots finding m pattern slots n
 gives_slots finding m n half pattern slots tells pattern_is over left = by tells.out tells.comes tells.half_is tells.slots_are
   where
@@ -187,7 +166,7 @@ module _ (e : Engine) (of_trees : IsEngine e) (s : Search) (last : Option ℕ) (
       let has = has_places answer in
       subst (λ (y : Span). y.start ≤ y.end) (same_Some (match_of has.outcome).span x (sym has.span ∙ is)) has.ordered
 
-  pub tells_next : (end : ℕ) → ((x : Span) → whole_span k slots ≡ Some x → end ≡ x.end) → IsNextAnswer (EngineFinds e) s last (Some k) slots → TellsNext (EngineFinds e) s last (Some (record { pattern = k; offset = end })) slots
+  pub tells_next : (end : ℕ) → ((x : Span) → whole_span k slots ≡ Some x → end ≡ x.end) → IsNextAnswer (EngineFinds e) s last (Some k) slots → TellsWhatComes (EngineFinds e) s last (Some (record { pattern = k; offset = end })) slots
   tells_next end ends answer =
       let has = has_places answer in
       record {
@@ -197,10 +176,10 @@ module _ (e : Engine) (of_trees : IsEngine e) (s : Search) (last : Option ℕ) (
         slots_are = has.slots_are;
       }
 
-pub tells_none : (finding : Finding) (s : Search) (last : Option ℕ) (slots : Slots) → IsNextAnswer finding s last None slots → TellsNext finding s last None slots
+pub tells_none : (finding : Finding) (s : Search) (last : Option ℕ) (slots : Slots) → IsNextAnswer finding s last None slots → TellsWhatComes finding s last None slots
 tells_none finding s last slots answer = by answer.out answer.comes answer.pattern_is answer.slots_are
   where
-    by : (out : Option (Outcome Notes)) → ComesNext finding s last out → None ≡ option_map (λ (t : Outcome Notes). t.pattern) out → slots ≡ answer_slots (length slots) out → TellsNext finding s last None slots
+    by : (out : Option (Outcome Notes)) → ComesNext finding s last out → None ≡ option_map (λ (t : Outcome Notes). t.pattern) out → slots ≡ answer_slots (length slots) out → TellsWhatComes finding s last None slots
     by None comes is are = record { out = None; comes = comes; half_is = refl; slots_are = are }
     by (Some t) comes is are = absurd (cc is)
 
@@ -211,10 +190,10 @@ so P Q None f p = tt
 so P Q (Some a) f p = f a p
 
 -- a match was taken, with its places in slots
-abbrev pub IsTakenFrom : Rest → Rest → Slots → Slots → HalfFound → Type 0
+abbrev pub IsTakenFrom : FurtherMatches → FurtherMatches → Slots → Slots → HalfFound → Type 0
 IsTakenFrom old new before after half = (l : Listed) × (old.found ≡ l ∷ new.found) × (half.pattern ≡ l.pattern) × (half.offset ≡ l.end) × (after ≡ take (length before) l.slots)
 
-module _ (m : LinearState) (old new : Rest) (before after : Slots) (half : HalfFound) (is : IsRestOf m old) (taken : IsTakenFrom old new before after half) where
+module _ (m : LinearState) (old new : FurtherMatches) (before after : Slots) (half : HalfFound) (is : IsRestOf m old) (taken : IsTakenFrom old new before after half) where
   abbrev S : Search
   S = search_of old.engine.utf8_empty m.input
 
@@ -229,7 +208,7 @@ module _ (m : LinearState) (old new : Rest) (before after : Slots) (half : HalfF
   pub taken_ends : EndsAhead (Some S.start) S half.offset
   taken_ends = subst (λ k. EndsAhead (Some S.start) S k) (sym offset_is) (comes_ahead old.engine S (Some S.start) taken_head.outcome taken_head.comes)
 
-  pub taken_tells : length before ≤ old.slot_len → TellsNext (EngineFinds old.engine) S (Some S.start) (Some half) after
+  pub taken_tells : length before ≤ old.slot_len → TellsWhatComes (EngineFinds old.engine) S (Some S.start) (Some half) after
   taken_tells few =
       let t = taken_head.outcome in
       let n = length before in
@@ -259,8 +238,8 @@ module _ (m : LinearState) (old new : Rest) (before after : Slots) (half : HalfF
       }
 
 -- or none was left
-pub none_taken : (m : LinearState) (old : Rest) (before after : Slots) → IsRestOf m old → (old.found ≡ []) × (after ≡ before) → before ≡ no_slots (length before)
-    → TellsNext (EngineFinds old.engine) (search_of old.engine.utf8_empty m.input) (Some m.input.asked.span.start) None after
+pub none_taken : (m : LinearState) (old : FurtherMatches) (before after : Slots) → IsRestOf m old → (old.found ≡ []) × (after ≡ before) → before ≡ no_slots (length before)
+    → TellsWhatComes (EngineFinds old.engine) (search_of old.engine.utf8_empty m.input) (Some m.input.asked.span.start) None after
 none_taken m old before after is none clear =
     let s : Search = search_of old.engine.utf8_empty m.input in
     record {
@@ -271,12 +250,12 @@ none_taken m old before after is none clear =
     }
 
 -- what comes next in the list
-pub tells_taken : (m : LinearState) (old new : Rest) (before after : Slots) (half : Option HalfFound) → IsRestOf m old → length before ≤ old.slot_len → before ≡ no_slots (length before)
-    → (half ≡ None → (old.found ≡ []) × (after ≡ before)) → IfSome half (IsTakenFrom old new before after) → TellsNext (EngineFinds old.engine) (search_of old.engine.utf8_empty m.input) m.last_end half after
+pub tells_taken : (m : LinearState) (old new : FurtherMatches) (before after : Slots) (half : Option HalfFound) → IsRestOf m old → length before ≤ old.slot_len → before ≡ no_slots (length before)
+    → (half ≡ None → (old.found ≡ []) × (after ≡ before)) → IfSome half (IsTakenFrom old new before after) → TellsWhatComes (EngineFinds old.engine) (search_of old.engine.utf8_empty m.input) m.last_end half after
 tells_taken m old new before after half is few clear none some =
-    subst (λ o. TellsNext (EngineFinds old.engine) (search_of old.engine.utf8_empty m.input) o half after) (ap Some is.starts ∙ sym is.last_is) (by half none some)
+    subst (λ o. TellsWhatComes (EngineFinds old.engine) (search_of old.engine.utf8_empty m.input) o half after) (ap Some is.starts ∙ sym is.last_is) (by half none some)
   where
-    by : (half : Option HalfFound) → (half ≡ None → (old.found ≡ []) × (after ≡ before)) → IfSome half (IsTakenFrom old new before after) → TellsNext (EngineFinds old.engine) (search_of old.engine.utf8_empty m.input) (Some m.input.asked.span.start) half after
+    by : (half : Option HalfFound) → (half ≡ None → (old.found ≡ []) × (after ≡ before)) → IfSome half (IsTakenFrom old new before after) → TellsWhatComes (EngineFinds old.engine) (search_of old.engine.utf8_empty m.input) (Some m.input.asked.span.start) half after
     by None none some = none_taken m old before after is (none refl) clear
     by (Some h) none some = taken_tells m old new before after h is some few
 
@@ -286,14 +265,14 @@ pub left_by : (e : Engine) (m n : LinearState) (half : Option HalfFound) → IfS
 left_by e m n None starts last on = tt
 left_by e m n (Some h) starts last on = left_on e m n h.offset starts last on
 
-pub rest_moved : (m n : LinearState) (old new : Rest) (before after : Slots) (half : Option HalfFound) → IsRestOf m old → (half ≡ None → (old.found ≡ []) × (after ≡ before)) → IfSome half (IsTakenFrom old new before after)
+pub rest_moved : (m n : LinearState) (old new : FurtherMatches) (before after : Slots) (half : Option HalfFound) → IsRestOf m old → (half ≡ None → (old.found ≡ []) × (after ≡ before)) → IfSome half (IsTakenFrom old new before after)
     → new.engine ≡ old.engine → new.slot_len ≡ old.slot_len → IfSome half (λ h. StartsFrom m.input n.input h.offset) → IfSome half (λ h. n.last_end ≡ Some h.offset)
     → (half ≡ None → new ≡ old) → (half ≡ None → IsRestOf n old) → IsRestOf n new
 rest_moved m n old new before after None is none some engine slot_len starts last same stays = subst (λ r. IsRestOf n r) (sym (same refl)) (stays refl)
 rest_moved m n old new before after (Some h) is none some engine slot_len starts last same stays = taken_rest m old new before after h is some n starts last engine slot_len
 
 -- the same list, of a state with the same input that ended its last match there too
-pub rest_as : (m n : LinearState) (r : Rest) → n.input ≡ m.input → n.last_end ≡ m.last_end → IsRestOf m r → IsRestOf n r
+pub rest_as : (m n : LinearState) (r : FurtherMatches) → n.input ≡ m.input → n.last_end ≡ m.last_end → IsRestOf m r → IsRestOf n r
 rest_as m n r input last is = record {
   leftmost = is.leftmost;
   end = is.end;
@@ -349,111 +328,25 @@ same_places m n start starts first =
 
 -- ---- a step by finds
 
-pub tells_ahead : (e : Engine) (s : Search) (last : Option ℕ) (half : Option HalfFound) (slots : Slots) → TellsNext (EngineFinds e) s last half slots → IfSome half (λ h. EndsAhead last s h.offset)
+pub tells_ahead : (e : Engine) (s : Search) (last : Option ℕ) (half : Option HalfFound) (slots : Slots) → TellsWhatComes (EngineFinds e) s last half slots → IfSome half (λ h. EndsAhead last s h.offset)
 tells_ahead e s last half slots tells = by tells.out tells.comes tells.half_is
   where
     by : (out : Option (Outcome Notes)) → ComesNext (EngineFinds e) s last out → half ≡ option_map (λ (t : Outcome Notes). record { pattern = t.pattern; offset = end_of t }) out → IfSome half (λ h. EndsAhead last s h.offset)
     by None comes is = subst (λ o. IfSome o (λ (h : HalfFound). EndsAhead last s h.offset)) (sym is) tt
     by (Some t) comes is = subst (λ o. IfSome o (λ (h : HalfFound). EndsAhead last s h.offset)) (sym is) (comes_ahead e s last t comes)
 
-pub same_highest : (i k : InputState) (start : ℕ) → StartsFrom i k start → highest (search_of true k) ≡ highest (search_of true i)
-same_highest i k start starts = ap highest (moved_search true i k start starts)
-
--- finds stay within four times the places, and ten
-pub few_on : (counts : Bool) (old new last from first : ℕ) → (counts ≡ true → old ≤ 3 * (from - first) + (last + 1 - first) + 10) → (counts ≡ true → new ≤ old + 3 * (last + 1 - from)) → (counts ≡ false → new ≡ old) → old ≤ 4 * (last + 1 - first) + 10 → first ≤ from
-    → new ≤ 4 * (last + 1 - first) + 10
-few_on true old new last from first room few none before further = let r = room refl in let f = few refl in omega (arith, r, f, before, further)
-few_on false old new last from first room few none before further = let n = none refl in omega (arith, n, before)
-
 -- ---- how much is read
 
-read_alone : (o : Option Rest) (n k : ℕ) → o ≡ None → n + cond (is_some o) (6 * k) 0 ≡ n
+read_alone : (o : Option FurtherMatches) (n k : ℕ) → o ≡ None → n + cond (is_some o) (6 * k) 0 ≡ n
 read_alone None n k none = omega arith
 read_alone (Some r) n k none = absurd (cc none)
-
-read_listed : (o : Option Rest) (n k : ℕ) → IsSome o → n + cond (is_some o) (6 * k) 0 ≡ n + 6 * k
-read_listed None n k some = absurd (cc some)
-read_listed (Some r) n k some = refl
-
-read_within : (o : Option Rest) (n k : ℕ) → n ≤ 4 * k + 10 → n + cond (is_some o) (6 * k) 0 ≤ 10 * k + 10
-read_within None n k few = omega (arith, few)
-read_within (Some r) n k few = omega (arith, few)
 
 -- finds alone, or the list too
 pub places_alone : (m : LinearState) → m.rest ≡ None → places_read m ≡ m.finds_read
 places_alone m none = read_alone m.rest m.finds_read (all_places m) none
 
-pub places_listed : (m : LinearState) → IsSome m.rest → places_read m ≡ m.finds_read + 6 * all_places m
-places_listed m some = read_listed m.rest m.finds_read (all_places m) some
-
--- and never more than ten times all places, and ten
-pub places_within : (m : LinearState) → m.finds_read ≤ 4 * all_places m + 10 → places_read m ≤ 10 * all_places m + 10
-places_within m few = read_within m.rest m.finds_read (all_places m) few
-
--- ---- for another regex that finds the same
-
-pub gives_alike : (e f : Engine) (m n : LinearState) (pattern : Option ℕ) (slots : Slots) → e.match_kind ≡ LeftmostFirst → FindAlike e f → GivesSlots (EngineFinds e) (left_of e m) pattern slots (left_of e n)
-    → GivesSlots (EngineFinds f) (left_of f m) pattern slots (left_of f n)
-gives_alike e f m n pattern slots leftmost alike gives =
-    subst (λ (finding : Finding). GivesSlots finding (left_of f m) pattern slots (left_of f n)) (alike_finds e f leftmost alike)
-    (subst (λ b. GivesSlots (EngineFinds e) (record { search = search_of b m.input; last_end = m.last_end; is_over = m.is_over }) pattern slots (record { search = search_of b n.input; last_end = n.last_end; is_over = n.is_over })) alike.utf8_empty gives)
-
-pub alike_self : (e : Engine) → FindAlike e e
-alike_self e = record { characters = refl; utf8_empty = refl; kind = refl }
-
--- the same is left where the same is asked of the same content
-pub same_left : (e : Engine) (m n : LinearState) → IsSameContent m.input.cursor n.input.cursor → n.input.asked ≡ m.input.asked → n.last_end ≡ m.last_end → n.is_over ≡ m.is_over → left_of e n ≡ left_of e m
-same_left e m n same asked last over =
-    ap₂ (λ (s : Search) (o : Option ℕ). record { search = s; last_end = o; is_over = n.is_over })
-    (moved_search e.utf8_empty m.input n.input m.input.asked.span.start (record { same = same; asked = asked })) last
-    ∙ ap (λ b. record { search = search_of e.utf8_empty m.input; last_end = m.last_end; is_over = b }) over
-
-pub from_alike : (e f : Engine) (m k n : LinearState) (pattern : Option ℕ) (slots : Slots) → f ≡ e → left_of e k ≡ left_of e m → GivesSlots (EngineFinds f) (left_of f k) pattern slots (left_of f n) → GivesSlots (EngineFinds e) (left_of e m) pattern slots (left_of e n)
-from_alike e f m k n pattern slots engine left gives =
-    subst (λ (x : MatchesLeft). GivesSlots (EngineFinds e) x pattern slots (left_of e n)) left
-    (subst (λ (x : Engine). GivesSlots (EngineFinds x) (left_of x k) pattern slots (left_of x n)) engine gives)
-
--- ---- a step by a find that left a state, and what was left behind what it found
-
-module _ (m k n : LinearState) (half : Option HalfFound) (start : ℕ) (starts : StartsFrom m.input k.input start) (none : half ≡ None → n ≡ k) (moved : IfSome half (λ h. StartsFrom k.input n.input h.offset)) where
-  pub found_same : (s : ℕ) × StartsFrom m.input n.input s
-  found_same = by half none moved
-    where
-      by : (o : Option HalfFound) → (o ≡ None → n ≡ k) → IfSome o (λ h. StartsFrom k.input n.input h.offset) → (s : ℕ) × StartsFrom m.input n.input s
-      by None none moved = (start, subst (λ (x : LinearState). StartsFrom m.input x.input start) (sym (none refl)) starts)
-      by (Some h) none moved = (h.offset, moved_on m.input k.input n.input start h.offset starts moved)
-
-  pub found_gives : (e : Engine) (pattern : Option ℕ) (slots : Slots) → TellsNext (EngineFinds e) (search_of e.utf8_empty m.input) m.last_end half slots → pattern ≡ option_map (λ (h : HalfFound). h.pattern) half → k.is_over ≡ true
-      → IfSome half (λ h. n.last_end ≡ Some h.offset) → IfSome half (λ h. n.is_over ≡ false) → GivesSlots (EngineFinds e) (left_of e m) pattern slots (left_of e n)
-  found_gives e pattern slots tells pattern_is over last on =
-      gives_slots (EngineFinds e) (left_of e m) (left_of e n) half pattern slots tells pattern_is (λ is. ap (λ (x : LinearState). x.is_over) (none is) ∙ over)
-      (left_by e m n half (so (λ h. StartsFrom k.input n.input h.offset) (λ h. StartsFrom m.input n.input h.offset) half (λ h is. moved_on m.input k.input n.input start h.offset starts is) moved) last on)
-
--- the bound stays, and what is known of where it has come says nothing where no more come
-pub few_counted : (counts : Bool) (m n : LinearState) (start from : ℕ) → IsLinear m → m.is_over ≡ false → StartsFrom m.input n.input start → n.first ≡ m.first → from ≡ lowest (search_of true m.input)
-    → (counts ≡ true → m.finds_read ≤ 3 * (lowest (search_of true m.input) - m.first) + all_places m + 10) → (counts ≡ true → n.finds_read ≤ m.finds_read + 3 * (highest (search_of true n.input) + 1 - from)) → (counts ≡ false → n.finds_read ≡ m.finds_read)
-    → n.finds_read ≤ 4 * all_places n + 10
-few_counted counts m n start from is on starts first from_is room few none =
-    let last = highest (search_of true m.input) in
-    let low = lowest (search_of true m.input) in
-    let same : highest (search_of true n.input) ≡ last = same_highest m.input n.input start starts in
-    let further = is.further on in
-    subst (λ k. n.finds_read ≤ 4 * (highest (search_of true n.input) + 1 - k) + 10) (sym first)
-    (subst (λ k. n.finds_read ≤ 4 * (k + 1 - m.first) + 10) (sym same)
-    (few_on counts m.finds_read n.finds_read last low m.first room
-    (λ c. subst (λ k. n.finds_read ≤ m.finds_read + 3 * (last + 1 - k)) from_is (subst (λ k. n.finds_read ≤ m.finds_read + 3 * (k + 1 - from)) same (few c))) none is.few further))
-
-pub over_is_linear : (n : LinearState) → n.is_over ≡ true → n.rest ≡ None → n.finds_read ≤ 4 * all_places n + 10 → IsLinear n
-over_is_linear n over alone few = record {
-  few = few;
-  further = λ on. absurd (cc (on, over));
-  starts = λ on. absurd (cc (on, over));
-  fresh = λ on _. absurd (cc (on, over));
-  rest = subst (λ o. IfSome o (IsRestOf n)) (sym alone) tt;
-}
-
 -- what isn't something is nothing
-pub is_none : (o : Option Rest) → is_some o ≡ false → o ≡ None
+pub is_none : (o : Option FurtherMatches) → is_some o ≡ false → o ≡ None
 is_none None none = refl
 is_none (Some r) none = absurd (cc none)
 

@@ -12,10 +12,10 @@ use Rattle.rx_walks.specs.Programs.{Notes}
 use Rattle.rx_walks.specs.Finds.{Search, from_place_on}
 use Rattle.rx_walks.specs.Matches.{Matches}
 use Rattle.rx_walks.specs.MatchLaws.{IsFoundBehind}
-use Rattle.rx_walks.specs.ProgramFinds.{start_of, end_of}
+use Rattle.rx_walks.specs.ProgramFinds.{finds_on}
 use Rattle.rx_walks.proofs.MatchLaws.{program_matches_found}
 use Rattle.rx_input.specs.Inputs.{InputState}
-use Rattle.rx_program.specs.Programs.{ByteProgram, characters_of}
+use Rattle.rx_program.specs.Programs.{ByteProgram, character_program}
 use Rattle.rx_steps.proofs.SlotLaws.{slots_from_len}
 use Rattle.rx_steps.specs.Searching.{search_of, slots_from}
 use Rattle.rx_chunk.specs.Engines.{Engine, Finds, FindsOfKind, IsEngine, match_of}
@@ -43,14 +43,7 @@ as_engine e of_trees = let t = of_trees.1 in (
 pub as_iterated : {A : Type 0} (e : Engine) (s : Search) (item_of : Outcome Notes → A) (items : List A) → e.match_kind ≡ LeftmostFirst → TellsAll (leftmost_first e) s item_of items → TellsAll e s item_of items
 as_iterated e s item_of items kind all = record {
   matches = all.matches;
-  are_all = subst (λ k. Matches (λ i out. FindsOfKind k e.program (from_place_on s i) out) start_of end_of s.start all.matches) (sym kind) all.are_all;
-  items_are = all.items_are;
-}
-
-pub as_leftmost : {A : Type 0} (e : Engine) (s : Search) (item_of : Outcome Notes → A) (items : List A) → e.match_kind ≡ LeftmostFirst → TellsAll e s item_of items → TellsAll (leftmost_first e) s item_of items
-as_leftmost e s item_of items kind all = record {
-  matches = all.matches;
-  are_all = subst (λ k. Matches (λ i out. FindsOfKind k e.program (from_place_on s i) out) start_of end_of s.start all.matches) kind all.are_all;
+  are_all = subst (λ k. Matches (finds_on (FindsOfKind k e.program) s) s.start all.matches) (sym kind) all.are_all;
   items_are = all.items_are;
 }
 
@@ -78,10 +71,10 @@ module _ (e : Engine) (of_trees : IsEngine e) (len : ℕ) (room : 2 * length e.g
 
   module _ (s : Search) (listed : List Listed) (all : AreAllMatches e.program s len listed) where
     abbrev Behind : Outcome Notes → Type 0
-    Behind t = IsFoundBehind is_in is_word_char (characters_of e.program) s t
+    Behind t = IsFoundBehind is_in is_word_char (character_program e.program) s t
 
     found : All Behind all.matches
-    found = program_matches_found is_in is_word_char (characters_of e.program) s all.matches all.are_all
+    found = program_matches_found is_in is_word_char (character_program e.program) s all.matches all.are_all
 
     pub are_whole : All IsWhole listed
     are_whole = subst (λ ls. All IsWhole ls) (sym all.found_are)

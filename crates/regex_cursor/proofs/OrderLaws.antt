@@ -1,5 +1,5 @@
 -- What iterators over matches give, in order, and that parts are the gaps between them, or the first of these.
-use Rattle.std.proofs.Common.{◌≡◌, ◌⊎◌, inl, inr, ℕ, zero, suc, ◌+◌, ◌<◌, true, false, List, [], ◌∷◌, ◌++◌, map, take, Option, Some, None, Result, Ok, Err, append_assoc, refl, sym, ap, ap₂, subst, ◌∙◌, arith}
+use Rattle.std.proofs.Common.{◌≡◌, ◌⊎◌, inl, inr, ℕ, zero, suc, ◌+◌, ◌<◌, true, false, List, [], ◌∷◌, ◌++◌, take, Option, Some, None, Result, Ok, Err, append_assoc, refl, sym, ap, ap₂, subst, ◌∙◌, arith}
 use Rattle.std.specs.List.{last_or}
 use Rattle.std.specs.Iterator.{Yields}
 use Rattle.std.proofs.Props.{props}
@@ -25,7 +25,7 @@ use Rattle.regex_cursor.specs.Regexes.{RegexView, HasRoom}
 use Rattle.regex_cursor.specs.Iterating as iterating
 use Rattle.regex_cursor.specs.Capturing as capturing
 use Rattle.regex_cursor.specs.Splitting as splitting
-use Rattle.regex_cursor.specs.Splitting.{PartsLeft, parts_of, EndsWith, part, none, SplitsOff, over, at_match, at_end, no_end, refused, between, end_of_search, gaps, last_part, GivesGaps}
+use Rattle.regex_cursor.specs.Splitting.{PartsLeft, parts_of, EndsWith, part, none, SplitsOff, over, at_match, at_end, no_end, refused, span_from_to, end_of_search, gaps, last_part, GivesGaps}
 use Rattle.regex_cursor.specs.SplittingFew as few
 use Rattle.regex_cursor.specs.SplittingFew.{SplitsFew, enough, some, last_one, few_gaps, GivesFewGaps}
 
@@ -92,7 +92,7 @@ record AtMatch (finding : Finding) (a b : PartsLeft) (x : Span) : Type 0 where
   next : GivesNext finding match_of a.matches (Some (Ok found)) b.matches
   last_is : b.last ≡ found.span.end
   goes_on : b.is_over ≡ false
-  part_is : x ≡ between a.last found.span.start
+  part_is : x ≡ span_from_to a.last found.span.start
 
 record AtEnd (finding : Finding) (a b : PartsLeft) (x : Span) : Type 0 where
   next : GivesNext {A = Found} finding match_of a.matches None b.matches
@@ -233,7 +233,7 @@ module _ (C : Type 0) (re : RegexView) (s : Search) where
     t : FoundMatch
     first : First (ms ++ t ∷ [])
     stands : Stands (ms ++ t ∷ []) b
-    part_is : x ≡ between (part_start (last_or None ms)) (start_of t)
+    part_is : x ≡ span_from_to (part_start (last_or None ms)) (start_of t)
 
   one-more : (ms : List FoundMatch) (a b : PartsLeft) (x : Span) → First ms → Stands ms a → AtMatch (EngineFinds re.engine) a b x → OneMore ms b x
   one-more ms a b x are stands at =
@@ -247,7 +247,7 @@ module _ (C : Type 0) (re : RegexView) (s : Search) where
         t = t;
         first = one_more re.engine s ms a.matches t are there step.next;
         stands = parts-are s b t (behind ∙ ap (left_behind s) shown) last_is at.goes_on ∙ ap (parts_behind s) (sym shown);
-        part_is = at.part_is ∙ ap₂ between (starts-at ms a stands) (ap (λ f. f.span.start) step.item_is);
+        part_is = at.part_is ∙ ap₂ span_from_to (starts-at ms a stands) (ap (λ f. f.span.start) step.item_is);
       }
 
   abbrev Gaps : List FoundMatch → List FoundMatch → List Span

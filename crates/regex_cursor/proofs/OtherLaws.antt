@@ -4,7 +4,7 @@ use Rattle.std.proofs.lemmas.Bool.{lt-ltb}
 use Rattle.std.proofs.lemmas.List.{length-replicate}
 use Rattle.std.proofs.lemmas.Option.{same_Some}
 use Rattle.rx_util.specs.Captured.{place_in}
-use Rattle.rx_util.specs.Groups.{Groups, first_slot}
+use Rattle.rx_util.specs.Groups.{GroupNames, first_slot}
 use Rattle.rx_util.specs.Search.{Found, HalfFound}
 use Rattle.rx_walks.specs.Machines.{Outcome}
 use Rattle.rx_walks.specs.Programs.{Notes}
@@ -19,7 +19,7 @@ use Rattle.rx_chunk.proofs.OtherLaws.{others_hold_none}
 use Rattle.regex_cursor.proofs.BackLaws.{up_to}
 use Rattle.regex_cursor.proofs.StrategyLaws.{IsFirst, by_engine, slots_length}
 
-first_there : (groups : Groups) → 0 < length groups → first_slot groups 0 0 ≡ Some 0
+first_there : (groups : GroupNames) → 0 < length groups → first_slot groups 0 0 ≡ Some 0
 first_there [] some = absurd (omega (arith, some))
 first_there (names ∷ groups) some = ap (λ b. cond b (Some 0) None) (lt-ltb 0 (length names + 1) (omega arith))
 

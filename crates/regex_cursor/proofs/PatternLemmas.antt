@@ -13,7 +13,7 @@ use Rattle.rx_walks.specs.Looks.{Look}
 use Rattle.rx_sets.specs.Sets.{Range}
 use Rattle.rx_program.specs.Code.{program_of}
 use Rattle.rx_program.specs.Laws.{GroupsAreNotedWhole, MatchesNoteTheirPlaces}
-use Rattle.rx_program.specs.Programs.{characters_of}
+use Rattle.rx_program.specs.Programs.{character_program}
 use Rattle.rx_program.specs.declared.error.BuildError.{BuildError}
 use Rattle.rx_grammar.specs.Settings.{default_settings}
 use Rattle.rx_grammar.specs.Subtrees.{IsWellFormed}
@@ -59,7 +59,7 @@ search-is re content from input utf8 asks =
       earliest = false;
     }) u) utf8
 
-pub program-is : (text : List ℕ) (re : RegexView) → (built : IsRegexOf text re) → characters_of re.engine.program ≡ program_for built.tree
+pub program-is : (text : List ℕ) (re : RegexView) → (built : IsRegexOf text re) → character_program re.engine.program ≡ program_for built.tree
 program-is text re built = built.built.engine.of_trees.program ∙ ap (λ t. program_of (built.tree ∷ []) t) built.built.engine.line_terminator
 
 -- it searches for the leftmost match: it finds what its program does

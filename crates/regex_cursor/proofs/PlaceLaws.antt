@@ -10,7 +10,7 @@ use Rattle.ropey_walk.specs.Iter.{PassesFirst, StandsBefore}
 use Rattle.ropey_walk.specs.TwoWay.{TwoWay}
 use Rattle.rx_input.specs.Cursors.{CursorState, IsLawful}
 use Rattle.rx_input.specs.Inputs.{HoldsPlace}
-use Rattle.regex_cursor.specs.Showing.{all_chunks, AreFilled, MayShowNext, EndsFirst}
+use Rattle.regex_cursor.specs.Showing.{all_chunks, HaveCharacters, MayShowNext, EndsFirst}
 use Rattle.regex_cursor.proofs.ShowingLaws.{bytes, bytes-append, filled_pieces, no_pieces}
 
 module _ (pieces : List (List ℕ)) (place : TwoWay (List ℕ)) (i byte char line len : ℕ) (cut : IsCutting pieces) (st : StandsBefore pieces byte_len i place byte char line)
@@ -48,7 +48,7 @@ module _ (pieces : List (List ℕ)) (place : TwoWay (List ℕ)) (i byte char lin
   pub may_show : len < 2 ^ 63 → MayShowNext place byte len
   may_show bound = record {
     some = none_behind;
-    filled = subst AreFilled (sym all_are) (filled_pieces pieces cut);
+    filled = subst HaveCharacters (sym all_are) (filled_pieces pieces cut);
     offset_is = st.byte_is ∙ ap (λ p. byte_len (text_of p)) (sym front_is);
     len_is = len_is ∙ ap (λ p. byte_len (text_of p)) (sym all_are);
     bound = bound;

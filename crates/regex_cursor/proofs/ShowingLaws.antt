@@ -13,7 +13,7 @@ use Rattle.ropey_walk.specs.Chunks as rope
 use Rattle.ropey_walk.specs.Iter.{GivesChunk}
 use Rattle.ropey_walk.specs.TwoWay.{TwoWay, turned, GivesPrev}
 use Rattle.rx_input.specs.Cursors.{IsLawful, IsNext, piece_of}
-use Rattle.regex_cursor.specs.Showing.{all_chunks, behind_next, behind_shown, showing, AreFilled, IsBeforeLast, IsShowing, IsSomeAhead, MayShowNext, EndsFirst, StandsBy}
+use Rattle.regex_cursor.specs.Showing.{all_chunks, behind_next, behind_shown, showing, HaveCharacters, IsBeforeLast, IsShowing, IsSomeAhead, MayShowNext, EndsFirst, StandsBy}
 
 abbrev pub bytes : List (List ℕ) → List ℕ
 bytes chunks = encode_utf8_all (text_of chunks)
@@ -22,8 +22,6 @@ pub bytes-append : (ps qs : List (List ℕ)) → bytes (ps ++ qs) ≡ bytes ps +
 bytes-append ps qs = ap encode_utf8_all (concat-append ps qs) ∙ encodes-append (text_of ps) (text_of qs)
 
 -- ---- the chunk that is shown
-no_chars : (shown : List ℕ) → IsUtf8 shown → chars shown ≡ [] → shown ≡ []
-no_chars shown utf8 none = sym (encodes-chars shown utf8) ∙ ap encode_utf8_all none
 
 no_chars_of : (shown : List ℕ) → shown ≡ [] → chars shown ≡ []
 no_chars_of shown none = ap chars none ∙ chars-nil
@@ -36,27 +34,27 @@ some_bytes : (shown : List ℕ) → (chars shown ≡ [] → ⊥) → 0 < length 
 some_bytes [] filled = absurd (filled (no_chars_of [] refl))
 some_bytes (b ∷ bs) filled = omega arith
 
-bytes_of_piece : (text : List ℕ) → bytes (rope.piece_of text) ≡ encode_utf8_all text
+bytes_of_piece : (text : List ℕ) → bytes (rope.lone_piece text) ≡ encode_utf8_all text
 bytes_of_piece [] = refl
 bytes_of_piece (c ∷ cs) = ap encode_utf8_all (append-nil (c ∷ cs))
 
-bytes_shown : (shown : List ℕ) → IsUtf8 shown → bytes (rope.piece_of (chars shown)) ≡ shown
+bytes_shown : (shown : List ℕ) → IsUtf8 shown → bytes (rope.lone_piece (chars shown)) ≡ shown
 bytes_shown shown utf8 = bytes_of_piece (chars shown) ∙ encodes-chars shown utf8
 
-reverse-piece : (text : List ℕ) → reverse (rope.piece_of text) ≡ rope.piece_of text
+reverse-piece : (text : List ℕ) → reverse (rope.lone_piece text) ≡ rope.lone_piece text
 reverse-piece [] = refl
 reverse-piece (c ∷ cs) = refl
 
 -- ---- where it stands in the content
 module _ (place : TwoWay (List ℕ)) (shown : List ℕ) (offset len : ℕ) (s : IsShowing place shown offset len) where
-  behind_is : reverse place.behind ≡ reverse s.earlier ++ rope.piece_of (chars shown)
-  behind_is = ap reverse s.stands ∙ reverse-append (rope.piece_of (chars shown)) s.earlier ∙ ap (λ p. reverse s.earlier ++ p) (reverse-piece (chars shown))
+  behind_is : reverse place.behind ≡ reverse s.earlier ++ rope.lone_piece (chars shown)
+  behind_is = ap reverse s.stands ∙ reverse-append (rope.lone_piece (chars shown)) s.earlier ∙ ap (λ p. reverse s.earlier ++ p) (reverse-piece (chars shown))
 
   pub content_is : bytes (all_chunks place) ≡ bytes (reverse s.earlier) ++ (shown ++ bytes place.ahead)
   content_is =
       bytes-append (reverse place.behind) place.ahead
       ∙ ap (λ p. bytes p ++ bytes place.ahead) behind_is
-      ∙ ap (λ p. p ++ bytes place.ahead) (bytes-append (reverse s.earlier) (rope.piece_of (chars shown)) ∙ ap (λ p. bytes (reverse s.earlier) ++ p) (bytes_shown shown s.utf8))
+      ∙ ap (λ p. p ++ bytes place.ahead) (bytes-append (reverse s.earlier) (rope.lone_piece (chars shown)) ∙ ap (λ p. bytes (reverse s.earlier) ++ p) (bytes_shown shown s.utf8))
       ∙ append_assoc (bytes (reverse s.earlier)) shown (bytes place.ahead)
 
   pub length_is : length (bytes (all_chunks place)) ≡ offset + length shown + length (bytes place.ahead)
@@ -97,7 +95,7 @@ module _ (place : TwoWay (List ℕ)) (shown : List ℕ) (offset len : ℕ) (s : 
 
   behind_bytes : length (bytes (reverse place.behind)) ≡ offset + length shown
   behind_bytes =
-      let parts = ap bytes behind_is ∙ bytes-append (reverse s.earlier) (rope.piece_of (chars shown)) ∙ ap (λ p. bytes (reverse s.earlier) ++ p) (bytes_shown shown s.utf8) in
+      let parts = ap bytes behind_is ∙ bytes-append (reverse s.earlier) (rope.lone_piece (chars shown)) ∙ ap (λ p. bytes (reverse s.earlier) ++ p) (bytes_shown shown s.utf8) in
       omega (arith, ap length parts, length-append (bytes (reverse s.earlier)) shown, s.offset_is)
 
 -- ---- the next chunk
@@ -111,7 +109,7 @@ all_the_same place new chunk ahead behind =
     ∙ append_assoc (reverse place.behind) (chunk ∷ []) new.ahead
     ∙ ap (λ p. reverse place.behind ++ p) (sym ahead)
 
-piece_by_itself : (text : List ℕ) → (text ≡ [] → ⊥) → rope.piece_of text ≡ text ∷ []
+piece_by_itself : (text : List ℕ) → (text ≡ [] → ⊥) → rope.lone_piece text ≡ text ∷ []
 piece_by_itself [] filled = absurd (filled refl)
 piece_by_itself (c ∷ cs) filled = refl
 
@@ -127,7 +125,7 @@ module _ (place new : TwoWay (List ℕ)) (shown next : List ℕ) (offset len : �
     earlier = place.behind;
     stands = behind ∙ ap (λ p. p ++ place.behind) (sym (piece_by_itself (chars next) next_filled));
     some = λ none. absurd (next_filled none);
-    filled = subst AreFilled (sym same_chunks) s.filled;
+    filled = subst HaveCharacters (sym same_chunks) s.filled;
     utf8 = utf8;
     offset_is = sym (behind_bytes place shown offset len s);
     len_is = s.len_is ∙ ap (λ p. byte_len (text_of p)) (sym same_chunks);
@@ -249,7 +247,7 @@ module _ (place one two : TwoWay (List ℕ)) (second : Option (Bor (List ℕ))) 
     earlier = some.1;
     stands = behind_new ∙ ap (λ x. x ∷ some.1) (sym given.0) ∙ ap (λ p. p ++ some.1) (sym (piece_by_itself (chars before) before_filled));
     some = λ none. absurd (before_filled none);
-    filled = subst AreFilled same_back s.filled;
+    filled = subst HaveCharacters same_back s.filled;
     utf8 = given.1;
     offset_is = omega (arith, starts);
     len_is = s.len_is ∙ ap (λ p. byte_len (text_of p)) same_back;
@@ -263,8 +261,8 @@ module _ (place one two : TwoWay (List ℕ)) (second : Option (Bor (List ℕ))) 
   moves_back = record { same = record { content = ap bytes same_back; is_sized = refl }; meets = omega (arith, back_fits) }
 
 -- ---- the first chunk that is shown
-piece_of_none : (shown : List ℕ) → shown ≡ [] → rope.piece_of (chars shown) ≡ []
-piece_of_none shown none = ap rope.piece_of (no_chars_of shown none)
+piece_of_none : (shown : List ℕ) → shown ≡ [] → rope.lone_piece (chars shown) ≡ []
+piece_of_none shown none = ap rope.lone_piece (no_chars_of shown none)
 
 shows_none : (place new : TwoWay (List ℕ)) (shown : List ℕ) (offset len : ℕ) → MayShowNext place offset len → place.ahead ≡ [] → new ≡ place → shown ≡ [] → IsShowing new shown offset len
 shows_none place new shown offset len m ahead same none = subst (λ p. IsShowing p shown offset len) (sym same) (record {
@@ -286,7 +284,7 @@ shows_some place new shown offset len m ahead behind utf8 =
       earlier = place.behind;
       stands = behind ∙ ap (λ p. p ++ place.behind) (sym (piece_by_itself (chars shown) filled));
       some = λ none. absurd (filled none);
-      filled = subst AreFilled (sym same) m.filled;
+      filled = subst HaveCharacters (sym same) m.filled;
       utf8 = utf8;
       offset_is = m.offset_is;
       len_is = m.len_is ∙ ap (λ p. byte_len (text_of p)) (sym same);
@@ -306,7 +304,7 @@ same_content place new None gives = ap (λ p. bytes (all_chunks p)) gives.0.1
 same_content place new (Some item) gives = ap bytes (all_the_same place new (chars item.now) gives.0.0 gives.0.1)
 
 -- ---- the place before a chunk of a text
-pub filled_pieces : (pieces : List (List ℕ)) → IsCutting pieces → AreFilled pieces
+pub filled_pieces : (pieces : List (List ℕ)) → IsCutting pieces → HaveCharacters pieces
 filled_pieces (p ∷ []) cut [] back chunk parts none =
     let first : p ≡ chunk = cc parts in
     let empty : encode_utf8_all p ≡ [] = ap encode_utf8_all (first ∙ none) in
@@ -324,7 +322,7 @@ filled_pieces (p ∷ []) cut (f ∷ front) back chunk parts none = let rest : []
     nowhere (f ∷ front) back chunk e = absurd (cc e)
 filled_pieces (p ∷ q ∷ ps) cut (f ∷ front) back chunk parts none = let rest : q ∷ ps ≡ front ++ chunk ∷ back = cc parts in filled_pieces (q ∷ ps) cut.2 front back chunk rest none
 
-pub no_pieces : (pieces : List (List ℕ)) → AreFilled pieces → length (bytes pieces) ≡ 0 → pieces ≡ []
+pub no_pieces : (pieces : List (List ℕ)) → HaveCharacters pieces → length (bytes pieces) ≡ 0 → pieces ≡ []
 no_pieces [] filled e = refl
 no_pieces (p ∷ ps) filled e =
     let parts : bytes (p ∷ ps) ≡ encode_utf8_all p ++ bytes ps = encodes-append p (text_of ps) in

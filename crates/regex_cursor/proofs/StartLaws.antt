@@ -9,10 +9,10 @@ use Rattle.rx_input.specs.Cursors.{IsSameContent}
 use Rattle.rx_input.specs.Inputs.{Asked, InputState, HasSpan}
 use Rattle.rx_walks.specs.Finds.{Search, unanchored, from_place_on}
 use Rattle.rx_steps.specs.Searching.{anchoring_of, search_of}
-use Rattle.rx_program.specs.Programs.{ByteProgram, characters_of}
+use Rattle.rx_program.specs.Programs.{ByteProgram, character_program}
 use Rattle.rx_chunk.specs.Engines.{Finds}
 use Rattle.rx_literals.specs.Needles.{AreNeedles, FoundAt, FoundBetween, nowhere, at_least_place}
-use Rattle.rx_literals.specs.Beginnings.{BeginsWith, FirstNeedle, MatchesComeBehind, NoNeedleNoMatch}
+use Rattle.rx_literals.specs.Beginnings.{MatchesBeginWith, FirstNeedle, MatchesComeBehind, NoNeedleNoMatch}
 use Rattle.rx_literals.proofs.NeedleLaws.{found_start}
 use Rattle.regex_cursor.specs.Strategies.{BeginsFrom}
 
@@ -26,16 +26,16 @@ inside (nowhere none) e = absurd (cc e)
 inside {bytes} {needles} (at_least_place i low high here before) e =
     let start = found_start (subst (λ o. FoundAt bytes i needles o) e here) in (omega (arith, low, start), omega (arith, high, start))
 
-module _ (p : ByteProgram) (needles : List (List ℕ)) (s : Search) (begins : BeginsWith needles (characters_of p)) (free : s.anchoring ≡ unanchored) where
+module _ (p : ByteProgram) (needles : List (List ℕ)) (s : Search) (begins : MatchesBeginWith needles (character_program p)) (free : s.anchoring ≡ unanchored) where
   pub begins_from : (span : Span) → MatchesComeBehind → FirstNeedle needles s (Some span) → BeginsFrom p s span.start
   begins_from span law first = record {
     behind = (inside first refl).0;
     before = (inside first refl).1;
-    finds = λ out finds. law needles (characters_of p) is_word_char s span out begins free first finds;
+    finds = λ out finds. law needles (character_program p) is_word_char s span out begins free first finds;
   }
 
   pub begins_nowhere : AreNeedles needles → NoNeedleNoMatch → FirstNeedle needles s None → Finds p s None
-  begins_nowhere are law first = law needles (characters_of p) is_word_char s are begins free first
+  begins_nowhere are law first = law needles (character_program p) is_word_char s are begins free first
 
 abbrev search_by : Bool → List ℕ → Asked → Search
 search_by utf8_empty content asked = record {

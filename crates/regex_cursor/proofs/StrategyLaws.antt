@@ -7,7 +7,7 @@ use Rattle.rx_sets.specs.Sets.{Range}
 use Rattle.rx_utf8.specs.Automata.{is_in}
 use Rattle.rx_util.specs.declared.search.Span.{Span}
 use Rattle.rx_util.specs.Captured.{Captured, nothing_noted}
-use Rattle.rx_util.specs.Groups.{Groups}
+use Rattle.rx_util.specs.Groups.{GroupNames}
 use Rattle.rx_util.specs.Search.{Found}
 use Rattle.rx_input.specs.Cursors.{IsSameContent}
 use Rattle.rx_input.specs.Inputs.{Asked, InputState, IsSpan}
@@ -19,7 +19,7 @@ use Rattle.rx_walks.specs.Machines.{Outcome}
 use Rattle.rx_walks.specs.Iterating.{Finding, nothing}
 use Rattle.rx_util.specs.declared.search.MatchKind.TheVariants.{LeftmostFirst}
 use Rattle.rx_walks.specs.Laws.{FindsAtMostOne, FindsExist, FindsLieInside, FindsStayInCutSpans}
-use Rattle.rx_program.specs.Programs.{ByteProgram, characters_of}
+use Rattle.rx_program.specs.Programs.{ByteProgram, character_program}
 use Rattle.rx_steps.specs.Threads.{Slots}
 use Rattle.rx_steps.specs.Searching.{anchoring_of, answer_slots, search_of, slots_from}
 use Rattle.rx_literals.specs.Literals.{FindsLiteral, literal_match, within}
@@ -174,20 +174,20 @@ module _ (e : Engine) (first : IsFirst e) (s : Search) where
 
   -- ---- a literal
 
-  pub literal_found : (span : Span) → FindsLiteral (characters_of e.program) is_word_char s span → EngineFinds e s (Some (literal_match span))
+  pub literal_found : (span : Span) → FindsLiteral (character_program e.program) is_word_char s span → EngineFinds e s (Some (literal_match span))
   literal_found span literal = by_engine e first (λ finding. finding s (Some (literal_match span))) literal.finds
 
-  pub literal_there : (span : Span) → FindsLiteral (characters_of e.program) is_word_char s span → TellsWhether (EngineFinds e) s true
+  pub literal_there : (span : Span) → FindsLiteral (character_program e.program) is_word_char s span → TellsWhether (EngineFinds e) s true
   literal_there span literal = (Some (literal_match span), literal_found span literal, (λ told. told, λ told. told))
 
-  pub literal_told : (earliest : Bool) (span : Span) (found : Found) → found.pattern ≡ 0 → found.span ≡ span → FindsLiteral (characters_of e.program) is_word_char s span → TellsMatch earliest (EngineFinds e) s (Some found)
+  pub literal_told : (earliest : Bool) (span : Span) (found : Found) → found.pattern ≡ 0 → found.span ≡ span → FindsLiteral (character_program e.program) is_word_char s span → TellsMatch earliest (EngineFinds e) s (Some found)
   literal_told earliest span found pattern at literal = record {
     whether = literal_there span literal;
     exact = λ any. (Some (literal_match span), literal_found span literal, ap₂ (λ k (x : Span). Some (record { pattern = k; span = x })) pattern at);
   }
 
 -- and captures in which nothing is noted tell no match
-pub nothing_whole : (e : Engine) → IsFirst e → (i : InputState) (caps : Captured) (groups : Groups) (n : ℕ) → Finds e.program (search_of e.utf8_empty i) None → caps ≡ nothing_noted groups n → TellsWhole e i caps
+pub nothing_whole : (e : Engine) → IsFirst e → (i : InputState) (caps : Captured) (groups : GroupNames) (n : ℕ) → Finds e.program (search_of e.utf8_empty i) None → caps ≡ nothing_noted groups n → TellsWhole e i caps
 nothing_whole e first i caps groups n finds is =
     subst (λ (x : Captured). TellsWhole e i x) (sym is) (record {
       match = no_match_told e first (search_of e.utf8_empty i) i.asked.earliest finds;
@@ -199,7 +199,7 @@ pub slots_length : (first n : ℕ) (notes : Notes) → length (slots_from first 
 slots_length first zero notes = refl
 slots_length first (suc n) notes = ap suc (slots_length (suc first) n notes)
 
-pub literal_slots_told : (e : Engine) → IsFirst e → (s : Search) (earliest : Bool) (span : Span) (slots : Slots) (n : ℕ) → slots ≡ answer_slots n (Some (literal_match span)) → FindsLiteral (characters_of e.program) is_word_char s span
+pub literal_slots_told : (e : Engine) → IsFirst e → (s : Search) (earliest : Bool) (span : Span) (slots : Slots) (n : ℕ) → slots ≡ answer_slots n (Some (literal_match span)) → FindsLiteral (character_program e.program) is_word_char s span
     → TellsSlots earliest (EngineFinds e) s (Some 0) slots
 literal_slots_told e first s earliest span slots n is literal =
     let len : length slots ≡ n = ap (λ xs. length xs) is ∙ slots_length 0 n (literal_match span).notes in
@@ -210,18 +210,18 @@ literal_slots_told e first s earliest span slots n is literal =
     }
 
 -- its places fit slots
-pub literal_fits : (p : ByteProgram) (utf8_empty : Bool) (i : InputState) (span : Span) → InsideLaw → length i.cursor.content < 2 ^ 63 → FindsLiteral (characters_of p) is_word_char (search_of utf8_empty i) span
+pub literal_fits : (p : ByteProgram) (utf8_empty : Bool) (i : InputState) (span : Span) → InsideLaw → length i.cursor.content < 2 ^ 63 → FindsLiteral (character_program p) is_word_char (search_of utf8_empty i) span
     → (span.start < 2 ^ 63) × (span.end < 2 ^ 63)
 literal_fits p utf8_empty i span inside bound literal =
-    let at = (inside is_in is_word_char (characters_of p) (search_of utf8_empty i) (literal_match span) literal.finds).found.inside in
+    let at = (inside is_in is_word_char (character_program p) (search_of utf8_empty i) (literal_match span) literal.finds).found.inside in
     let end : span.end ≤ length i.cursor.content = at.4 in
     (omega (arith, end, bound, literal.some), omega (arith, end, bound))
 
 -- and it ends in the span
-pub literal_inside : (p : ByteProgram) (utf8_empty : Bool) (i : InputState) (span : Span) (end : ℕ) → end ≡ span.end → InsideLaw → length i.cursor.content < 2 ^ 63 → FindsLiteral (characters_of p) is_word_char (search_of utf8_empty i) span
+pub literal_inside : (p : ByteProgram) (utf8_empty : Bool) (i : InputState) (span : Span) (end : ℕ) → end ≡ span.end → InsideLaw → length i.cursor.content < 2 ^ 63 → FindsLiteral (character_program p) is_word_char (search_of utf8_empty i) span
     → EndsInside i end
 literal_inside p utf8_empty i span end is inside bound literal =
-    let lies = inside is_in is_word_char (characters_of p) (search_of utf8_empty i) (literal_match span) literal.finds in
+    let lies = inside is_in is_word_char (character_program p) (search_of utf8_empty i) (literal_match span) literal.finds in
     let fits = literal_fits p utf8_empty i span inside bound literal in
     record {
       behind_start = omega (arith, is, lies.found.possible.0.2, literal.some);

@@ -6,7 +6,7 @@ use Rattle.rx_util.specs.declared.search.MatchKind.TheVariants.{LeftmostFirst}
 use Rattle.rx_util.specs.declared.captures.WhichCaptures.{WhichCaptures}
 use Rattle.rx_util.specs.declared.captures.WhichCaptures.TheVariants as which
 use Rattle.rx_grammar.specs.Settings.{Settings, default_settings}
-use Rattle.rx_engine.specs.Engines.{EngineSettings, Wanted, nothing_set}
+use Rattle.rx_engine.specs.Engines.{EngineSettings, Wanted}
 
 -- settings that were set; the others are the defaults
 pub record RegexSettings : Type 0 where

@@ -34,15 +34,15 @@ abbrev pub input_of : {C : Type 0} → FindMatches C → InputState
 input_of m = m.input
 
 -- it goes on in the same content, from some place on
-abbrev pub GoesOn : Search → Search → Type 0
-GoesOn s t = (start : ℕ) × (t ≡ from_place_on s start)
+abbrev pub SearchGoesOn : Search → Search → Type 0
+SearchGoesOn s t = (start : ℕ) × (t ≡ from_place_on s start)
 
 -- a step of the iterator, which searches for the same regex on
 pub record Gives {C : Type 0} (m : FindMatches C)
     (item : Option (Result Found MatchError)) (n : FindMatches C) : Type 0 where
   pub next : GivesNext (EngineFinds (regex_of m).engine) match_of (left_of m) item (left_of n)
   pub same_regex : regex_of n ≡ regex_of m
-  pub goes_on : GoesOn (left_of m).search (left_of n).search
+  pub goes_on : SearchGoesOn (left_of m).search (left_of n).search
 
 -- What an iterator of such steps gives: before a refusal and before it is drained the first matches
 -- that the regex has in the search, drained all of them, and nothing after a refusal.

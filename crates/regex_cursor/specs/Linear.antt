@@ -7,11 +7,11 @@ use Rattle.rx_util.specs.Search.{HalfFound}
 use Rattle.rx_input.specs.Inputs.{InputState}
 use Rattle.rx_walks.specs.Machines.{Outcome}
 use Rattle.rx_walks.specs.Programs.{Notes}
-use Rattle.rx_walks.specs.Finds.{Search, from_place_on}
+use Rattle.rx_walks.specs.Finds.{Search}
 use Rattle.rx_walks.specs.Iterating.{Finding}
 use Rattle.rx_walks.specs.Matches.{Further}
-use Rattle.rx_walks.specs.ProgramFinds.{highest, lowest, start_of, end_of}
-use Rattle.rx_program.specs.Programs.{characters_of}
+use Rattle.rx_walks.specs.ProgramFinds.{finds_on, highest, lowest, end_of}
+use Rattle.rx_program.specs.Programs.{character_program}
 use Rattle.rx_steps.specs.Searching.{answer_slots, search_of}
 use Rattle.rx_lists.specs.Lists.{Listed, listed_of}
 use Rattle.rx_chunk.specs.Engines.{Engine, EngineFinds}
@@ -19,7 +19,7 @@ use Rattle.rx_chunk.specs.Iterating.{ComesNext, MatchesLeft, left_behind}
 use Rattle.regex_cursor.specs.Regexes.{search_by}
 
 -- matches that were listed: for which engine, in how many slots each, and what was listed of them
-pub record Rest : Type 0 where
+pub record FurtherMatches : Type 0 where
   pub engine : Engine
   pub slot_len : ℕ
   pub found : List Listed
@@ -33,7 +33,7 @@ pub record LinearState : Type 0 where
   pub is_over : Bool
   pub first : ℕ
   pub finds_read : ℕ
-  pub rest : Option Rest
+  pub rest : Option FurtherMatches
 
 -- none of the matches in an input has come yet
 abbrev pub linear_from : InputState → LinearState
@@ -53,7 +53,8 @@ left_of e m = record { search = search_by e m.input; last_end = m.last_end; is_o
 -- ---- what comes next
 
 -- this comes next in a search, told by its pattern and its end, and in slots by its places
-pub record TellsNext (finding : Finding) (s : Search) (last : Option ℕ) (half : Option HalfFound)
+pub record TellsWhatComes (finding : Finding) (s : Search) (last : Option ℕ)
+    (half : Option HalfFound)
     (slots : List (Option ℕ)) : Type 0 where
   pub out : Option (Outcome Notes)
   pub comes : ComesNext finding s last out
@@ -80,7 +81,7 @@ pub record GivesSlots (finding : Finding) (m : MatchesLeft) (pattern : Option �
 -- many slots
 pub record AreBehind (e : Engine) (s : Search) (end len : ℕ) (found : List Listed) : Type 0 where
   pub matches : List (Outcome Notes)
-  pub further : Further (λ i out. EngineFinds e (from_place_on s i) out) start_of end_of end matches
+  pub further : Further (finds_on (EngineFinds e) s) end matches
   pub found_are : found ≡ map (listed_of len) matches
 
 -- how many of those that were listed from a place on lie behind a match that ended there: all, but
@@ -90,7 +91,7 @@ passed_over end [] = 0
 passed_over end (l ∷ others) = cond (l.end == end) 1 0
 
 -- the further matches were listed, of an engine that finds the leftmost one
-pub record IsRestOf (m : LinearState) (r : Rest) : Type 0 where
+pub record IsRestOf (m : LinearState) (r : FurtherMatches) : Type 0 where
   pub leftmost : r.engine.match_kind ≡ LeftmostFirst
   pub end : ℕ
   pub last_is : m.last_end ≡ Some end
@@ -99,7 +100,7 @@ pub record IsRestOf (m : LinearState) (r : Rest) : Type 0 where
 
 -- engines that find the same in each search
 pub record FindAlike (e f : Engine) : Type 0 where
-  pub characters : characters_of e.program ≡ characters_of f.program
+  pub characters : character_program e.program ≡ character_program f.program
   pub utf8_empty : e.utf8_empty ≡ f.utf8_empty
   pub kind : e.match_kind ≡ f.match_kind
 

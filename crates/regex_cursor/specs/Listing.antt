@@ -3,7 +3,7 @@ use Rattle.std.specs.Prelude.{◌≡◌, ◌≤◌, List, map, Option, Some, opt
 use Rattle.rx_util.specs.declared.search.MatchKind.TheVariants.{LeftmostFirst}
 use Rattle.rx_util.specs.Search.{Found}
 use Rattle.rx_util.specs.Captured.{Captured}
-use Rattle.rx_util.specs.Groups.{Groups}
+use Rattle.rx_util.specs.Groups.{GroupNames}
 use Rattle.rx_walks.specs.Machines.{Outcome}
 use Rattle.rx_walks.specs.Programs.{Notes}
 use Rattle.rx_walks.specs.Finds.{Search}
@@ -36,5 +36,5 @@ pub record IsWhole (l : Listed) : Type 0 where
   pub ordered : match.span.start ≤ match.span.end
 
 -- what is noted of it in captures
-abbrev pub captures_listed : Groups → Listed → Captured
+abbrev pub captures_listed : GroupNames → Listed → Captured
 captures_listed groups l = record { groups = groups; pattern = Some l.pattern; slots = l.slots }

@@ -1,7 +1,7 @@
 -- The literals that a program's matches begin with, or are.
 use Rattle.std.specs.Prelude.{None, IfSome}
-use Rattle.rx_program.specs.Programs.{ByteProgram, characters_of}
-use Rattle.rx_literals.specs.Beginnings.{BeginsWith}
+use Rattle.rx_program.specs.Programs.{ByteProgram, character_program}
+use Rattle.rx_literals.specs.Beginnings.{MatchesBeginWith}
 use Rattle.rx_literals.specs.Literals.{IsLiteralOf}
 use Rattle.regex_cursor.specs.declared.engines.meta.literals.Literals.{Literals}
 
@@ -11,5 +11,6 @@ no_literals = record { beginnings = None; whole = None }
 
 -- what is known of the literals of a program is so: each match begins with one, or is one
 pub record AreLiteralsOf (p : ByteProgram) (literals : Literals) : Type 0 where
-  pub beginnings : IfSome literals.beginnings (λ needles. BeginsWith needles (characters_of p))
-  pub whole : IfSome literals.whole (λ needles. IsLiteralOf needles (characters_of p))
+  pub beginnings : IfSome literals.beginnings
+      (λ needles. MatchesBeginWith needles (character_program p))
+  pub whole : IfSome literals.whole (λ needles. IsLiteralOf needles (character_program p))

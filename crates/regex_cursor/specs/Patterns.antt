@@ -17,8 +17,8 @@ use Rattle.rx_walks.specs.Programs.{Notes, Program}
 pub use Rattle.rx_walks.specs.Programs.{slot_of}
 pub use Rattle.rx_steps.specs.Searching.{answer_slots}
 pub use Rattle.rx_walks.specs.Finds.{Search, unanchored}
-pub use Rattle.rx_walks.specs.Matches.{Next, no_more, at_once, moved, BehindLast, ComesNext, FirstMatches}
-pub use Rattle.rx_walks.specs.ProgramFinds.{ProgramFinds, ProgramMatches, ProgramFirstMatches, ProgramComesNext, start_of, end_of}
+pub use Rattle.rx_walks.specs.Matches.{RepeatedFinds, Next, no_more, at_once, moved, BehindLast, ComesNext, FirstMatches}
+pub use Rattle.rx_walks.specs.ProgramFinds.{ProgramFinds, ProgramMatches, ProgramFirstMatches, ProgramComesNext, finds_on, start_of, end_of}
 pub use Rattle.rx_chunk.specs.Engines.{match_of}
 pub use Rattle.rx_util.specs.Search.{Found}
 

@@ -6,7 +6,7 @@ pub use Rattle.str_indices.specs.Text.{byte_len}
 pub use Rattle.ropey_walk.specs.Chunks.{text_of}
 pub use Rattle.ropey_walk.specs.Comparing.{slice_bytes}
 pub use Rattle.ropey_walk.specs.Slices.{slice_text}
-use Rattle.ropey_walk.specs.Chunks.{piece_of}
+use Rattle.ropey_walk.specs.Chunks.{lone_piece}
 use Rattle.ropey_walk.specs.TwoWay.{TwoWay}
 use Rattle.rx_input.specs.Cursors.{CursorState}
 
@@ -24,8 +24,9 @@ showing chunks offset shown = record {
 }
 
 -- each of the chunks has characters
-abbrev pub AreFilled : List (List ℕ) → Type 0
-AreFilled chunks = (front back : List (List ℕ)) (chunk : List ℕ) → chunks ≡ front ++ chunk ∷ back
+abbrev pub HaveCharacters : List (List ℕ) → Type 0
+HaveCharacters chunks = (front back : List (List ℕ)) (chunk : List ℕ)
+    → chunks ≡ front ++ chunk ∷ back
     → chunk ≡ [] → ⊥
 
 -- The iterator stands behind the chunk that is shown, which starts at that byte. Only where there
@@ -33,9 +34,9 @@ AreFilled chunks = (front back : List (List ℕ)) (chunk : List ℕ) → chunks 
 pub record IsShowing (place : TwoWay (List ℕ)) (shown : List ℕ) (offset len : ℕ) : Type 0 where
   -- the chunks before it, the nearest first
   pub earlier : List (List ℕ)
-  pub stands : place.behind ≡ piece_of (chars shown) ++ earlier
+  pub stands : place.behind ≡ lone_piece (chars shown) ++ earlier
   pub some : chars shown ≡ [] → (earlier ≡ []) × (place.ahead ≡ [])
-  pub filled : AreFilled (all_chunks place)
+  pub filled : HaveCharacters (all_chunks place)
   pub utf8 : IsUtf8 shown
   pub offset_is : offset ≡ byte_len (text_of (reverse earlier))
   pub len_is : len ≡ byte_len (text_of (all_chunks place))
@@ -70,7 +71,7 @@ pub record StandsBy (is_before : Bool) (place : TwoWay (List ℕ)) (shown : List
 -- The iterator stands at that byte, before a chunk that can be shown, or there is no chunk.
 pub record MayShowNext (place : TwoWay (List ℕ)) (offset len : ℕ) : Type 0 where
   pub some : place.ahead ≡ [] → place.behind ≡ []
-  pub filled : AreFilled (all_chunks place)
+  pub filled : HaveCharacters (all_chunks place)
   pub offset_is : offset ≡ byte_len (text_of (reverse place.behind))
   pub len_is : len ≡ byte_len (text_of (all_chunks place))
   pub bound : len < 2 ^ 63

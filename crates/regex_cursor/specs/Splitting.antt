@@ -32,12 +32,12 @@ parts_of m = record { matches = m; last = 0; is_over = false }
 abbrev pub end_of_search : Search → ℕ
 end_of_search s = min s.end (length s.content)
 
-abbrev pub between : ℕ → ℕ → Span
-between start end = record { start = start; end = end }
+abbrev pub span_from_to : ℕ → ℕ → Span
+span_from_to start end = record { start = start; end = end }
 
 -- the last part, from one place to another; there is none where it would end before it starts
 pub data EndsWith (start end : ℕ) : Option Span → Type 0 where
-  part : start ≤ end → EndsWith start end (Some (between start end))
+  part : start ≤ end → EndsWith start end (Some (span_from_to start end))
   none : end < start → EndsWith start end None
 
 -- a step of the iterator: up to each match a part, and behind the last match the last part; a
@@ -48,7 +48,7 @@ pub data SplitsOff (finding : Finding) (m n : PartsLeft) : Option (Result Span M
     at_match : {a : Found} → m.is_over ≡ false
         → GivesNext finding match_of m.matches (Some (Ok a)) n.matches
         → n.last ≡ a.span.end → n.is_over ≡ false
-        → SplitsOff finding m n (Some (Ok (between m.last a.span.start)))
+        → SplitsOff finding m n (Some (Ok (span_from_to m.last a.span.start)))
     at_end : {part : Span} → m.is_over ≡ false
         → GivesNext {A = Found} finding match_of m.matches None n.matches
         → EndsWith m.last (end_of_search m.matches.search) (Some part) → n.is_over ≡ true
@@ -90,13 +90,13 @@ pub record Gives {C : Type 0} (m : Split C)
 
 -- the last part, where there is one
 abbrev pub last_part : ℕ → ℕ → List Span
-last_part start end = if nat_lt end start then [] else between start end ∷ []
+last_part start end = if nat_lt end start then [] else span_from_to start end ∷ []
 
 -- the gaps between these matches, from a place on: up to the start of each, and from the end of the
 -- last one to the end of all
 abbrev pub gaps : ℕ → ℕ → List FoundMatch → List Span
 gaps start end [] = last_part start end
-gaps start end (t ∷ others) = between start (start_of t) ∷ gaps (end_of t) end others
+gaps start end (t ∷ others) = span_from_to start (start_of t) ∷ gaps (end_of t) end others
 
 -- What the iterator gives of a search: the gaps between all matches that the regex has there, from 0
 -- on; before a refusal and before it is drained the first of them, and nothing after a refusal.

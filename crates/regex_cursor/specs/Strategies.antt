@@ -12,7 +12,7 @@ use Rattle.rx_dfa.specs.DenseTables.{IsClosedOf}
 use Rattle.rx_dfa.specs.Directions.{forward}
 use Rattle.rx_dfa.specs.Alphabets.{AlphabetView, IsAlphabetOf}
 use Rattle.rx_dfa.specs.Searching.{IsHalfAnswer}
-use Rattle.rx_program.specs.Programs.{ByteProgram, characters_of}
+use Rattle.rx_program.specs.Programs.{ByteProgram, character_program}
 use Rattle.rx_literals.specs.Endings.{EndsWithSlice}
 use Rattle.rx_literals.specs.Literals.{FindsLiteral, within}
 use Rattle.rx_engine.specs.Engines.{Engine}
@@ -53,7 +53,7 @@ pub record AreEngines (e : Engines) : Type 0 where
   pub utf8_empty : e.dfa.utf8_empty ≡ e.vm.utf8_empty
   pub closed : IfSome e.closed (IsClosedOf (forward e.vm.program) e.dfa)
   pub literals : AreLiteralsOf e.vm.program e.literals
-  pub ends_last : IsTrue e.ends_last → EndsWithSlice (characters_of e.vm.program)
+  pub ends_last : IsTrue e.ends_last → EndsWithSlice (character_program e.vm.program)
   pub no_dfa : dfa_of e.settings ≡ false → e.closed ≡ None
   pub no_prefilter : WantsNoLiterals e.settings → e.literals ≡ no_literals
 
@@ -91,7 +91,7 @@ pub record IsPart (p : ByteProgram) (s : Search) (part : Part) : Type 0 where
 -- what is left of a search for the PikeVM
 abbrev pub IsLeft : ByteProgram → Search → Left → Type 0
 IsLeft p s left.Nothing = Finds p s None
-IsLeft p s (left.Match span) = FindsLiteral (characters_of p) is_word_char s span
+IsLeft p s (left.Match span) = FindsLiteral (character_program p) is_word_char s span
 IsLeft p s (left.Found found) = IsFound (Finds p) s (Some found)
 IsLeft p s (left.In part) = IsPart p s part
 
@@ -121,7 +121,7 @@ pub record BeginsFrom (p : ByteProgram) (s : Search) (place : ℕ) : Type 0 wher
 -- what a literal tells of a search
 abbrev pub IsStart : ByteProgram → Search → Start → Type 0
 IsStart p s start.Nowhere = Finds p s None
-IsStart p s (start.At span) = FindsLiteral (characters_of p) is_word_char s span
+IsStart p s (start.At span) = FindsLiteral (character_program p) is_word_char s span
 IsStart p s (start.From place) = BeginsFrom p s place
 
 -- the same is asked, but of a span that may start elsewhere

@@ -1,37 +1,25 @@
 -- What a step below answers, as an answer of an engine.
 use Rattle.std.proofs.Common.{◌≡◌, ℕ, zero, suc, ◌≤◌, Bool, true, false, length, Option, Some, None, refl, sym, ap, subst, ◌∙◌, arith}
 use Rattle.unicode.specs.Perl.{is_word_char}
-use Rattle.rx_util.specs.declared.search.MatchKind.TheVariants.{LeftmostFirst, All}
+use Rattle.rx_util.specs.declared.search.MatchKind.TheVariants.{All}
 use Rattle.rx_util.specs.Search.{Found}
 use Rattle.rx_utf8.specs.Automata.{is_in}
 use Rattle.rx_walks.specs.Programs.{Notes}
 use Rattle.rx_walks.specs.Finds.{Search, up_to_place}
 use Rattle.rx_walks.specs.Iterating.{Finding}
 use Rattle.rx_walks.proofs.InsideLaws.{finds_all_lie_inside}
-use Rattle.rx_program.specs.Programs.{ByteProgram, characters_of}
+use Rattle.rx_program.specs.Programs.{ByteProgram, character_program}
 use Rattle.rx_steps.specs.Threads.{Slots, no_slots}
 use Rattle.rx_steps.specs.Searching as steps
 use Rattle.rx_steps.specs.Searching.{IsFirstEnd, answer_slots, slots_from}
 use Rattle.rx_steps.specs.SearchingAll.{IsAnswerAll, IsAnswerAllAt, pattern_match}
-use Rattle.rx_steps.specs.Standing.{StopsAt}
-use Rattle.rx_chunk.specs.Engines.{Engine, EngineFinds, Finds, FindsAmongAll, IsAnswer, IsAnswerAt, StopsAs, noted_whole}
-use Rattle.rx_chunk.proofs.KindLaws.{finds_all, finds_first}
+use Rattle.rx_chunk.specs.Engines.{Engine, EngineFinds, Finds, IsAnswer, IsAnswerAt, StopsAs, noted_whole}
+use Rattle.rx_chunk.proofs.KindLaws.{finds_all}
 
 -- ---- of a search for the leftmost match
 
 pub as_answer : {p : ByteProgram} {s : Search} {pattern : Option ℕ} {slots : Slots} → steps.IsAnswer p s pattern slots → IsAnswer (Finds p) s pattern slots
 as_answer answer = record { found = answer.found; finds = answer.finds; pattern_is = answer.pattern_is; slots_are = answer.slots_are }
-
-of_engine : (e : Engine) (s : Search) (pattern : Option ℕ) (slots : Slots) → e.match_kind ≡ LeftmostFirst → steps.IsAnswer e.program s pattern slots → IsAnswer (EngineFinds e) s pattern slots
-of_engine e s pattern slots first answer = subst (λ (finding : Finding). IsAnswer finding s pattern slots) (finds_first e first) (as_answer answer)
-
-pub first_answer : (earliest : Bool) (e : Engine) (s : Search) (i : ℕ) (pattern : Option ℕ) (slots : Slots) → e.match_kind ≡ LeftmostFirst → steps.IsAnswerAt earliest e.program s i pattern slots → IsAnswerAt earliest e s i pattern slots
-first_answer false e s i pattern slots first is = of_engine e s pattern slots first is
-first_answer true e s i None slots first is = of_engine e s None slots first is
-first_answer true e s i (Some k) slots first is = (is.0, of_engine e (up_to_place s i) (Some k) slots first is.1)
-
-pub first_stops : (earliest : Bool) (e : Engine) (s : Search) (i : ℕ) → e.match_kind ≡ LeftmostFirst → StopsAt earliest e.program s i → StopsAs e.match_kind earliest e.program s i
-first_stops earliest e s i first stops = subst (λ kind. StopsAs kind earliest e.program s i) (sym first) stops
 
 -- ---- of a search for all matches
 
@@ -68,11 +56,11 @@ module _ (e : Engine) (s : Search) (i : ℕ) (m : Found) (all : e.match_kind ≡
 
   fits_at : (earliest : Bool) → IsAnswerAllAt earliest e.program s i (Some m) → (m.span.start ≤ length s.content) × (m.span.end ≤ length s.content)
   fits_at false answer =
-      let at = finds_all_lie_inside is_in is_word_char (characters_of e.program) s (pattern_match m) answer in
+      let at = finds_all_lie_inside is_in is_word_char (character_program e.program) s (pattern_match m) answer in
       let end : m.span.end ≤ length s.content = at.inside.4 in
       (omega (arith, at.ordered, end), end)
   fits_at true answer =
-      let at = finds_all_lie_inside is_in is_word_char (characters_of e.program) (up_to_place s i) (pattern_match m) answer.2 in
+      let at = finds_all_lie_inside is_in is_word_char (character_program e.program) (up_to_place s i) (pattern_match m) answer.2 in
       let end : m.span.end ≤ length s.content = at.inside.4 in
       (omega (arith, at.ordered, end), end)
 

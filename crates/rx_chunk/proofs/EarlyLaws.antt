@@ -1,5 +1,5 @@
 -- What a search tells that may stop at the first end of a match.
-use Rattle.std.proofs.Common.{◌≡◌, ℕ, ◌*◌, ◌≤◌, Bool, true, false, List, length, Option, Some, None, is_some, option_map, refl, sym, ap, subst, ◌∙◌, arith}
+use Rattle.std.proofs.Common.{◌≡◌, ℕ, ◌*◌, ◌≤◌, Bool, true, false, length, Option, Some, None, is_some, option_map, refl, sym, ap, subst, ◌∙◌, arith}
 use Rattle.std.specs.Option.{ForSome}
 use Rattle.std.proofs.lemmas.Option.{none-some}
 use Rattle.unicode.specs.Perl.{is_word_char}
@@ -12,7 +12,7 @@ use Rattle.rx_walks.specs.Programs.{Notes}
 use Rattle.rx_walks.specs.Finds.{Search, up_to_place}
 use Rattle.rx_walks.specs.Iterating.{Finding}
 use Rattle.rx_walks.proofs.CutLaws.{cut_spans_tell}
-use Rattle.rx_program.specs.Programs.{ByteProgram, characters_of}
+use Rattle.rx_program.specs.Programs.{ByteProgram, character_program}
 use Rattle.rx_steps.specs.Threads.{Slots}
 use Rattle.rx_steps.specs.Searching.{IsFirstEnd}
 use Rattle.rx_steps.specs.Searching as steps
@@ -36,7 +36,7 @@ whether_found finding s found (out, finds, is) =
 -- there is a match where one is found in a part
 whether_in_part : (e : Engine) (s : Search) (i : ℕ) (t : Outcome Notes) (is_there : Bool) → i ≤ s.end → Finds e.program (up_to_place s i) (Some t) → is_there ≡ true → TellsWhether (EngineFinds e) s is_there
 whether_in_part e s i t is_there within finds there =
-    let whole = cut_spans_tell is_in is_word_char (characters_of e.program) s i t within finds in
+    let whole = cut_spans_tell is_in is_word_char (character_program e.program) s i t within finds in
     whether_of e s is_there (Some whole.0, whole.1, (λ e. refl, λ e. there))
 
 pub tells_match : (earliest : Bool) (e : Engine) (s : Search) (i : ℕ) (found : Option Found) → IsFoundAt earliest e s i found → TellsMatch earliest (EngineFinds e) s found
@@ -55,7 +55,7 @@ tells_slots true e s i (Some k) slots is = record { whether = whether_in_part e 
 pub whether_first : (p : ByteProgram) (s : Search) (i : ℕ) (pattern : Option ℕ) (slots : Slots) → steps.IsAnswerAt true p s i pattern slots → TellsWhether (Finds p) s (is_some pattern)
 whether_first p s i None slots is = tells_whether false refl (as_answer is)
 whether_first p s i (Some k) slots is =
-    let whole = cut_spans_tell is_in is_word_char (characters_of p) s i is.0.found is.0.in_span is.0.finds in
+    let whole = cut_spans_tell is_in is_word_char (character_program p) s i is.0.found is.0.in_span is.0.finds in
     (Some whole.0, whole.1, (λ e. refl, λ e. refl))
 
 pub first_end : (p : ByteProgram) (s : Search) (i : ℕ) (pattern : Option ℕ) (slots : Slots) → is_some pattern ≡ true → steps.IsAnswerAt true p s i pattern slots → IsFirstEnd p s i

@@ -1,5 +1,5 @@
 -- The match that a search finds, by the places that its walk noted.
-use Rattle.std.proofs.Common.{◌≡◌, ℕ, zero, suc, ◌+◌, ◌*◌, ◌<◌, ◌≤◌, Bool, true, cond, List, [], ◌∷◌, length, Option, Some, None, option_map, unwrap_or, refl, sym, ap, ap₂, subst, ◌∙◌, arith}
+use Rattle.std.proofs.Common.{◌≡◌, ℕ, zero, suc, ◌+◌, ◌*◌, ◌<◌, ◌≤◌, true, cond, [], ◌∷◌, length, Option, Some, None, option_map, unwrap_or, refl, sym, ap, ap₂, subst, ◌∙◌, arith}
 use Rattle.std.specs.Prelude.{◌==◌}
 use Rattle.std.specs.Option.{ForSome, option_and_then}
 use Rattle.std.proofs.lemmas.Bool.{lt-ltb, ne_eqb}
@@ -8,7 +8,7 @@ use Rattle.unicode.specs.Perl.{is_word_char}
 use Rattle.rx_utf8.specs.Automata.{is_in}
 use Rattle.rx_util.specs.declared.search.Span.{Span}
 use Rattle.rx_util.specs.Search.{Found}
-use Rattle.rx_util.specs.Groups.{Groups, group_len}
+use Rattle.rx_util.specs.Groups.{GroupNames, group_len}
 use Rattle.rx_util.specs.Captured.{Captured, place_in, span_between, group_span, match_found}
 use Rattle.rx_walks.specs.Machines.{Outcome}
 use Rattle.rx_walks.specs.Programs.{Notes, fresh_notes, slot_of}
@@ -20,7 +20,7 @@ use Rattle.rx_util.specs.declared.search.MatchKind.TheVariants.{LeftmostFirst, A
 use Rattle.rx_program.specs.Laws.{HasNotedOwn, NotesOwnPlaces}
 use Rattle.rx_program.proofs.SeveralLaws.{programs_note_their_places}
 use Rattle.rx_engine.proofs.CountLaws.{as_many}
-use Rattle.rx_program.specs.Programs.{characters_of}
+use Rattle.rx_program.specs.Programs.{character_program}
 use Rattle.rx_steps.specs.Threads.{Slots}
 use Rattle.rx_steps.specs.Searching.{answer_slots, slots_from}
 use Rattle.rx_chunk.specs.Engines.{Engine, EngineFinds, FindsOfKind, IsAnswer, IsEngine, match_of, IsFound, end_noted, noted_whole, start_noted, whole_span}
@@ -50,14 +50,14 @@ whole_noted a = record {
     same_place k = grind (arith)
 
 module _ (e : Engine) (of_trees : IsEngine e) where
-  all_notes : (s : Search) → NotesOwnPlaces is_word_char (characters_of e.program) s
-  all_notes s = programs_note_their_places of_trees.0 e.program.line_terminator of_trees.1.well_formed is_word_char (characters_of e.program) s of_trees.1.program
+  all_notes : (s : Search) → NotesOwnPlaces is_word_char (character_program e.program) s
+  all_notes s = programs_note_their_places of_trees.0 e.program.line_terminator of_trees.1.well_formed is_word_char (character_program e.program) s of_trees.1.program
 
   -- the best of all matches is of one of the patterns
-  pub best_known : (s : Search) (a : PatternMatch) → ProgramFindsAll is_in is_word_char (characters_of e.program) s (Some a) → a.pattern < length e.program.patterns
-  best_known s a finds = by_start (start_node (characters_of e.program) s.anchoring) refl finds
+  pub best_known : (s : Search) (a : PatternMatch) → ProgramFindsAll is_in is_word_char (character_program e.program) s (Some a) → a.pattern < length e.program.patterns
+  best_known s a finds = by_start (start_node (character_program e.program) s.anchoring) refl finds
     where
-      by_best : (q : ℕ) (out : Option PatternMatch) → out ≡ Some a → start_node (characters_of e.program) s.anchoring ≡ Some q → IsFindAll (machine_of is_in is_word_char (characters_of e.program) s) fresh_notes s q out → a.pattern < length e.program.patterns
+      by_best : (q : ℕ) (out : Option PatternMatch) → out ≡ Some a → start_node (character_program e.program) s.anchoring ≡ Some q → IsFindAll (machine_of is_in is_word_char (character_program e.program) s) fresh_notes s q out → a.pattern < length e.program.patterns
       by_best q None none starts best = absurd (none-some a none)
       by_best q (Some b) same starts (greatest counts best) =
           let r = counts.reaches in
@@ -65,7 +65,7 @@ module _ (e : Engine) (of_trees : IsEngine e) where
           let pattern : b.pattern ≡ a.pattern = ap (λ o. unwrap_or (option_map (λ (x : PatternMatch). x.pattern) o) 0) same in
           omega (arith, known, r.pattern_is, pattern)
 
-      by_start : (o : Option ℕ) → start_node (characters_of e.program) s.anchoring ≡ o → IfStarts o (IsFindAll (machine_of is_in is_word_char (characters_of e.program) s) fresh_notes s) (Some a) → a.pattern < length e.program.patterns
+      by_start : (o : Option ℕ) → start_node (character_program e.program) s.anchoring ≡ o → IfStarts o (IsFindAll (machine_of is_in is_word_char (character_program e.program) s) fresh_notes s) (Some a) → a.pattern < length e.program.patterns
       by_start None starts none = absurd (none-some a (sym none))
       by_start (Some q) starts best = by_best q (Some a) refl starts best
 
@@ -136,26 +136,16 @@ noted_found finding s k slots result noted is =
     is ∙ ap (λ o. option_map (match_with k) o) noted.span ∙ ap (λ j. Some (match_with j (span_of noted.outcome))) (sym noted.pattern) in
     (Some noted.outcome, noted.finds, found)
 
--- between two places that are there
-pub span_there : (slots : Slots) (start end k : ℕ) → Some start ≡ start_noted k slots → Some end ≡ end_noted k slots
-    → whole_span k slots ≡ Some (record { start = start; end = end })
-span_there slots start end k first second = sym (ap₂ (λ i j. span_between i j) first second)
-
-pub match_there : (slots : Slots) (start end k : ℕ) (result : Found) → Some start ≡ start_noted k slots → Some end ≡ end_noted k slots → result.pattern ≡ k → result.span ≡ record { start = start; end = end }
-    → Some result ≡ option_map (match_with k) (whole_span k slots)
-match_there slots start end k result first second pattern span =
-    ap₂ (λ j x. Some (match_with j x)) pattern span ∙ sym (ap (λ o. option_map (match_with k) o) (span_there slots start end k first second))
-
 -- ---- the same in captures
 
 -- there are groups of a pattern that is one of so many
-groups_there : (groups : Groups) (k : ℕ) → k < length groups → 0 < group_len groups k
+groups_there : (groups : GroupNames) (k : ℕ) → k < length groups → 0 < group_len groups k
 groups_there [] k lt = absurd (omega (arith, lt))
 groups_there (names ∷ groups) zero lt = omega arith
 groups_there (names ∷ groups) (suc k) lt = groups_there groups k (omega (arith, lt))
 
 -- group 0 of a pattern
-group_zero : (groups : Groups) (k : ℕ) (slots : Slots) → k < length groups → group_span (record { groups = groups; pattern = Some k; slots = slots }) 0 ≡ whole_span k slots
+group_zero : (groups : GroupNames) (k : ℕ) (slots : Slots) → k < length groups → group_span (record { groups = groups; pattern = Some k; slots = slots }) 0 ≡ whole_span k slots
 group_zero groups k slots known =
     ap (λ b. option_and_then (λ slot. span_between (place_in slots slot) (place_in slots (slot + 1))) (cond b (Some (2 * k)) None)) (lt-ltb 0 (group_len groups k) (groups_there groups k known))
 
@@ -173,10 +163,10 @@ pub record IsCaptured (caps : Captured) (out : Option (Outcome Notes)) : Type 0 
   pub match_is : match_found caps ≡ option_map match_of out
   pub ordered : ForSome (group_span caps 0) (λ (x : Span). x.start ≤ x.end)
 
-abbrev pub captured : Groups → Option ℕ → Slots → Captured
+abbrev pub captured : GroupNames → Option ℕ → Slots → Captured
 captured groups pattern slots = record { groups = groups; pattern = pattern; slots = slots }
 
-pub captured_is : (e : Engine) (groups : Groups) (slots : Slots) (out : Option (Outcome Notes)) → groups ≡ e.groups → 2 * length e.groups ≤ length slots → slots ≡ answer_slots (length slots) out
+pub captured_is : (e : Engine) (groups : GroupNames) (slots : Slots) (out : Option (Outcome Notes)) → groups ≡ e.groups → 2 * length e.groups ≤ length slots → slots ≡ answer_slots (length slots) out
     → ((t : Outcome Notes) → out ≡ Some t → HasNotedOwn (start_of t) t × (t.pattern < length e.groups) × (start_of t ≤ end_of t)) → IsCaptured (captured groups (pattern_in out) slots) out
 captured_is e groups slots None same room slots_are has = record {
   noted = ap (λ xs. captured groups None xs) slots_are;

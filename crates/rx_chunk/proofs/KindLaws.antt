@@ -18,7 +18,7 @@ use Rattle.rx_walks.proofs.ExistLaws.{program_find_exists}
 use Rattle.rx_walks.proofs.InsideLaws.{finds_lie_inside, finds_all_lie_inside}
 use Rattle.rx_walks.proofs.MatchAllLaws.{finds_agree}
 use Rattle.rx_walks.proofs.UniqueLaws.{program_find_unique, program_find_all_unique}
-use Rattle.rx_program.specs.Programs.{ByteProgram, characters_of}
+use Rattle.rx_program.specs.Programs.{ByteProgram, character_program}
 use Rattle.rx_chunk.specs.Engines.{Engine, EngineFinds, Finds, FindsAmongAll, FindsOfKind, TellsWhether, noted_whole}
 
 -- what is found lies inside
@@ -40,10 +40,10 @@ ExistLaw finding = (s : Search) → (out : Option (Outcome Notes)) × finding s 
 
 module _ (p : ByteProgram) where
   abbrev FirstOf : Search → Option (Outcome Notes) → Type 0
-  FirstOf s out = ProgramFinds is_in is_word_char (characters_of p) s out
+  FirstOf s out = ProgramFinds is_in is_word_char (character_program p) s out
 
   abbrev BestOf : Search → Option PatternMatch → Type 0
-  BestOf s found = ProgramFindsAll is_in is_word_char (characters_of p) s found
+  BestOf s found = ProgramFindsAll is_in is_word_char (character_program p) s found
 
   -- the match that is found
   pub record IsBest (s : Search) (t : Outcome Notes) : Type 0 where
@@ -58,69 +58,62 @@ module _ (p : ByteProgram) where
       by None finds is = absurd (cc is)
       by (Some a) finds is = record { best = a; finds = finds; is = same_Some t (noted_whole a) is }
 
-  pub none_of_all : (s : Search) → FindsAmongAll p s None → BestOf s None
-  none_of_all s among = by among.found among.finds among.out_is
-    where
-      by : (found : Option PatternMatch) → BestOf s found → None ≡ option_map noted_whole found → BestOf s None
-      by None finds is = finds
-      by (Some a) finds is = absurd (cc is)
-
   all_inside : InsideLaw (FindsAmongAll p)
   all_inside s t among =
       let best = is_best s t among in
-      subst (λ x. MayBeFound s (start_of x) (end_of x)) (sym best.is) (finds_all_lie_inside is_in is_word_char (characters_of p) s best.best best.finds)
+      subst (λ x. MayBeFound s (start_of x) (end_of x)) (sym best.is) (finds_all_lie_inside is_in is_word_char (character_program p) s best.best best.finds)
 
   all_one : OneLaw (FindsAmongAll p)
   all_one s out out' among among' =
-      among.out_is ∙ ap (option_map noted_whole) (program_find_all_unique is_in is_word_char (characters_of p) s among.found among'.found among.finds among'.finds) ∙ sym among'.out_is
+      among.out_is ∙ ap (option_map noted_whole) (program_find_all_unique is_in is_word_char (character_program p) s among.found among'.found among.finds among'.finds) ∙ sym among'.out_is
 
   all_exist : ExistLaw (FindsAmongAll p)
   all_exist s =
-      let best = program_find_all_exists is_in is_word_char (characters_of p) s in
+      let best = program_find_all_exists is_in is_word_char (character_program p) s in
       (option_map noted_whole best.0, record { found = best.0; finds = best.1; out_is = refl })
 
   -- where the leftmost match is, some are
   all_there : (s : Search) (t : Outcome Notes) → FirstOf s (Some t) → (whole : Outcome Notes) × FindsAmongAll p s (Some whole)
-  all_there s t finds = let best = program_find_all_exists is_in is_word_char (characters_of p) s in by best.0 best.1
+  all_there s t finds = let best = program_find_all_exists is_in is_word_char (character_program p) s in by best.0 best.1
     where
       by : (found : Option PatternMatch) → BestOf s found → (whole : Outcome Notes) × FindsAmongAll p s (Some whole)
-      by None best = absurd (cc (program_find_unique is_in is_word_char (characters_of p) s (Some t) None finds ((finds_agree is_in is_word_char (characters_of p) s).1 best)))
+      by None best = absurd (cc (program_find_unique is_in is_word_char (character_program p) s (Some t) None finds ((finds_agree is_in is_word_char (character_program p) s).1 best)))
       by (Some a) best = (noted_whole a, record { found = Some a; finds = best; out_is = refl })
 
   all_cut : CutLaw (FindsAmongAll p)
   all_cut s i t within among =
       let best = is_best (up_to_place s i) t among in
-      let first = program_find_exists is_in is_word_char (characters_of p) (up_to_place s i) in
+      let first = program_find_exists is_in is_word_char (character_program p) (up_to_place s i) in
       by best.best best.finds first.0 first.1
     where
       by : (a : PatternMatch) → BestOf (up_to_place s i) (Some a) → (out : Option (Outcome Notes)) → FirstOf (up_to_place s i) out → (whole : Outcome Notes) × FindsAmongAll p s (Some whole)
-      by a best None first = absurd (cc (program_find_all_unique is_in is_word_char (characters_of p) (up_to_place s i) (Some a) None best ((finds_agree is_in is_word_char (characters_of p) (up_to_place s i)).0 first)))
-      by a best (Some u) first = let whole = cut_spans_tell is_in is_word_char (characters_of p) s i u within first in all_there s whole.0 whole.1
+      by a best None first = absurd (cc (program_find_all_unique is_in is_word_char (character_program p) (up_to_place s i) (Some a) None best ((finds_agree is_in is_word_char (character_program p) (up_to_place s i)).0 first)))
+      by a best (Some u) first = let whole = cut_spans_tell is_in is_word_char (character_program p) s i u within first in all_there s whole.0 whole.1
 
   all_whether : (s : Search) (is_there : Bool) → TellsWhether (Finds p) s is_there → TellsWhether (FindsAmongAll p) s is_there
   all_whether s is_there told = by told.0 told.1 told.2
     where
       by : (out : Option (Outcome Notes)) → FirstOf s out → (IsTrue is_there ↔ IsSome out) → TellsWhether (FindsAmongAll p) s is_there
-      by None finds there = (None, record { found = None; finds = (finds_agree is_in is_word_char (characters_of p) s).0 finds; out_is = refl }, (there.0, there.1))
+      by None finds there = (None, record { found = None; finds = (finds_agree is_in is_word_char (character_program p) s).0 finds; out_is = refl }, (there.0, there.1))
       by (Some t) finds there = let whole = all_there s t finds in (Some whole.0, whole.1, (there.0, there.1))
 
 -- ---- of either kind
 
 module _ (p : ByteProgram) where
   inside_kind : (kind : MatchKind) → InsideLaw (FindsOfKind kind p)
-  inside_kind LeftmostFirst s t finds = (finds_lie_inside is_in is_word_char (characters_of p) s t finds).found
+  inside_kind LeftmostFirst s t finds = (finds_lie_inside is_in is_word_char (character_program p) s t finds).found
   inside_kind All s t finds = all_inside p s t finds
 
   cut_kind : (kind : MatchKind) → CutLaw (FindsOfKind kind p)
-  cut_kind LeftmostFirst s i t within finds = cut_spans_tell is_in is_word_char (characters_of p) s i t within finds
+  cut_kind LeftmostFirst s i t within finds = cut_spans_tell is_in is_word_char (character_program p) s i t within finds
   cut_kind All s i t within finds = all_cut p s i t within finds
 
   one_kind : (kind : MatchKind) → OneLaw (FindsOfKind kind p)
-  one_kind LeftmostFirst s out out' finds finds' = program_find_unique is_in is_word_char (characters_of p) s out out' finds finds'
+  one_kind LeftmostFirst s out out' finds finds' = program_find_unique is_in is_word_char (character_program p) s out out' finds finds'
   one_kind All s out out' finds finds' = all_one p s out out' finds finds'
 
   exist_kind : (kind : MatchKind) → ExistLaw (FindsOfKind kind p)
-  exist_kind LeftmostFirst s = program_find_exists is_in is_word_char (characters_of p) s
+  exist_kind LeftmostFirst s = program_find_exists is_in is_word_char (character_program p) s
   exist_kind All s = all_exist p s
 
   whether_kind : (kind : MatchKind) (s : Search) (is_there : Bool) → TellsWhether (Finds p) s is_there → TellsWhether (FindsOfKind kind p) s is_there

@@ -1,5 +1,5 @@
 -- The lists of matches of engines: there is one, its members rise, and an iterator gives them in order.
-use Rattle.std.proofs.Common.{◌≡◌, ℕ, ◌≤◌, Bool, true, false, List, [], ◌∷◌, ◌++◌, map, length, Option, Some, None, Result, Ok, Err, append_assoc, refl, sym, ap, ap₂, subst, ◌∙◌, arith}
+use Rattle.std.proofs.Common.{◌≡◌, ℕ, ◌≤◌, true, false, List, [], ◌∷◌, ◌++◌, map, length, Option, Some, None, Result, Ok, Err, append_assoc, refl, sym, ap, ap₂, subst, ◌∙◌, arith}
 use Rattle.std.specs.List.{last_or}
 use Rattle.std.specs.Iterator.{Yields}
 use Rattle.std.proofs.lemmas.List.{append-nil}
@@ -7,9 +7,9 @@ use Rattle.rx_util.specs.declared.search.MatchError.{MatchError}
 use Rattle.rx_walks.specs.Machines.{Outcome}
 use Rattle.rx_walks.specs.Programs.{Notes}
 use Rattle.rx_walks.specs.Finds.{Search, from_place_on, IsInside}
-use Rattle.rx_walks.specs.Matches.{Next, no_more, at_once, moved, BehindLast}
+use Rattle.rx_walks.specs.Matches.{RepeatedFinds, Next, no_more, at_once, moved, BehindLast}
 use Rattle.rx_walks.specs.MatchLaws.{AreInOrder, LiesBetween}
-use Rattle.rx_walks.specs.ProgramFinds.{start_of, end_of}
+use Rattle.rx_walks.specs.ProgramFinds.{finds_on, start_of, end_of}
 use Rattle.rx_walks.specs.Iterating as walks
 use Rattle.rx_walks.specs.Iterating.{Finding, FindsNext, nothing, passed, MatchesLeft, matches_from, GivesFound, GivesMatch, not_refused}
 use Rattle.rx_walks.proofs.FindLaws.{matches_unique}
@@ -28,6 +28,9 @@ module _ (e : Engine) (s : Search) where
   abbrev Found : ℕ → Option (Outcome Notes) → Type 0
   Found i out = EngineFinds e (from_place_on s i) out
 
+  abbrev repeated : RepeatedFinds (Outcome Notes)
+  repeated = finds_on (EngineFinds e) s
+
   exists : (i : ℕ) → (out : Option (Outcome Notes)) × Found i out
   exists i = exist_of e (from_place_on s i)
 
@@ -39,28 +42,28 @@ module _ (e : Engine) (s : Search) where
 
   matches_rise : (ms : List (Outcome Notes)) → EngineMatches e s ms → AreInOrder start_of end_of s ms
   matches_rise ms is =
-      let turns = lists.rising Found start_of end_of (length s.content) lies is in record {
-        inside = lists.members Found start_of end_of (length s.content) lies (λ t. LiesBetween s (start_of t) (end_of t))
+      let turns = lists.rising repeated (length s.content) lies is in record {
+        inside = lists.members repeated (length s.content) lies (λ t. LiesBetween s (start_of t) (end_of t))
             (λ i t from f. let at = inside_of e (from_place_on s i) t f in (inside_before s i (start_of t) from at.possible.0, at.ordered, inside_before s i (end_of t) from at.inside)) is;
-        in_turn = lists.follow Found start_of end_of (length s.content) lies is;
+        in_turn = lists.follow repeated (length s.content) lies is;
         apart = λ i j d below within. (turns i j d below within).0;
         rise = λ i j d below within. (turns i j d below within).1;
-        few = lists.few Found start_of end_of (length s.content) lies is;
+        few = lists.few repeated (length s.content) lies is;
       }
 
   pub first_matches : HasFirstMatches e s
   first_matches = record {
-    none = lists.matches_exist Found start_of end_of exists (length s.content) lies s.start;
+    none = lists.matches_exist repeated exists (length s.content) lies s.start;
     one_more = λ ms t. (
-      (λ h. lists.one_more_first Found start_of end_of is_one s.start ms h.0.0 t h.0.1 h.1),
-      (λ h. let is = subst (λ xs. EngineMatches e s xs) (append_assoc ms (t ∷ []) h.0) h.1 in ((t ∷ h.0, is), lists.comes_next Found start_of end_of s.start ms t h.0 is)),
+      (λ h. lists.one_more_first repeated is_one s.start ms h.0.0 t h.0.1 h.1),
+      (λ h. let is = subst (λ xs. EngineMatches e s xs) (append_assoc ms (t ∷ []) h.0) h.1 in ((t ∷ h.0, is), lists.comes_next repeated s.start ms t h.0 is)),
     );
     all = λ ms. (
-      (λ h. lists.all_first Found start_of end_of is_one s.start ms h.0.0 h.0.1 h.1),
-      (λ is. (([], subst (λ xs. EngineMatches e s xs) (sym (append-nil ms)) is), lists.none_comes_next Found start_of end_of s.start ms is)),
+      (λ h. lists.all_first repeated is_one s.start ms h.0.0 h.0.1 h.1),
+      (λ is. (([], subst (λ xs. EngineMatches e s xs) (sym (append-nil ms)) is), lists.none_comes_next repeated s.start ms is)),
     );
-    next = λ ms. lists.comes_next_exists Found start_of end_of exists s.start (last_or None ms);
-    next_is_one = λ ms out out' next next'. lists.comes_next_once Found start_of end_of is_one s.start (last_or None ms) out out' next next';
+    next = λ ms. lists.comes_next_exists repeated exists s.start (last_or None ms);
+    next_is_one = λ ms out out' next next'. lists.comes_next_once repeated is_one s.start (last_or None ms) out out' next next';
   }
 
 pub finds_of : (e : Engine) → HasFinds e
@@ -69,7 +72,7 @@ finds_of e = record {
   has_find = λ s. exist_of e s;
   inside = λ s t finds. inside_of e s t finds;
   one_list = λ s ms ms' are are'. matches_unique (λ i out out' f f'. is_one e s i out out' f f') are are';
-  has_list = λ s. lists.matches_exist (Found e s) start_of end_of (exists e s) (length s.content) (lies e s) s.start;
+  has_list = λ s. lists.matches_exist (repeated e s) (exists e s) (length s.content) (lies e s) s.start;
   rise = λ s ms are. matches_rise e s ms are;
   first = λ s. first_matches e s;
 }
@@ -89,13 +92,13 @@ next_at_first finds s None (nothing f) = f
 next_at_first finds s (Some t) (walks.at_once f not) = f
 next_at_first finds s out (passed f empty f') = absurd (cc empty.1)
 
-next_behind : (finds : Finding) (s : Search) (e : ℕ) (out : Option (Outcome Notes)) → FindsNext finds (from_place_on s e) (Some e) out → Next (λ i. finds (from_place_on s i)) start_of end_of e out
+next_behind : (finds : Finding) (s : Search) (e : ℕ) (out : Option (Outcome Notes)) → FindsNext finds (from_place_on s e) (Some e) out → Next (finds_on finds s) e out
 next_behind finds s e None (nothing f) = no_more f
 next_behind finds s e (Some t) (walks.at_once f not) = at_once f (λ is is'. not (is ∙ sym is', ap Some (sym is')))
 next_behind finds s e out (passed f empty f') = let same = same-some _ _ empty.1 in moved f (empty.0 ∙ sym same) (sym same) f'
 
 behind_last : (finds : Finding) (s : Search) (last out : Option (Outcome Notes)) → FindsNext finds (left_behind s last).search (left_behind s last).last_end out
-    → BehindLast (λ i. finds (from_place_on s i)) start_of end_of s.start last out
+    → BehindLast (finds_on finds s) s.start last out
 behind_last finds s None out next = next_at_first finds s out next
 behind_last finds s (Some t) out next = next_behind finds s (end_of t) out next
 

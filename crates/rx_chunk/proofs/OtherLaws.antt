@@ -13,16 +13,16 @@ use Rattle.rx_util.specs.declared.search.MatchKind.TheVariants as kinds
 use Rattle.rx_util.specs.declared.captures.WhichCaptures.{WhichCaptures}
 use Rattle.rx_util.specs.declared.captures.WhichCaptures.TheVariants as which
 use Rattle.rx_util.specs.Captured.{place_in}
-use Rattle.rx_util.specs.Groups.{Groups, Name, first_slot, further_groups, group_len, slot_place}
+use Rattle.rx_util.specs.Groups.{GroupNames, Name, first_slot, further_groups, group_len, slot_place}
 use Rattle.rx_walks.specs.Machines.{Outcome}
 use Rattle.rx_walks.specs.Programs.{Notes, last_noted, slot_of}
 use Rattle.rx_walks.specs.Finds.{Search}
-use Rattle.rx_program.specs.Programs.{characters_of}
-use Rattle.rx_engine.specs.Engines.{AreGroupsOf, AreNotedOf}
+use Rattle.rx_program.specs.Programs.{character_program}
+use Rattle.rx_engine.specs.Engines.{AreGroupNamesOf, AreNotedOf}
 use Rattle.rx_engine.proofs.CountLaws.{as_many}
 use Rattle.rx_engine.proofs.GroupLaws.{group_count, noted_count}
 use Rattle.rx_steps.specs.Searching.{answer_slots, slots_from}
-use Rattle.rx_chunk.specs.Engines.{Engine, EngineFinds, FindsOfKind, IsEngine, noted_whole}
+use Rattle.rx_chunk.specs.Engines.{Engine, EngineFinds, FindsOfKind, IsEngine}
 use Rattle.rx_chunk.specs.Owned.{IsSlotOf, OthersHoldNone}
 use Rattle.rx_chunk.proofs.KindLaws.{is_best}
 use Rattle.rx_chunk.proofs.FoundLaws.{best_known, notes_places, slot_told, some_out}
@@ -42,13 +42,13 @@ owns_above slots p (tree ∷ trees) k slot (inr owns) = elim (owns_above (slots 
 ]
 
 -- those of a further group
-record IsFurther (slots j i slot : ℕ) (all : Groups) (names : List (Option Name)) : Type 0 where
+record IsFurther (slots j i slot : ℕ) (all : GroupNames) (names : List (Option Name)) : Type 0 where
   there : slice_get all j ≡ Some names
   below : i < length names
   from : slots + 2 + 2 * (further_groups (take j all) + i) ≤ slot
   to : slot ≤ slots + 2 + 2 * (further_groups (take j all) + i) + 1
 
-further_apart : (n slots p : ℕ) (trees : List Tree) (all : Groups) (j i k slot : ℕ) (names : List (Option Name)) → AreGroupsOf trees all → 2 * n ≤ slots + 2 → k < n → IsFurther slots j i slot all names → (p + j ≡ k → ⊥)
+further_apart : (n slots p : ℕ) (trees : List Tree) (all : GroupNames) (j i k slot : ℕ) (names : List (Option Name)) → AreGroupNamesOf trees all → 2 * n ≤ slots + 2 → k < n → IsFurther slots j i slot all names → (p + j ≡ k → ⊥)
     → Owns slots p trees k slot → ⊥
 further_apart n slots p [] all j i k slot names are room known further other owns = owns
 further_apart n slots p (tree ∷ trees) [] j i k slot names are room known further other owns = are
@@ -80,13 +80,13 @@ further_apart n slots p (tree ∷ trees) (own ∷ all) (suc j) i k slot names ar
 
 -- ---- where the slots of a group are
 
-record IsGroup (groups : Groups) (q g first : ℕ) : Type 0 where
+record IsGroup (groups : GroupNames) (q g first : ℕ) : Type 0 where
   names : List (Option Name)
   there : slice_get groups q ≡ Some names
   known : g < length names + 1
   place : first ≡ slot_place groups q g
 
-is_group : (groups : Groups) (q g first : ℕ) → first_slot groups q g ≡ Some first → IsGroup groups q g first
+is_group : (groups : GroupNames) (q g first : ℕ) → first_slot groups q g ≡ Some first → IsGroup groups q g first
 is_group groups q g first is = elim (cases_lt g (group_len groups q)) [
   | inl below ↦ by (slice_get groups q) refl below (same_Some first (slot_place groups q g) (sym is ∙ ap (λ b. cond b (Some (slot_place groups q g)) None) (lt-ltb g (group_len groups q) below)))
   | inr past ↦ absurd (none-some first (sym (ap (λ b. cond b (Some (slot_place groups q g)) None) (not_below past)) ∙ is))
@@ -108,7 +108,7 @@ no_names (suc m) (suc q) names is = no_names m q names is
 
 -- ---- so they are apart
 
-module _ (trees : List Tree) (groups : Groups) (k q slot : ℕ) (known : k < length groups) (other : q ≡ k → ⊥) (owns : OwnSlot trees k slot) where
+module _ (trees : List Tree) (groups : GroupNames) (k q slot : ℕ) (known : k < length groups) (other : q ≡ k → ⊥) (owns : OwnSlot trees k slot) where
   abbrev IsOneOf : ℕ → Type 0
   IsOneOf first = (slot ≡ first) ⊎ (slot ≡ first + 1)
 
@@ -128,7 +128,7 @@ module _ (trees : List Tree) (groups : Groups) (k q slot : ℕ) (known : k < len
     ]
   ]
 
-  group_apart : (g first : ℕ) → AreGroupsOf trees groups → IsGroup groups q g first → IsOneOf first → ⊥
+  group_apart : (g first : ℕ) → AreGroupNamesOf trees groups → IsGroup groups q g first → IsOneOf first → ⊥
   group_apart zero first are group one = whole_apart (group_count trees groups are) (slice_get_within groups q group.names group.there) (subst IsOneOf group.place one)
   group_apart (suc i) first are group one =
       let count : length groups ≡ length trees = group_count trees groups are in
@@ -151,7 +151,7 @@ module _ (trees : List Tree) (groups : Groups) (k q slot : ℕ) (known : k < len
       absurd (omega (arith, group.known, ap length none))
 
   slots_apart : (noted : WhichCaptures) → AreNotedOf noted trees groups → IsSlotOf groups q slot → ⊥
-  slots_apart which.All are is = group_apart is.group is.first (subst (λ x. AreGroupsOf trees x) (sym are.noted) are.are_groups) (is_group groups q is.group is.first is.is_first) is.one_of_two
+  slots_apart which.All are is = group_apart is.group is.first (subst (λ x. AreGroupNamesOf trees x) (sym are.noted) are.are_groups) (is_group groups q is.group is.first is.is_first) is.one_of_two
   slots_apart which.Implicit are is = whole_group_apart (length are.all_groups) is.group is.first are.noted (noted_count trees groups which.Implicit are) (is_group groups q is.group is.first is.is_first) is.one_of_two
   slots_apart which.None are is = whole_group_apart (length are.all_groups) is.group is.first are.noted (noted_count trees groups which.None are) (is_group groups q is.group is.first is.is_first) is.one_of_two
 
@@ -190,7 +190,7 @@ module _ (e : Engine) (of_trees : IsEngine e) where
   NotesOwn t = All (λ (x : ℕ × ℕ). OwnSlot of_trees.0 t.pattern x.0) t.notes.noted
 
   kind_own : (kind : MatchKind) (s : Search) (t : Outcome Notes) → FindsOfKind kind e.program s (Some t) → NotesOwn t
-  kind_own kinds.LeftmostFirst s t finds = finds_own of_trees.0 e.program.line_terminator of_trees.1.well_formed is_word_char s (characters_of e.program) t of_trees.1.program finds
+  kind_own kinds.LeftmostFirst s t finds = finds_own of_trees.0 e.program.line_terminator of_trees.1.well_formed is_word_char s (character_program e.program) t of_trees.1.program finds
   kind_own kinds.All s t finds =
       let best = is_best e.program s t finds in
       let a = best.best in

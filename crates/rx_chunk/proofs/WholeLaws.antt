@@ -1,5 +1,5 @@
 -- The slots of a match of which the whole match alone is noted.
-use Rattle.std.proofs.Common.{◌≡◌, ℕ, zero, suc, ◌+◌, ◌*◌, ◌<◌, ◌≤◌, ◌^◌, List, [], ◌∷◌, cond, length, replicate, set, Option, Some, None, SomeIff, refl, sym, ap, ap₂, subst, ◌∙◌, arith}
+use Rattle.std.proofs.Common.{◌≡◌, ℕ, zero, suc, ◌+◌, ◌*◌, ◌<◌, ◌≤◌, ◌^◌, [], ◌∷◌, cond, replicate, set, Option, Some, None, SomeIff, refl, sym, ap, ap₂, ◌∙◌, arith}
 use Rattle.std.proofs.lemmas.Bool.{ne_eqb}
 use Rattle.rx_walks.specs.Programs.{slot_of}
 use Rattle.rx_walks.specs.Finds.{PatternMatch}

@@ -12,12 +12,12 @@ use Rattle.rx_walks.specs.Finds.{Search, PatternMatch, up_to_place}
 use Rattle.rx_walks.specs.Iterating.{Finding}
 use Rattle.rx_walks.specs.ProgramFinds.{ProgramFinds, ProgramFindsAll, start_of, end_of}
 use Rattle.rx_utf8.specs.Automata.{is_in}
-use Rattle.rx_program.specs.Programs.{ByteProgram, characters_of}
+use Rattle.rx_program.specs.Programs.{ByteProgram, character_program}
 use Rattle.rx_steps.specs.Searching.{IsFirstEnd, answer_slots}
 use Rattle.rx_steps.specs.Standing.{StopsAt}
 use Rattle.rx_steps.specs.Threads.{no_slots}
 -- a PikeVM is seen as what it holds of its patterns
-pub use Rattle.rx_engine.specs.Engines.{Engine, EngineSettings, Wanted, nothing_set, size_limit_of, settings_over, by_default, AreNamesOf, AreGroupsOf, IsOfTrees, IsEngine, IsBuiltOfTrees, IsBuiltOf, IsBuiltOfAll, AreRefused, IsRefused, IsRefusedOfAll, refusal_of}
+pub use Rattle.rx_engine.specs.Engines.{Engine, EngineSettings, Wanted, nothing_set, size_limit_of, settings_over, by_default, AreNamesOf, AreGroupNamesOf, IsOfTrees, IsEngine, IsBuiltOfTrees, IsBuiltOf, IsBuiltOfAll, AreRefused, IsRefused, IsRefusedOfAll, refusal_of}
 
 -- the places that are noted in the two slots of a pattern's group 0
 abbrev pub start_noted : ℕ → List (Option ℕ) → Option ℕ
@@ -33,7 +33,7 @@ whole_span pattern slots = span_between (start_noted pattern slots) (end_noted p
 -- what is found by the program: the leftmost match, and of those that start there the one that is
 -- preferred
 abbrev pub Finds : ByteProgram → Search → Option (Outcome Notes) → Type 0
-Finds p s out = ProgramFinds is_in is_word_char (characters_of p) s out
+Finds p s out = ProgramFinds is_in is_word_char (character_program p) s out
 
 -- a match of which the whole match is noted, in the two slots of its pattern's group 0, and no other
 -- group
@@ -52,7 +52,7 @@ noted_whole a = record {
 pub record FindsAmongAll (p : ByteProgram) (s : Search) (out : Option (Outcome Notes))
     : Type 0 where
   pub found : Option PatternMatch
-  pub finds : ProgramFindsAll is_in is_word_char (characters_of p) s found
+  pub finds : ProgramFindsAll is_in is_word_char (character_program p) s found
   pub out_is : out ≡ option_map noted_whole found
 
 -- what is found of this kind

@@ -1,10 +1,10 @@
 -- What comes next in an input, and what an iterator over the matches of a program gives.
-use Rattle.std.specs.Prelude.{◌≡◌, ℕ, ◌-◌, ◌<◌, ◌≤◌, ◌==◌, ◌↔◌, Bool, false, true, List, [], ◌∷◌, ◌++◌, map, length, Option, Some, None, option_map, Result, Err, IfSome, IfErr}
+use Rattle.std.specs.Prelude.{◌≡◌, ℕ, ◌-◌, ◌<◌, ◌≤◌, ◌==◌, Bool, false, true, List, [], ◌∷◌, ◌++◌, map, length, Option, Some, None, option_map, Result, Err, IfSome, IfErr}
 use Rattle.std.specs.Iterator.{Count, Yields, Drains, at_most, size}
 use Rattle.rx_util.specs.declared.search.MatchError.{MatchError}
 use Rattle.rx_util.specs.declared.search.MatchError.TheVariants.{Memory}
 use Rattle.rx_util.specs.Captured.{Captured, match_found, nothing_noted}
-use Rattle.rx_util.specs.Groups.{Groups}
+use Rattle.rx_util.specs.Groups.{GroupNames}
 use Rattle.rx_util.specs.Search.{Found}
 use Rattle.rx_input.specs.Cursors.{IsSameContent}
 use Rattle.rx_input.specs.Inputs.{InputState}
@@ -14,7 +14,7 @@ use Rattle.rx_walks.specs.Programs.{Notes}
 use Rattle.rx_walks.specs.Finds.{Search, from_place_on}
 use Rattle.rx_walks.specs.Matches as matches
 use Rattle.rx_walks.specs.Matches.{FirstMatches, Matches}
-use Rattle.rx_walks.specs.ProgramFinds.{start_of, end_of}
+use Rattle.rx_walks.specs.ProgramFinds.{finds_on}
 use Rattle.rx_walks.specs.Iterating.{Finding, FindsNext, GivesMatch, not_refused}
 pub use Rattle.rx_walks.specs.Iterating.{MatchesLeft, matches_from}
 use Rattle.rx_steps.specs.Searching.{answer_slots}
@@ -44,15 +44,15 @@ pub record StartsFrom (old new : InputState) (start : ℕ) : Type 0 where
   pub asked : new.asked ≡ record old.asked { span = record old.asked.span { start = start } }
 
 -- a refusal is want of memory
-abbrev pub IsRefusal : {A : Type 0} → Option (Result A MatchError) → Type 0
-IsRefusal item = IfSome item (λ answer. IfErr answer (λ error. error ≡ Memory))
+abbrev pub IsWantOfMemory : {A : Type 0} → Option (Result A MatchError) → Type 0
+IsWantOfMemory item = IfSome item (λ answer. IfErr answer (λ error. error ≡ Memory))
 
 -- a step of an iterator over matches, of each of which it tells something; none comes where nothing
 -- more is found, and after a refusal
 pub record GivesNext {A : Type 0} (finding : Finding) (item_of : Outcome Notes → A)
     (m : MatchesLeft) (item : Option (Result A MatchError)) (n : MatchesLeft) : Type 0 where
   pub gives : GivesMatch finding item_of m item n
-  pub refused : IsRefusal item
+  pub refused : IsWantOfMemory item
 
 -- the last match ended here
 abbrev pub is_last_end : Option ℕ → ℕ → Bool
@@ -92,19 +92,16 @@ pub record FewerAreLeft : Type 0 where
 
 -- they are, in order, what is found from each place on
 abbrev pub EngineMatches : Engine → Search → List (Outcome Notes) → Type 0
-EngineMatches e s ms =
-    Matches (λ i out. EngineFinds e (from_place_on s i) out) start_of end_of s.start ms
+EngineMatches e s ms = Matches (finds_on (EngineFinds e) s) s.start ms
 
 -- the first members of that list: more may come
 abbrev pub FirstEngineMatches : Engine → Search → List (Outcome Notes) → Type 0
-FirstEngineMatches e s ms =
-    FirstMatches (λ i out. EngineFinds e (from_place_on s i) out) start_of end_of s.start ms
+FirstEngineMatches e s ms = FirstMatches (finds_on (EngineFinds e) s) s.start ms
 
 -- what comes next in it behind these, or that none comes
 abbrev pub EngineComesNext : Engine → Search → List (Outcome Notes) → Option (Outcome Notes)
     → Type 0
-EngineComesNext e s ms out =
-    matches.ComesNext (λ i out. EngineFinds e (from_place_on s i) out) start_of end_of s.start ms out
+EngineComesNext e s ms out = matches.ComesNext (finds_on (EngineFinds e) s) s.start ms out
 
 -- what an iterator gives from a search on: before a refusal and before it is drained the first
 -- matches, drained all of them, and nothing after a refusal
@@ -120,15 +117,15 @@ pub record GivesInOrder {A F : Type 0} (e : Engine) (item_of : Outcome Notes →
 
 -- an iterator over the matches of any engine gives them in order; `left` tells what it has left,
 -- `item_of` what it tells of each, and `gives` its steps
-abbrev pub GivesAllInOrder : {A F : Type 0} → (Outcome Notes → A) → (F → MatchesLeft)
+abbrev pub GivesByAnyEngine : {A F : Type 0} → (Outcome Notes → A) → (F → MatchesLeft)
     → (F → Option (Result A MatchError) → F → Type 0) → Type 0
-GivesAllInOrder {A} {F} item_of left gives = (e : Engine)
+GivesByAnyEngine {A} {F} item_of left gives = (e : Engine)
     → ((m n : F) (item : Option (Result A MatchError)) → gives m item n
     → GivesMatch (EngineFinds e) item_of (left m) item (left n))
     → (s : Search) (m : F) → left m ≡ matches_from s → GivesInOrder e item_of gives s m
 
 -- what is noted of a match in captures of these groups with so many slots
-abbrev pub captured_of : Groups → ℕ → Outcome Notes → Captured
+abbrev pub captured_of : GroupNames → ℕ → Outcome Notes → Captured
 captured_of groups len t = record {
   groups = groups;
   pattern = Some t.pattern;
@@ -136,7 +133,7 @@ captured_of groups len t = record {
 }
 
 -- and what is noted where nothing is found
-abbrev pub captured_by : Groups → ℕ → Option (Outcome Notes) → Captured
+abbrev pub captured_by : GroupNames → ℕ → Option (Outcome Notes) → Captured
 captured_by groups len None = nothing_noted groups len
 captured_by groups len (Some t) = captured_of groups len t
 

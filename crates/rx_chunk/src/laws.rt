@@ -1,10 +1,9 @@
 //! Laws of what is found. Each function does nothing: its contract is the law.
 
-ghost use Rattle.std.specs.Prelude.{List, ℕ, Option};
 ghost use Rattle.rx_walks.specs.Machines.{Outcome};
 ghost use Rattle.rx_walks.specs.Programs.{Notes};
 ghost use Rattle.rx_chunk.specs.Engines.{Engine};
-ghost use Rattle.rx_chunk.specs.Iterating.{FewerAreLeft, GivesAllInOrder, MatchesLeft};
+ghost use Rattle.rx_chunk.specs.Iterating.{FewerAreLeft, GivesByAnyEngine, MatchesLeft};
 ghost use Rattle.rx_chunk.specs.Lists.{HasFinds};
 ghost use Rattle.rx_chunk.specs.Owned.{OthersHoldNone};
 
@@ -26,7 +25,7 @@ pub fn finds_of_engines()
 /// it is drained with none refused.
 pub fn iterators_give_all_matches<A, I: Iterator<Item = Result<A, MatchError>>>()
     ensures { (item_of : Outcome Notes → A) (left : I → MatchesLeft)
-        → GivesAllInOrder item_of left I.next_gives }
+        → GivesByAnyEngine item_of left I.next_gives }
 {}
 
 /// An iterator over matches ends: behind each match, and after a refusal and after none, fewer are

@@ -1,18 +1,13 @@
 -- What stands before where an input stands.
-use Rattle.std.proofs.Common.{inl, inr, ◌≡◌, ℕ, ◌+◌, ◌-◌, ◌<◌, ◌≤◌, Bool, min, List, [], length, take, drop, get_or, set, Some, slice_get, sym, ap, subst, ◌∙◌, arith}
-use Rattle.std.proofs.lemmas.List.{get_or-set_same, get_or-set_other, length-take, length-drop}
+use Rattle.std.proofs.Common.{◌≡◌, ℕ, ◌+◌, ◌-◌, ◌<◌, min, List, length, take, drop, get_or, Some, slice_get, sym, ap, ◌∙◌, arith}
+use Rattle.std.proofs.lemmas.List.{length-take, length-drop}
 use Rattle.std.proofs.lemmas.Option.{get_or_from_slice_get, slice_get-get_or, slice_get_within}
 use Rattle.rx_input.specs.Cursors.{CursorState, piece_of}
 use Rattle.rx_input.specs.Inputs.{HoldsPlace}
 use Rattle.rx_walks.specs.Finds.{Search, IsInside}
 use Rattle.rx_walks.specs.ProgramFinds.{lowest}
 use Rattle.rx_dfa.specs.Back.{StandBefore}
-use Rattle.rx_dfa.proofs.ClassLaws.{below_is, same_or_not}
 use Rattle.rx_dfa.proofs.InputLaws.{get_dropped, get_taken, in_piece, shown_is}
-
--- no byte
-pub stand_none : (s : Search) (i : ℕ) (bytes : List ℕ) → lowest s ≤ i → StandBefore s i (take 0 bytes)
-stand_none s i bytes le = record { are = λ k b e. absurd (cc e); low = omega (arith, le) }
 
 -- so many bytes of a piece, up to one
 abbrev pub part_of : List ℕ → ℕ → ℕ → List ℕ
@@ -22,14 +17,6 @@ part_of piece end few = take (end - (end - few)) (drop (end - few) piece)
 pub record IsTurned (piece bytes : List ℕ) (n end few : ℕ) : Type 0 where
   pub len : n ≡ min (length (take (end - (end - few)) (drop (end - few) piece))) 64
   pub each : (k : ℕ) → k < n → get_or bytes k 0 ≡ get_or (take (end - (end - few)) (drop (end - few) piece)) (length (take (end - (end - few)) (drop (end - few) piece)) - 1 - k) 0
-
--- one byte more is turned round
-pub turned_more : (piece bytes : List ℕ) (n v : ℕ) → length bytes ≡ 64 → n < 64 → v ≡ get_or piece (length piece - 1 - n) 0 → ((k : ℕ) → k < n → get_or bytes k 0 ≡ get_or piece (length piece - 1 - k) 0)
-    → (k : ℕ) → k < n + 1 → get_or (set bytes n v) k 0 ≡ get_or piece (length piece - 1 - k) 0
-turned_more piece bytes n v long small is each k lt = elim (same_or_not k n) [
-  | inl e ↦ subst (λ j. get_or (set bytes n v) j 0 ≡ get_or piece (length piece - 1 - j) 0) (sym e) (get_or-set_same bytes n v 0 (omega (arith, small, long)) ∙ is)
-  | inr other ↦ get_or-set_other bytes n k v 0 other ∙ each k (below_is k n lt other)
-]
 
 -- the piece that is shown holds the byte before a place
 pub record ShowsBefore (s : Search) (i : ℕ) (c : CursorState) (piece : List ℕ) (pos end few : ℕ) : Type 0 where
@@ -67,6 +54,3 @@ module _ (s : Search) (i : ℕ) (c : CursorState) (piece : List ℕ) (pos end fe
         ap (λ xs. slice_get xs (i - 1 - k)) (sym shows.content) ∙ ap (λ j. slice_get c.content j) (sym place) ∙ shown_is c piece (pos - k) b shows.piece_is shown;
     low = omega (arith, length-take n bytes, turned.len, part_len, shows.few_is, shows.behind);
   }
-
-  pub some_before : (bytes : List ℕ) (n : ℕ) → IsTurned piece bytes n end few → 0 < n
-  some_before bytes n turned = omega (arith, turned.len, part_len, shows.few_is, end_here, shows.behind)

@@ -1,5 +1,5 @@
 -- A search back, place after place.
-use Rattle.std.proofs.Common.{inl, inr, ◌≡◌, ℕ, zero, suc, ◌+◌, ◌-◌, ◌<◌, ◌≤◌, ◌==◌, Bool, true, false, not, ◌&&◌, nat_lt, cond, List, [], ◌∷◌, ◌++◌, length, take, Option, Some, None, Result, Ok, Err, option_map, slice_get, refl, sym, ap, ap₂, subst, ◌∙◌, arith}
+use Rattle.std.proofs.Common.{inl, inr, ◌≡◌, ℕ, suc, ◌+◌, ◌-◌, ◌<◌, ◌≤◌, ◌==◌, Bool, true, false, not, ◌&&◌, cond, List, [], ◌∷◌, ◌++◌, length, take, Option, Some, None, Result, Ok, Err, option_map, slice_get, refl, sym, ap, ap₂, subst, ◌∙◌, arith}
 use Rattle.std.specs.Prelude.{IfErr, IfSome}
 use Rattle.std.proofs.lemmas.Bool.{le-ltb, lt-ltb}
 use Rattle.std.proofs.lemmas.List.{append-nil, length-take}
@@ -7,7 +7,7 @@ use Rattle.std.proofs.lemmas.Option.{slice_get_within}
 use Rattle.rx_util.specs.Search.{HalfFound}
 use Rattle.rx_util.specs.declared.search.MatchError.{MatchError}
 use Rattle.rx_util.specs.declared.search.MatchError.TheVariants.{Memory, Quit, GaveUp, UnsupportedAnchored}
-use Rattle.rx_walks.specs.Finds.{Search, PatternMatch, IsInside}
+use Rattle.rx_walks.specs.Finds.{Search, IsInside}
 use Rattle.rx_walks.specs.Looks as walks
 use Rattle.rx_walks.specs.Looks.{start_text, end_text, start_line, end_line, word_boundary, no_word_boundary, is_same}
 use Rattle.rx_walks.specs.ProgramFinds.{lowest, before_in, after_in}
@@ -17,7 +17,6 @@ use Rattle.rx_walks.proofs.LookLaws.{one_byte_tells}
 use Rattle.rx_program.specs.declared.states.State.{State}
 use Rattle.rx_program.specs.Programs.{ByteProgram}
 use Rattle.rx_steps.specs.declared.asked.AskedLooks.{AskedLooks}
-use Rattle.rx_steps.specs.Alike.{AreBare}
 use Rattle.rx_steps.specs.Lists.{Asks, is_among}
 use Rattle.rx_steps.specs.ListsAll.{nodes_of}
 use Rattle.rx_steps.specs.Reversed.{IsNextListBack}
@@ -35,7 +34,7 @@ use Rattle.rx_dfa.specs.declared.states.Starting.{Starting}
 use Rattle.rx_dfa.specs.declared.states.Starting.TheVariants.{Never, Once, Always}
 use Rattle.rx_dfa.specs.Alphabets.{ahead_at, ahead_in, column_count}
 use Rattle.rx_dfa.specs.Automata.{ReadsBack, directed}
-use Rattle.rx_dfa.specs.Back.{HasEndedBack, HasReachedBack, IsBehindBack, IsFirstColumn, IsRefusalBackBy, MeetsStart, StandBefore, StandsBack, StartsBack, best_from, nodes_at, place_back, placed_error, placed_from}
+use Rattle.rx_dfa.specs.Back.{HasEndedBack, HasReachedBack, IsBehindBack, IsFirstColumn, IsRefusalBackBy, MeetsStart, StandBefore, StandsBack, StartsBack, best_from, nodes_at, place_back, placed_error}
 use Rattle.rx_dfa.specs.Behind.{behind_of, ends_line_at, is_end, is_start, is_word_ascii, is_word_at, looks_of, quits, starts_line, was_word}
 use Rattle.rx_dfa.specs.Caches.{HasFirst}
 use Rattle.rx_dfa.specs.Classes.{byte_of, class_of}

@@ -1,15 +1,10 @@
 -- Threads without slots.
-use Rattle.std.proofs.Common.{inl, inr, ◌≡◌, ℕ, zero, suc, ◌+◌, ◌<◌, ◌≤◌, All, List, [], ◌∷◌, ◌++◌, length, take, get_or, Option, Some, None, slice_get, IsSomeAnd, refl, sym, ap, ap₂, subst, ◌∙◌, arith}
+use Rattle.std.proofs.Common.{◌≡◌, ℕ, zero, suc, ◌+◌, ◌<◌, ◌≤◌, List, [], ◌∷◌, ◌++◌, length, take, get_or, Option, Some, None, slice_get, IsSomeAnd, refl, sym, ap, ap₂, subst, ◌∙◌, arith}
 use Rattle.std.proofs.lemmas.List.{append_assoc, append-nil}
-use Rattle.std.proofs.lemmas.List.Elements.{All-append, All-cons, All-nil}
 use Rattle.std.proofs.lemmas.Option.{slice_get-get_or}
-use Rattle.rx_program.specs.declared.states.State.{State}
-use Rattle.rx_program.specs.declared.states.State.TheVariants as state
-use Rattle.rx_steps.specs.Nodes.{IsNodeOf, MayStand}
-use Rattle.rx_steps.specs.Threads.{Thread, IsThreadOf}
+use Rattle.rx_steps.specs.Threads.{Thread}
 use Rattle.rx_steps.specs.Alike.{AreBare}
 use Rattle.rx_dfa.specs.States.{started}
-use Rattle.rx_dfa.proofs.ClassLaws.{same_or_not, below_is}
 
 pub bare_append : (threads others : List Thread) → AreBare threads → AreBare others → AreBare (threads ++ others)
 bare_append [] others bare bare' = bare'
@@ -47,36 +42,9 @@ push_one threads others all i q bare lt is e =
     let front : take i others ++ x ∷ [] ≡ take (i + 1) others = ap (λ t. take i others ++ t ∷ []) (sym here) ∙ take_one others [] i x lt ∙ append-nil (take (suc i) others) ∙ ap (λ j. take j others) more in
     ap (λ xs. xs ++ x ∷ []) e ∙ append_assoc all (take i others) (x ∷ []) ∙ ap (λ xs. all ++ xs) front
 
--- a state is entered at a node of the program
-first_stays : (states : List State) (q : ℕ) → IsNodeOf states (q, 0)
-first_stays states q = by (slice_get states q)
-  where
-    by : (o : Option State) → MayStand o 0
-    by None = refl
-    by (Some (state.Ranges automaton r)) = tt
-    by (Some (state.Look asked r)) = refl
-    by (Some (state.Empty r)) = refl
-    by (Some (state.BinaryUnion first second)) = refl
-    by (Some (state.Union alternates)) = refl
-    by (Some (state.Capture slot r)) = refl
-    by (Some (state.Match k)) = refl
-
-pub started_threads : (states : List State) (threads from : List Thread) (start : Option ℕ) → from ≡ threads ++ started start → All (IsThreadOf states) threads → All (IsThreadOf states) from
-started_threads states threads from start e all = subst (All (IsThreadOf states)) (sym e) (All-append (IsThreadOf states) threads (started start) all (of_start start))
-  where
-    of_start : (o : Option ℕ) → All (IsThreadOf states) (started o)
-    of_start None = All-nil (IsThreadOf states)
-    of_start (Some q) = All-cons (IsThreadOf states) ([], (q, 0)) [] (first_stays states q) (All-nil (IsThreadOf states))
-
 -- of so many threads the nodes are the same
 abbrev pub SameUpTo : List Thread → List Thread → ℕ → Type 0
 SameUpTo threads others n = (k : ℕ) (x : Thread) → k < n → (get_or threads k x).1 ≡ (get_or others k x).1
-
-pub one_more_same : (threads others : List Thread) (n : ℕ) (q r : ℕ × ℕ) → ((x : Thread) → q ≡ (get_or threads n x).1) → ((x : Thread) → r ≡ (get_or others n x).1) → q ≡ r → SameUpTo threads others n → SameUpTo threads others (n + 1)
-one_more_same threads others n q r is is' e same k x lt = elim (same_or_not k n) [
-  | inl here ↦ subst (λ j. (get_or threads j x).1 ≡ (get_or others j x).1) (sym here) (sym (is x) ∙ e ∙ is' x)
-  | inr other ↦ same k x (below_is k n lt other)
-]
 
 pub same_bare : (threads others : List Thread) → AreBare threads → AreBare others → length threads ≡ length others → SameUpTo threads others (length threads) → threads ≡ others
 same_bare [] [] bare bare' e same = refl

@@ -1,9 +1,8 @@
 -- Bytes that no cut parts are read alike.
-use Rattle.std.proofs.Common.{inl, inr, ◌≡◌, ◌⊎◌, ℕ, zero, suc, ◌+◌, ◌-◌, ◌<◌, ◌≤◌, Bool, true, false, ◌&&◌, cond, List, [], ◌∷◌, ◌++◌, length, take, All, get_or, set, Option, Some, None, slice_get, refl, sym, ap, ap₂, subst, ◌∙◌, arith}
+use Rattle.std.proofs.Common.{inl, inr, ◌≡◌, ◌⊎◌, ℕ, zero, suc, ◌+◌, ◌-◌, ◌<◌, ◌≤◌, Bool, true, false, ◌&&◌, cond, List, [], ◌∷◌, length, take, All, get_or, Option, Some, None, slice_get, refl, sym, ap, ap₂, subst, ◌∙◌, arith}
 use Rattle.std.specs.Prelude.{nat_le, nat_lt, ◌==◌}
 use Rattle.unicode.specs.Perl.{is_word_char}
 use Rattle.std.proofs.lemmas.Bool.{le-leb, lt-leb, le-ltb, lt-ltb, eq-eqb, ne_eqb}
-use Rattle.std.proofs.lemmas.List.{get_or-set_same, get_or-set_other, length-append, length-set}
 use Rattle.std.proofs.lemmas.List.Elements.{All-nil, All-cons}
 use Rattle.std.proofs.lemmas.Option.{get_or_from_slice_get, slice_get_within}
 use Rattle.rx_utf8.specs.declared.byte_ranges.ByteRange.{ByteRange}
@@ -136,12 +135,6 @@ same_or_not zero (suc n) = inr (λ e. omega (arith, e))
 same_or_not (suc k) zero = inr (λ e. omega (arith, e))
 same_or_not (suc k) (suc n) = elim (same_or_not k n) [ inl e ↦ inl (ap suc e) | inr d ↦ inr (λ e. d (omega (arith, e))) ]
 
-pub one_more_cut : (cuts : List Bool) (k : ℕ) → k < length cuts → HasMoreCuts cuts (set cuts k true)
-one_more_cut cuts k lt = λ j is. elim (same_or_not j k) [
-  | inl e ↦ subst (λ i. get_or (set cuts k true) i false ≡ true) (sym e) (get_or-set_same cuts k true false lt)
-  | inr d ↦ get_or-set_other cuts k j true false d ∙ is
-]
-
 pub below_is : (k n : ℕ) → k < n + 1 → (k ≡ n → ⊥) → k < n
 below_is k n lt d = omega (arith, lt, d)
 
@@ -205,83 +198,3 @@ pub record IsUnderWay (cuts : List Bool) (of bytes : List ℕ) (class n : ℕ) :
   pub of_len : length of ≡ 256
   pub each : AreClasses cuts (record { of = of; bytes = bytes }) n
   pub last : AreTogether cuts (get_or bytes class 0) (n - 1)
-
-together_more : (cuts : List Bool) (c n : ℕ) → 0 < n → AreTogether cuts c (n - 1) → (HasCut cuts n → ⊥) → AreTogether cuts c n
-together_more cuts c n some (le, none) uncut = (
-  omega (arith, le),
-  λ k above upto cut. elim (same_or_not k n) [
-    | inl e ↦ uncut (subst (λ j. HasCut cuts j) e cut)
-    | inr d ↦ none k above (omega (arith, upto, d, some)) cut
-  ],
-)
-
-pub class_kept : (cuts : List Bool) (of bytes : List ℕ) (class n : ℕ) → n < 256 → (HasCut cuts n → ⊥) → IsUnderWay cuts of bytes class n → IsUnderWay cuts (set of n class) bytes class (n + 1)
-class_kept cuts of bytes class n small uncut way =
-    let some : 0 < n = omega (arith, way.below) in
-    let here : AreTogether cuts (get_or bytes class 0) n = together_more cuts (get_or bytes class 0) n some way.last uncut in
-    let one_less : n ≡ n + 1 - 1 = omega arith in
-    record {
-      len = way.len;
-      below = omega (arith, way.below);
-      of_len = length-set of n class ∙ way.of_len;
-      each = λ b lt. elim (same_or_not b n) [
-        | inl e ↦
-            let is : get_or (set of n class) b 0 ≡ class = subst (λ j. get_or (set of n class) j 0 ≡ class) (sym e) (get_or-set_same of n class 0 (omega (arith, small, way.of_len))) in
-            (subst (λ j. j < length bytes) (sym is) (omega (arith, way.len)), subst (λ j. AreTogether cuts (get_or bytes j 0) b) (sym is) (subst (λ j. AreTogether cuts (get_or bytes class 0) j) (sym e) here))
-        | inr d ↦
-            let is : get_or (set of n class) b 0 ≡ get_or of b 0 = get_or-set_other of n b class 0 d in
-            let old = way.each b (below_is b n lt d) in
-            (subst (λ j. j < length bytes) (sym is) old.0, subst (λ j. AreTogether cuts (get_or bytes j 0) b) (sym is) old.1)
-      ];
-      last = subst (λ j. AreTogether cuts (get_or bytes class 0) j) one_less here;
-    }
-
-last_is : (bytes : List ℕ) (b : ℕ) → get_or (bytes ++ b ∷ []) (length bytes) 0 ≡ b
-last_is [] b = refl
-last_is (c ∷ bytes) b = last_is bytes b
-
-front_is : (bytes : List ℕ) (b k : ℕ) → k < length bytes → get_or (bytes ++ b ∷ []) k 0 ≡ get_or bytes k 0
-front_is [] b k lt = absurd (omega (arith, lt))
-front_is (c ∷ bytes) b zero lt = refl
-front_is (c ∷ bytes) b (suc k) lt = front_is bytes b k (omega (arith, lt))
-
--- a new class begins
-pub class_begun : (cuts : List Bool) (of bytes : List ℕ) (class n : ℕ) → n < 256 → IsUnderWay cuts of bytes class n → IsUnderWay cuts (set of n (class + 1)) (bytes ++ n ∷ []) (class + 1) (n + 1)
-class_begun cuts of bytes class n small way =
-    let more : length (bytes ++ n ∷ []) ≡ length bytes + 1 = length-append bytes (n ∷ []) in
-    let is_new : get_or (bytes ++ n ∷ []) (class + 1) 0 ≡ n = ap (λ j. get_or (bytes ++ n ∷ []) j 0) way.len ∙ last_is bytes n in
-    let here : AreTogether cuts n n = (omega arith, λ k above upto cut. omega (arith, above, upto)) in
-    let there : AreTogether cuts (get_or (bytes ++ n ∷ []) (class + 1) 0) n = subst (λ j. AreTogether cuts j n) (sym is_new) here in
-    let one_less : n ≡ n + 1 - 1 = omega arith in
-    record {
-      len = omega (arith, way.len, more);
-      below = omega (arith, way.below);
-      of_len = length-set of n (class + 1) ∙ way.of_len;
-      each = λ b lt. elim (same_or_not b n) [
-        | inl e ↦
-            let is : get_or (set of n (class + 1)) b 0 ≡ class + 1 = subst (λ j. get_or (set of n (class + 1)) j 0 ≡ class + 1) (sym e) (get_or-set_same of n (class + 1) 0 (omega (arith, small, way.of_len))) in (
-              subst (λ j. j < length (bytes ++ n ∷ [])) (sym is) (omega (arith, way.len, more)),
-              subst (λ j. AreTogether cuts (get_or (bytes ++ n ∷ []) j 0) b) (sym is) (subst (λ j. AreTogether cuts (get_or (bytes ++ n ∷ []) (class + 1) 0) j) (sym e) there),
-            )
-        | inr d ↦
-            let is : get_or (set of n (class + 1)) b 0 ≡ get_or of b 0 = get_or-set_other of n b (class + 1) 0 d in
-            let old = way.each b (below_is b n lt d) in
-            let byte : get_or (bytes ++ n ∷ []) (get_or of b 0) 0 ≡ get_or bytes (get_or of b 0) 0 = front_is bytes n (get_or of b 0) old.0 in (
-              subst (λ j. j < length (bytes ++ n ∷ [])) (sym is) (omega (arith, old.0, more)),
-              subst (λ j. AreTogether cuts (get_or (bytes ++ n ∷ []) j 0) b) (sym is) (subst (λ c. AreTogether cuts c b) (sym byte) old.1),
-            )
-      ];
-      last = subst (λ j. AreTogether cuts (get_or (bytes ++ n ∷ []) (class + 1) 0) j) one_less there;
-    }
-
-pub class_first : (cuts : List Bool) (of bytes : List ℕ) → length of ≡ 256 → get_or of 0 0 ≡ 0 → bytes ≡ 0 ∷ [] → IsUnderWay cuts of bytes 0 1
-class_first cuts of bytes len zero_is e = subst (λ bs. IsUnderWay cuts of bs 0 1) (sym e) (record {
-  len = refl;
-  below = omega arith;
-  of_len = len;
-  each = λ b lt.
-      let first : b ≡ 0 = omega (arith, lt) in
-      subst (λ c. (get_or of c 0 < 1) × AreTogether cuts (get_or (0 ∷ []) (get_or of c 0) 0) c) (sym first)
-      (subst (λ k. (k < 1) × AreTogether cuts (get_or (0 ∷ []) k 0) 0) (sym zero_is) (omega arith, (omega arith, λ k above upto cut. omega (arith, above, upto))));
-  last = (omega arith, λ k above upto cut. omega (arith, above, upto));
-})

@@ -19,7 +19,7 @@ use Rattle.rx_dfa.specs.Alphabets.{AlphabetView, TellsApart, ahead_at, ahead_in,
 use Rattle.rx_dfa.specs.Caches.{CacheView, HoldsSteps, IsEntry, IsEntryTo, KeepNumbers, LeadsTo, ends_to, over_to, plain_to, unknown_to}
 use Rattle.rx_dfa.specs.Searching.{StartsSo}
 use Rattle.rx_dfa.specs.Tables.{IsBeginning}
-use Rattle.rx_dfa.specs.DenseTables.{AreKnown, Grows, HasAllStarts, HasOneFirst, HasStarts, HasStartsFrom, HaveRows, IsClosedOf, IsKnownAt, StartsFrom, in_reach, no_more}
+use Rattle.rx_dfa.specs.DenseTables.{AreKnown, Grows, HasAllStarts, HasOneFirst, HasStarts, HasStartsFrom, HaveRows, IsClosedOf, IsKnownAt, WalksStartFrom, in_reach, no_more}
 use Rattle.rx_dfa.proofs.ClassLaws.{below_or_not, same_or_not}
 use Rattle.rx_dfa.proofs.PassLaws.{byte_in_class}
 use Rattle.rx_dfa.proofs.StepLaws.{behind_alike}
@@ -137,7 +137,7 @@ begins_there a table starting behind closed begins =
     subst (λ z. HasOneFirst table.states starting z) (sym begins.behind_is) (closed.starts begins.anchoring begins.start begins.starts begins.byte begins.may_be starting begins.starting_is)
 
 -- a search forward begins with any of them
-pub starts_from : (is_back : Bool) (s : Search) (q i : ℕ) (starting : Starting) (met : Option HalfFound) → is_back ≡ false → StartsSo s q i starting met → StartsFrom is_back q starting
+pub starts_from : (is_back : Bool) (s : Search) (q i : ℕ) (starting : Starting) (met : Option HalfFound) → is_back ≡ false → StartsSo s q i starting met → WalksStartFrom is_back q starting
 starts_from is_back s q i Never met way so = way
 starts_from is_back s q i (Once r) met way so = so.0
 starts_from is_back s q i (Always r) met way so = (way, so.0)

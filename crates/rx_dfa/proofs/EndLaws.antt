@@ -5,7 +5,7 @@ use Rattle.rx_util.specs.Search.{HalfFound}
 use Rattle.rx_walks.specs.Finds.{Search, IsInside}
 use Rattle.rx_walks.specs.ProgramFinds.{start_node, highest}
 use Rattle.rx_walks.specs.Steps.{thin_end}
-use Rattle.rx_program.specs.Programs.{ByteProgram, IsByteProgram, characters_of}
+use Rattle.rx_program.specs.Programs.{ByteProgram, IsByteProgram, character_program}
 use Rattle.rx_steps.specs.declared.asked.AskedLooks.{AskedLooks}
 use Rattle.rx_steps.specs.Alike.{AreBare}
 use Rattle.rx_steps.specs.Unread.{EndsAreMetUnread}
@@ -89,7 +89,7 @@ end_tells a s i column may_begin way inside is may last seen = record {
 }
 
 -- the answer by the end that is told in the last column
-pub last_answers : Laws → (a : Automaton) (s : Search) (q i column : ℕ) (x : AutomatonState) (ended : Option ℕ) (met : Option HalfFound) → IsByteProgram (directed a).bytes → KeepingLaw → start_node (characters_of (directed a).bytes) s.anchoring ≡ Some q → AreAskedBy (directed a).bytes.states a.alphabet.now.asked
+pub last_answers : Laws → (a : Automaton) (s : Search) (q i column : ℕ) (x : AutomatonState) (ended : Option ℕ) (met : Option HalfFound) → IsByteProgram (directed a).bytes → KeepingLaw → start_node (character_program (directed a).bytes) s.anchoring ≡ Some q → AreAskedBy (directed a).bytes.states a.alphabet.now.asked
     → AreBare x.threads.threads → IsInside s i → i ≡ highest s → IsLastColumn a s i column → IsBehind (directed a).bytes a.alphabet.now.asked s i x → EndsSo (directed a) a.alphabet.now.asked x (ahead_in a.alphabet.now column) ended → HasReached (directed a).bytes s q i x met → IsHalfAnswer (directed a).bytes s (met_after i ended met)
 last_answers laws a s q i column x ended met reads law starts are bare inside last is behind told reached =
     let meets = is.tells x told.next bare told.step in

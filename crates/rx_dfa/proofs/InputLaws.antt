@@ -1,15 +1,11 @@
 -- What stands next to where an input stands.
-use Rattle.std.proofs.Common.{inl, inr, ◌≡◌, ℕ, zero, suc, ◌+◌, ◌-◌, ◌<◌, ◌≤◌, Bool, true, false, min, max, List, [], ◌∷◌, ◌++◌, length, take, drop, reverse, Option, Some, None, slice_get, refl, sym, ap, subst, ◌∙◌, arith}
+use Rattle.std.proofs.Common.{inl, inr, ◌≡◌, ℕ, zero, suc, ◌+◌, ◌-◌, ◌<◌, ◌≤◌, Bool, true, false, List, [], ◌∷◌, ◌++◌, length, take, drop, reverse, Option, Some, None, slice_get, refl, sym, ap, subst, ◌∙◌, arith}
 use Rattle.std.proofs.lemmas.List.{length-take, length-drop, reverse-append}
 use Rattle.std.proofs.lemmas.Option.{slice_get_within}
 use Rattle.rx_input.specs.Cursors.{CursorState, piece_of}
-use Rattle.rx_input.specs.Inputs.{InputState, HoldsPlace}
-use Rattle.rx_walks.specs.Finds.{Search, IsInside}
-use Rattle.rx_walks.specs.ProgramFinds.{highest}
-use Rattle.rx_steps.specs.Searching.{search_of}
-use Rattle.rx_steps.proofs.SeenLaws.{seen_before}
+use Rattle.rx_input.specs.Inputs.{HoldsPlace}
+use Rattle.rx_walks.specs.Finds.{Search}
 use Rattle.rx_dfa.specs.Searching.{byte_before}
-use Rattle.rx_dfa.specs.Passing.{StandThere}
 use Rattle.rx_dfa.proofs.ClassLaws.{below_or_not}
 
 pub get_dropped : (xs : List ℕ) (n k : ℕ) → slice_get (drop n xs) k ≡ slice_get xs (n + k)
@@ -28,19 +24,6 @@ get_taken (x ∷ xs) (suc n) (suc k) b e = get_taken xs n k b e
 
 -- ---- the bytes of the piece that is shown
 
-pub stand_ahead : (utf8_empty : Bool) (input : InputState) (piece : List ℕ) (pos few n left : ℕ) → piece ≡ piece_of input.cursor → input.cursor.start + pos ≡ input.position → n ≤ left → left ≡ min input.asked.slice.end input.asked.span.end - input.position
-    → IsInside (search_of utf8_empty input) input.position → StandThere (search_of utf8_empty input) input.position (take n (take few (drop pos piece)))
-stand_ahead utf8_empty input piece pos few n left is at le left_is inside = record {
-  are = λ k b e.
-      let c = input.cursor in
-      let here : slice_get piece (pos + k) ≡ Some b = sym (get_dropped piece pos k) ∙ get_taken (drop pos piece) few k b (get_taken (take few (drop pos piece)) n k b e) in
-      let there : slice_get (drop c.start c.content) (pos + k) ≡ Some b = get_taken (drop c.start c.content) (c.end - c.start) (pos + k) b (subst (λ xs. slice_get xs (pos + k) ≡ Some b) is here) in
-      let far : c.start + (pos + k) ≡ input.position + k = omega (arith, at) in
-      ap (λ j. slice_get c.content j) (sym far) ∙ sym (get_dropped c.content c.start (pos + k)) ∙ there;
-  end = omega (arith, length-take n (take few (drop pos piece)), le, left_is, inside.1, inside.3);
-  low = omega (arith, inside.0, inside.2);
-}
-
 piece_len : (c : CursorState) (i : ℕ) (piece : List ℕ) → piece ≡ piece_of c → HoldsPlace c i → length piece ≡ c.end - c.start
 piece_len c i piece is holds = omega (arith, ap (λ (xs : List ℕ). length xs) is, length-take (c.end - c.start) (drop c.start c.content), length-drop c.start c.content, holds.lawful.within, holds.lawful.ordered)
 
@@ -52,16 +35,6 @@ in_piece c i pos piece is at holds lt = elim (below_or_not i c.end) [
       let here : i ≡ c.end = omega (arith, past, holds.before_end) in
       absurd (omega (arith, lt, here, holds.at_end here))
 ]
-
-pub not_past : (c : CursorState) (i pos : ℕ) (piece : List ℕ) → piece ≡ piece_of c → c.start + pos ≡ i → HoldsPlace c i → pos < length piece → i < length c.content
-not_past c i pos piece is at holds lt = omega (arith, lt, at, piece_len c i piece is holds, holds.lawful.within, holds.lawful.ordered)
-
-pub stand_some : (utf8_empty : Bool) (input : InputState) (piece : List ℕ) (pos n left : ℕ) → piece ≡ piece_of input.cursor → input.cursor.start + pos ≡ input.position → HoldsPlace input.cursor input.position
-    → left ≡ min input.asked.slice.end input.asked.span.end - input.position → n ≡ min left (length (take (length piece - pos) (drop pos piece))) → input.position < highest (search_of utf8_empty input)
-    → 0 < length (take n (take (length piece - pos) (drop pos piece)))
-stand_some utf8_empty input piece pos n left is at holds left_is n_is lt =
-    let few = length piece - pos in
-    omega (arith, length-take n (take few (drop pos piece)), length-take few (drop pos piece), length-drop pos piece, left_is, n_is, lt, in_piece input.cursor input.position pos piece is at holds (omega (arith, lt)))
 
 -- ---- the byte before
 
@@ -130,60 +103,10 @@ before_is s i b lt is =
     let there : low + n ≡ i - 1 = omega (arith, lt) in
     back_first whole n len ∙ get_dropped (take i s.content) low n ∙ ap (λ j. slice_get (take i s.content) j) there ∙ get_one s.content i (i - 1) (omega (arith, lt)) ∙ is
 
--- and where it doesn't, there is none
-pub before_none : (s : Search) (i : ℕ) → i ≤ s.slice_start → byte_before s i ≡ None
-before_none s i ge =
-    let whole = drop s.slice_start (take i s.content) in
-    let empty : length whole ≡ 0 = omega (arith, ge, length-drop s.slice_start (take i s.content), length-take i s.content) in
-    nothing_in whole 0 empty ∙ nothing_at whole 0 empty
-
 -- a byte of the piece that is shown stands in the content
 pub shown_is : (c : CursorState) (piece : List ℕ) (k b : ℕ) → piece ≡ piece_of c → slice_get piece k ≡ Some b → slice_get c.content (c.start + k) ≡ Some b
 shown_is c piece k b is e = sym (get_dropped c.content c.start k) ∙ get_taken (drop c.start c.content) (c.end - c.start) k b (subst (λ xs. slice_get xs k ≡ Some b) is e)
 
-pub shown_before : (utf8_empty : Bool) (input : InputState) (piece : List ℕ) (pos b : ℕ) → piece ≡ piece_of input.cursor → input.cursor.start + pos ≡ input.position → input.asked.slice.start < input.position → 0 < pos → slice_get piece (pos - 1) ≡ Some b
-    → byte_before (search_of utf8_empty input) input.position ≡ Some b
-shown_before utf8_empty input piece pos b is at lt some e =
-    let c = input.cursor in
-    let far : c.start + (pos - 1) ≡ input.position - 1 = omega (arith, at, some) in
-    before_is (search_of utf8_empty input) input.position b lt (ap (λ k. slice_get c.content k) (sym far) ∙ shown_is c piece (pos - 1) b is e)
-
 pub known_behind : (asks : Bool) (s : Search) (i b : ℕ) (o : Option ℕ) → (asks ≡ true → o ≡ byte_before s i) → (asks ≡ false → o ≡ None) → o ≡ Some b → byte_before s i ≡ Some b
 known_behind true s i b o known unknown e = sym (known refl) ∙ e
 known_behind false s i b o known unknown e = absurd (cc (sym (unknown refl) ∙ e))
-
--- in what is seen before a place the last byte is the one before it in the slice
-pub last_before : (content : List ℕ) (low high i k : ℕ) (front : List ℕ) → low ≤ i → i ≤ high → i ≤ length content
-    → front ≡ take (min (i - max low (i - 4)) (length (drop (max low (i - 4)) (take (min high (i + 4)) content)))) (drop (max low (i - 4)) (take (min high (i + 4)) content))
-    → k ≡ length front - 1 → slice_get front k ≡ slice_get (reverse (drop low (take i content))) 0
-last_before content low high i k front above before within is k_is = elim (below_or_not low i) [
-  | inl lt ↦ some lt
-  | inr ge ↦ none ge
-]
-  where
-    from : ℕ
-    from = max low (i - 4)
-
-    front_is : front ≡ drop from (take i content)
-    front_is = is ∙ seen_before content low high i above before within
-
-    front_len : length front ≡ i - from
-    front_len = omega (arith, ap (λ (xs : List ℕ). length xs) front_is, length-drop from (take i content), length-take i content, within)
-
-    whole_len : length (drop low (take i content)) ≡ i - low
-    whole_len = omega (arith, length-drop low (take i content), length-take i content, within)
-
-    some : low < i → slice_get front k ≡ slice_get (reverse (drop low (take i content))) 0
-    some lt =
-        let n = i - low - 1 in
-        let here : from + k ≡ i - 1 = omega (arith, k_is, front_len, lt) in
-        let there : low + n ≡ i - 1 = omega (arith, lt) in
-        let len : length (drop low (take i content)) ≡ suc n = omega (arith, whole_len, lt) in
-        ap (λ xs. slice_get xs k) front_is ∙ get_dropped (take i content) from k ∙ ap (λ j. slice_get (take i content) j) (here ∙ sym there)
-        ∙ sym (get_dropped (take i content) low n) ∙ sym (back_first (drop low (take i content)) n len)
-
-    none : i ≤ low → slice_get front k ≡ slice_get (reverse (drop low (take i content))) 0
-    none ge =
-        let empty : length front ≡ 0 = omega (arith, front_len, ge) in
-        let empty' : length (drop low (take i content)) ≡ 0 = omega (arith, whole_len, ge) in
-        nothing_at front k empty ∙ sym (nothing_in (drop low (take i content)) 0 empty' ∙ nothing_at (drop low (take i content)) 0 empty')

@@ -7,13 +7,13 @@ use Rattle.unicode.specs.Perl.{is_word_char}
 use Rattle.rx_util.specs.Search.{HalfFound}
 use Rattle.rx_utf8.specs.Automata.{is_in}
 use Rattle.rx_walks.specs.Finds.{Search, IsInside, is_anchored}
-use Rattle.rx_walks.specs.Laws.{Begins, OneByteTells, FirstCharacterStands, LastCharacterStands}
+use Rattle.rx_walks.specs.Laws.{MayBegin, OneByteTells, FirstCharacterStands, LastCharacterStands}
 use Rattle.rx_walks.specs.Machines.{Outcome}
 use Rattle.rx_walks.specs.Programs.{Notes}
 use Rattle.rx_walks.specs.ProgramFinds.{start_node, lowest, highest, before_in, after_in}
 use Rattle.rx_walks.specs.Likenesses.{noted_by}
 use Rattle.rx_walks.specs.Steps.{Steps, Thins, thin_end, kept, left_out, Searches, over, started, stepped, either}
-use Rattle.rx_program.specs.Programs.{ByteProgram, IsByteProgram, characters_of, automata_of}
+use Rattle.rx_program.specs.Programs.{ByteProgram, IsByteProgram, character_program, automata_of}
 use Rattle.rx_steps.specs.declared.asked.AskedLooks.{AskedLooks}
 use Rattle.rx_steps.specs.declared.place.Place.{Place}
 use Rattle.rx_steps.specs.Threads.{Slots, Thread, note_slot}
@@ -84,14 +84,14 @@ none_is None e = refl
 none_is (Some f) e = absurd (cc e)
 
 -- no walk starts at the place
-come_without : (p : ByteProgram) (s : Search) (q i : ℕ) (live next thin : List Thread) (ended : Option ℕ) (met : Option HalfFound) → (met ≡ None → Begins s i → ⊥) → Steps (machine_in p s) i [] live next (met_at i ended []) → Thins [] next thin
+come_without : (p : ByteProgram) (s : Search) (q i : ℕ) (live next thin : List Thread) (ended : Option ℕ) (met : Option HalfFound) → (met ≡ None → MayBegin s i → ⊥) → Steps (machine_in p s) i [] live next (met_at i ended []) → Thins [] next thin
     → HasCome (machine_in p s) s q [] i live (option_map half_outcome met) → HasCome (machine_in p s) s q [] (i + 1) thin (option_map half_outcome (met_after i ended met))
 come_without p s q i live next thin ended met never steps thins come =
     let m = machine_in p s in
     subst (λ o. HasCome m s q [] (i + 1) thin o) (met_is i ended met) (λ out rest. come out (stepped (λ e begins. never (none_is met e) begins) steps thins rest))
 
 -- one starts after the others
-come_with : (p : ByteProgram) (s : Search) (q i : ℕ) (live next thin : List Thread) (ended : Option ℕ) (met : Option HalfFound) → met ≡ None → Begins s i → Steps (machine_in p s) i [] (live ++ ([], (q, 0)) ∷ []) next (met_at i ended []) → Thins [] next thin
+come_with : (p : ByteProgram) (s : Search) (q i : ℕ) (live next thin : List Thread) (ended : Option ℕ) (met : Option HalfFound) → met ≡ None → MayBegin s i → Steps (machine_in p s) i [] (live ++ ([], (q, 0)) ∷ []) next (met_at i ended []) → Thins [] next thin
     → HasCome (machine_in p s) s q [] i live (option_map half_outcome met) → HasCome (machine_in p s) s q [] (i + 1) thin (option_map half_outcome (met_after i ended met))
 come_with p s q i live next thin ended (Some f) unmet begins steps thins come = absurd (cc unmet)
 come_with p s q i live next thin None None unmet begins steps thins come = λ out rest. come out (started begins steps thins rest)
@@ -136,7 +136,7 @@ place_passed laws p asked s q i x y ahead met are bare inside behind here step r
     ended : Option ℕ
     ended = y.ended
 
-    without : (met ≡ None → Begins s i → ⊥) → Steps (machine_in p s) i [] (live ++ []) next (met_at i ended []) → HasCome (machine_in p s) s q [] (i + 1) thin (option_map half_outcome (met_after i ended met))
+    without : (met ≡ None → MayBegin s i → ⊥) → Steps (machine_in p s) i [] (live ++ []) next (met_at i ended []) → HasCome (machine_in p s) s q [] (i + 1) thin (option_map half_outcome (met_after i ended met))
     without never steps = come_without p s q i live next thin ended met never (subst (λ xs. Steps (machine_in p s) i [] xs next (met_at i ended [])) (append-nil live) steps) step.thins reached.come
 
     by : (z : Starting) (b : Bool) → (b ≡ true → May s i) → (b ≡ false → May s i → ⊥) → Steps (machine_in p s) i [] (live ++ states.started (start_at z b)) next (met_at i ended []) → StartsSo s q i z met
@@ -145,17 +145,17 @@ place_passed laws p asked s q i x y ahead met are bare inside behind here step r
     by (Once r) false can cannot steps so = without (λ e begins. cannot refl begins.1) steps
     by (Always r) false can cannot steps so = without (λ e begins. cannot refl begins.1) steps
     by (Once r) true can cannot steps so =
-        let begins : Begins s i = ((inside, λ anchored. so.3), can refl) in
+        let begins : MayBegin s i = ((inside, λ anchored. so.3), can refl) in
         come_with p s q i live next thin ended met so.1 begins (subst (λ k. Steps (machine_in p s) i [] (live ++ ([], (k, 0)) ∷ []) next (met_at i ended [])) so.0 steps) step.thins reached.come
     by (Always r) true can cannot steps so =
-        let begins : Begins s i = ((inside, λ anchored. absurd (no_truth (is_anchored s.anchoring) anchored so.2)), can refl) in
+        let begins : MayBegin s i = ((inside, λ anchored. absurd (no_truth (is_anchored s.anchoring) anchored so.2)), can refl) in
         come_with p s q i live next thin ended met so.1 begins (subst (λ k. Steps (machine_in p s) i [] (live ++ ([], (k, 0)) ∷ []) next (met_at i ended [])) so.0 steps) step.thins reached.come
 
 -- ---- the end
 
 -- what a search comes to whose threads are gone, and in which none will start
-search_over : (p : ByteProgram) (s : Search) (q i : ℕ) (live : List Thread) (met : Option HalfFound) → live ≡ [] → (met ≡ None → (j : ℕ) → i ≤ j → Begins s j → ⊥) → HasCome (machine_in p s) s q [] i live (option_map half_outcome met)
-    → Searches (machine_in p s) (Begins s) (λ j. []) (q, 0) s.start [] None (option_map half_outcome met)
+search_over : (p : ByteProgram) (s : Search) (q i : ℕ) (live : List Thread) (met : Option HalfFound) → live ≡ [] → (met ≡ None → (j : ℕ) → i ≤ j → MayBegin s j → ⊥) → HasCome (machine_in p s) s q [] i live (option_map half_outcome met)
+    → Searches (machine_in p s) (MayBegin s) (λ j. []) (q, 0) s.start [] None (option_map half_outcome met)
 search_over p s q i live met none never come = subst (λ xs. HasCome (machine_in p s) s q [] i xs (option_map half_outcome met)) none come (option_map half_outcome met) (over (λ e j from begins. never (none_is met e) j from begins))
 
 abbrev half_of : Outcome Slots → HalfFound
@@ -169,10 +169,10 @@ same_found : (found : Option (Outcome Notes)) → option_map half_of (option_map
 same_found None = refl
 same_found (Some t) = refl
 
-half_answer : (p : ByteProgram) (s : Search) (q : ℕ) (met : Option HalfFound) → IsByteProgram p → KeepingLaw → start_node (characters_of p) s.anchoring ≡ Some q
-    → Searches (machine_in p s) (Begins s) (λ j. []) (q, 0) s.start [] None (option_map half_outcome met) → IsHalfAnswer p s met
+half_answer : (p : ByteProgram) (s : Search) (q : ℕ) (met : Option HalfFound) → IsByteProgram p → KeepingLaw → start_node (character_program p) s.anchoring ≡ Some q
+    → Searches (machine_in p s) (MayBegin s) (λ j. []) (q, 0) s.start [] None (option_map half_outcome met) → IsHalfAnswer p s met
 half_answer p s q met reads law starts searches =
-    let on = law note_slot (λ n. []) is_in is_word_char (characters_of p) (automata_of p) reads (λ slot i n. refl) s q (option_map half_outcome met) starts searches in
+    let on = law (record { put = note_slot; kept = λ n. []; alike = λ slot i n. refl }) is_in is_word_char (character_program p) (automata_of p) reads s q (option_map half_outcome met) starts searches in
     record {
       found = on.0;
       finds = on.2;
@@ -180,7 +180,7 @@ half_answer p s q met reads law starts searches =
     }
 
 -- no walk lives, and none will start
-pub over_answers : (p : ByteProgram) (s : Search) (q i : ℕ) (x : AutomatonState) (met : Option HalfFound) → IsByteProgram p → KeepingLaw → start_node (characters_of p) s.anchoring ≡ Some q → x.threads.threads ≡ [] → x.starting ≡ Never → HasReached p s q i x met
+pub over_answers : (p : ByteProgram) (s : Search) (q i : ℕ) (x : AutomatonState) (met : Option HalfFound) → IsByteProgram p → KeepingLaw → start_node (character_program p) s.anchoring ≡ Some q → x.threads.threads ≡ [] → x.starting ≡ Never → HasReached p s q i x met
     → IsHalfAnswer p s met
 over_answers p s q i x met reads law starts none never reached =
     half_answer p s q met reads law starts (search_over p s q i x.threads.threads met none (subst (λ z. StartsSo s q i z met) never reached.starts) reached.come)
@@ -191,7 +191,7 @@ thin_gone e (kept thins) = absurd (cc e)
 thin_gone e (left_out c thins) = absurd (cc e)
 
 -- the last place is passed by a step that reads nothing
-pub end_answers : Laws → (p : ByteProgram) (asked : AskedLooks) (s : Search) (q i : ℕ) (x y : AutomatonState) (ahead : Ahead) (met : Option HalfFound) → IsByteProgram p → KeepingLaw → start_node (characters_of p) s.anchoring ≡ Some q → AreAskedBy p.states asked
+pub end_answers : Laws → (p : ByteProgram) (asked : AskedLooks) (s : Search) (q i : ℕ) (x y : AutomatonState) (ahead : Ahead) (met : Option HalfFound) → IsByteProgram p → KeepingLaw → start_node (character_program p) s.anchoring ≡ Some q → AreAskedBy p.states asked
     → AreBare x.threads.threads → IsInside s i → i ≡ highest s → ahead.read ≡ None → IsBehind p asked s i x → IsAhead p asked s i ahead → IsStep (forward p) asked x ahead y → HasReached p s q i x met → IsHalfAnswer p s (met_after i y.ended met)
 end_answers laws p asked s q i x y ahead met reads law starts are bare inside last none behind here step reached =
     let on = place_passed laws p asked s q i x y ahead met are bare inside behind here step reached in

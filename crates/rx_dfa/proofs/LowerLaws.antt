@@ -27,12 +27,12 @@ last_character back k = ((λ e. last_stands back k e), (λ stands. stands_last b
 
 -- a search by walks that keep slots in place of notes finds what the program does
 pub keeping_law : KeepingLaw
-keeping_law put kept member is_word p step members keeps s q out starts searches =
+keeping_law keeping member is_word p step members s q out starts searches =
     let h = haystack_of (holds_in is_word p.line_terminator s) s in
-    let found : IsFind (over_characters put (first_by member) p.nodes h) (λ i. kept (fresh_notes i)) s q out =
-    find_from_finds (reads_whole put member p.nodes h)
-    (finds_unrefined q (bytes_refine put (first_by member) step p.nodes h members) (search_finds searches)) in
-    let own = find_noted_back {fresh = fresh_notes} (keeps_notes put kept (first_by member) p.nodes h keeps) found in
+    let found : IsFind (over_characters keeping.put (first_by member) p.nodes h) (λ i. keeping.kept (fresh_notes i)) s q out =
+    find_from_finds (reads_whole keeping.put member p.nodes h)
+    (finds_unrefined q (bytes_refine keeping.put (first_by member) step p.nodes h members) (search_finds searches)) in
+    let own = find_noted_back {fresh = fresh_notes} (keeps_notes keeping (first_by member) p.nodes h) found in
     (own.0, own.1, subst (λ x. IfStarts x (λ q'. IsFind (machine_of member is_word p s) fresh_notes s q') own.0) (sym starts) own.2)
 
 -- steps are alike at places that are, forward and back

@@ -17,7 +17,7 @@ use Rattle.rx_dfa.specs.Directions.{Directed}
 use Rattle.rx_dfa.specs.States.{ahead_of, IsStateOf, IsStep}
 use Rattle.rx_dfa.specs.Alphabets.{AlphabetView, TellsApart, ahead_at, ahead_in}
 use Rattle.rx_dfa.specs.Caches.{CacheView, HoldsSteps, LeadsTo, IsEntry, unknown, quit, plain, ends, over}
-use Rattle.rx_dfa.specs.Passing.{Passes, none, more, IsMetAt, IsNoted, Run, IsRunning, HasPassed}
+use Rattle.rx_dfa.specs.Passing.{Passes, none, more, IsMetAt, IsNoted, TableRun, IsRunning, HasPassed}
 use Rattle.rx_dfa.specs.Searching.{met_after}
 use Rattle.rx_dfa.specs.Automata.{IsAutomaton, directed}
 use Rattle.rx_dfa.proofs.StepLaws.{AlikeLaws, step_alike}
@@ -97,7 +97,7 @@ take_one bytes n b e =
 
 -- ---- a run through the table
 
-abbrev pub run_of : AutomatonState → List ℕ → ℕ → Option HalfFound → ℕ → Option PassedEnd → Run
+abbrev pub run_of : AutomatonState → List ℕ → ℕ → Option HalfFound → ℕ → Option PassedEnd → TableRun
 run_of x bytes i met row end = record { first = x; at = i; met = met; bytes = bytes; row = row; end = end }
 
 pub run_begun : (a : Automaton) (cache : CacheView) (x : AutomatonState) (first : ℕ) (bytes : List ℕ) (i : ℕ) (met : Option HalfFound) → slice_get cache.states first ≡ Some x → IsRunning a cache (run_of x (take 0 bytes) i met (first * cache.width) None)

@@ -28,7 +28,7 @@ use Rattle.rx_dfa.specs.Alphabets.{AlphabetView}
 use Rattle.rx_dfa.specs.Caches.{CacheView, HoldsSteps}
 use Rattle.rx_dfa.specs.Searching.{AreAskedBy, StartsSo, HasReached, IsBehind, IsHalfAnswer, byte_before}
 use Rattle.rx_dfa.specs.Passing as passing
-use Rattle.rx_dfa.specs.Passing.{Passes, HasPassed, StandThere, StandsAt, IsRefusal}
+use Rattle.rx_dfa.specs.Passing.{Passes, HasPassed, StandThere, SearchStandsAt, IsRefusal}
 use Rattle.rx_dfa.specs.Tables.{IsLack, IsRefusalAmong, IsRefusalBy, IsTable}
 use Rattle.rx_dfa.proofs.TableLaws.{there_is}
 use Rattle.rx_dfa.proofs.PassLaws.{passes_both, take_one}
@@ -157,7 +157,7 @@ first_there s i n bytes there = record {
 }
 
 pub stands_on : Laws → (a : Automaton) (s : Search) (q i n : ℕ) (bytes : List ℕ) (states states' : List AutomatonState) (number number' : ℕ) (met met' : Option HalfFound) → (directed a).is_back ≡ false → AreAskedBy (directed a).bytes.states a.alphabet.now.asked → a.alphabet.now.utf8_empty ≡ s.utf8_empty
-    → StandThere s i bytes → n ≤ length bytes → ((x : AutomatonState) → slice_get states number ≡ Some x → HasPassed a states' x (take n bytes) i met number' met') → StandsAt a s q i states number met → StandsAt a s q (i + n) states' number' met'
+    → StandThere s i bytes → n ≤ length bytes → ((x : AutomatonState) → slice_get states number ≡ Some x → HasPassed a states' x (take n bytes) i met number' met') → SearchStandsAt a s q i states number met → SearchStandsAt a s q (i + n) states' number' met'
 stands_on laws a s q i n bytes states states' number number' met met' way are same there le passed at =
     let on = passed at.state at.stands in
     let far : length (take n bytes) ≡ n = omega (arith, length-take n bytes, le) in

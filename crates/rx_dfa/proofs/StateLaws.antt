@@ -6,7 +6,7 @@ use Rattle.std.specs.HashMap.{HashMap, Updates, get}
 use Rattle.rx_steps.specs.Threads.{Thread}
 use Rattle.rx_dfa.specs.declared.states.AutomatonState.{AutomatonState}
 use Rattle.rx_dfa.specs.Hashes.{hash_of, mixed, side_number, starting_hash, with_end, with_nodes}
-use Rattle.rx_dfa.specs.Caches.{AreNumbered, IsNew, IsSameState, StandApart, counted, size_of, size_of_all}
+use Rattle.rx_dfa.specs.Caches.{AreNumbered, IsNewState, IsSameState, StandApart, counted, size_of, size_of_all}
 use Rattle.rx_dfa.proofs.ClassLaws.{below_or_not}
 
 -- ---- states that are the same
@@ -26,7 +26,7 @@ get_end (y ∷ xs) z x zero le e = absurd (omega (arith, le))
 get_end (y ∷ xs) z x (suc k) le e = let on = get_end xs z x k (omega (arith, le)) e in (ap suc on.0, on.1)
 
 -- a further state that is new stands apart too
-pub apart_more : (states : List AutomatonState) (z : AutomatonState) → StandApart states → IsNew states z → StandApart (states ++ z ∷ [])
+pub apart_more : (states : List AutomatonState) (z : AutomatonState) → StandApart states → IsNewState states z → StandApart (states ++ z ∷ [])
 apart_more states z apart new m n x y at_m at_n same = elim (below_or_not m (length states)) [
   | inl m_lt ↦
       let x_stands : slice_get states m ≡ Some x = sym (get_front states (z ∷ []) m m_lt) ∙ at_m in
@@ -47,7 +47,7 @@ apart_more states z apart new m n x y at_m at_n same = elim (below_or_not m (len
 pub apart_none : StandApart []
 apart_none m n x y at_m at_n same = absurd (cc at_m)
 
-pub new_in_none : (states : List AutomatonState) (x : AutomatonState) → states ≡ [] → IsNew states x
+pub new_in_none : (states : List AutomatonState) (x : AutomatonState) → states ≡ [] → IsNewState states x
 new_in_none states x e number y stands same = absurd (cc (sym (ap (λ xs. slice_get xs number) e) ∙ stands))
 
 -- ---- hashes
@@ -91,17 +91,8 @@ numbered_more states z before after value noted numbered number x stands = elim 
       subst IsSome (sym (noted.0 (hash_of x))) (some_here (hash_of z == hash_of x) (get ◌==◌ before (hash_of x)) value (eq-eqb (hash_of z) (hash_of x) (ap hash_of last.1)))
 ]
 
-pub numbered_same : {S : Type 0} (states : List AutomatonState) (before after : HashMap ℕ ℕ S) → after.entries ≡ before.entries → AreNumbered states before → AreNumbered states after
-numbered_same states before after e numbered number x stands = subst (λ (o : Option ℕ). IsSome o) (sym (same (hash_of x))) (numbered number x stands)
-  where
-    same : (q : ℕ) → get ◌==◌ after q ≡ get ◌==◌ before q
-    same q = cc e
-
-pub numbered_none : {S : Type 0} (states : List AutomatonState) (numbers : HashMap ℕ ℕ S) → states ≡ [] → AreNumbered states numbers
-numbered_none states numbers e number x stands = absurd (cc (sym (ap (λ xs. slice_get xs number) e) ∙ stands))
-
 -- where no number is under its hash a state is new
-pub unnumbered_new : {S : Type 0} (states : List AutomatonState) (numbers : HashMap ℕ ℕ S) (x : AutomatonState) → AreNumbered states numbers → get ◌==◌ numbers (hash_of x) ≡ None → IsNew states x
+pub unnumbered_new : {S : Type 0} (states : List AutomatonState) (numbers : HashMap ℕ ℕ S) (x : AutomatonState) → AreNumbered states numbers → get ◌==◌ numbers (hash_of x) ≡ None → IsNewState states x
 unnumbered_new states numbers x numbered none number y stands same =
     let is : IsSome (get ◌==◌ numbers (hash_of y)) = numbered number y stands in
     let gone : get ◌==◌ numbers (hash_of y) ≡ None = ap (λ q. get ◌==◌ numbers q) (same_hash x y same) ∙ none in
@@ -127,14 +118,6 @@ counted_sum top a b = elim (below_or_not top a) [
         let other : min b top ≡ b = min-eq_left {n = b} {m = top} fits in
         ap (λ n. min (n + min b top) top) one ∙ ap (λ n. min (a + n) top) other
   ]
-]
-
-pub counted_more : (top a b : ℕ) → min (min a top + b) top ≡ min (a + b) top
-counted_more top a b = elim (below_or_not top a) [
-  | inl above ↦
-      let full : min a top ≡ top = min-eq_right {n = top} {m = a} (omega (arith, above)) in
-      min-eq_right {n = top} {m = min a top + b} (omega (arith, full)) ∙ sym (min-eq_right {n = top} {m = a + b} (omega (arith, above)))
-  | inr within ↦ ap (λ n. min (n + b) top) (min-eq_left {n = a} {m = top} within)
 ]
 
 -- all states and a further one

@@ -13,7 +13,7 @@ use Rattle.rx_dfa.specs.declared.states.Starting.{Starting}
 use Rattle.rx_dfa.specs.States.{place_of_step, started, start_at, starting_after, IsFirstState, IsStateOf, IsStep}
 use Rattle.rx_steps.specs.Nodes.{widths_of}
 use Rattle.rx_dfa.specs.Alphabets.{AlphabetView, column_count, ahead_in}
-use Rattle.rx_dfa.specs.Caches.{CacheView, LeadsTo, IsEntry, unknown, quit, plain, ends, over, IsEntryTo, unknown_to, plain_to, ends_to, over_to, AreEntries, HasFirst, HoldsSteps, IsBare, IsBounded, IsCacheOf, IsNew, IsSameState, KeepNumbers, StandApart, counted, size_of, size_of_all, used_with}
+use Rattle.rx_dfa.specs.Caches.{CacheView, LeadsTo, IsEntry, unknown, quit, plain, ends, over, IsEntryTo, unknown_to, plain_to, ends_to, over_to, AreEntries, HasFirst, HoldsSteps, IsWithinCapacity, IsCacheOf, IsNewState, IsSameState, KeepNumbers, StandApart, counted, size_of, size_of_all, used_with}
 use Rattle.rx_dfa.proofs.ClassLaws.{below_or_not, same_or_not}
 use Rattle.rx_dfa.proofs.StateLaws.{apart_more, apart_none, get_front, used_more}
 
@@ -119,7 +119,7 @@ entries_more p alphabet w states table z rows entries number column entry x stan
       unknown (get_repeated w 4294967295 behind.0 entry (sym behind.1 ∙ is))
 ]
 
-pub cache_more : (p : Directed) (alphabet : AlphabetView) (cache after : CacheView) (z : AutomatonState) → HoldsSteps p alphabet cache → IsStateOf p z → IsNew cache.states z → after.table ≡ cache.table ++ replicate cache.width 4294967295 → after.states ≡ cache.states ++ z ∷ []
+pub cache_more : (p : Directed) (alphabet : AlphabetView) (cache after : CacheView) (z : AutomatonState) → HoldsSteps p alphabet cache → IsStateOf p z → IsNewState cache.states z → after.table ≡ cache.table ++ replicate cache.width 4294967295 → after.states ≡ cache.states ++ z ∷ []
     → after.widths ≡ cache.widths → after.width ≡ cache.width → after.used ≡ used_with cache z → HoldsSteps p alphabet after
 cache_more p alphabet cache after z made state new table states widths width used = record {
   widths = widths ∙ made.widths;
@@ -168,19 +168,19 @@ cache_empty p alphabet cache after made widths width table states used = cache_n
 
 -- ---- how many states are kept
 
-pub none_bounded : (capacity : ℕ) (cache : CacheView) → cache.states ≡ [] → IsBounded capacity cache
+pub none_bounded : (capacity : ℕ) (cache : CacheView) → cache.states ≡ [] → IsWithinCapacity capacity cache
 none_bounded capacity cache e = inl (omega (arith, ap (λ (xs : List AutomatonState). length xs) e))
 
 -- beside one state there is room for another one
-pub more_bounded : (capacity : ℕ) (before after : CacheView) (z : AutomatonState) → after.states ≡ before.states ++ z ∷ [] → after.used ≡ used_with before z → (length before.states < 2) ⊎ (used_with before z ≤ capacity) → IsBounded capacity after
+pub more_bounded : (capacity : ℕ) (before after : CacheView) (z : AutomatonState) → after.states ≡ before.states ++ z ∷ [] → after.used ≡ used_with before z → (length before.states < 2) ⊎ (used_with before z ≤ capacity) → IsWithinCapacity capacity after
 more_bounded capacity before after z states used (inl few) = inl (omega (arith, few, ap (λ (xs : List AutomatonState). length xs) states, length-append before.states (z ∷ [])))
 more_bounded capacity before after z states used (inr fits) = inr (omega (arith, fits, used))
 
 -- a single one
-pub one_bounded : (capacity : ℕ) (before after : CacheView) (z : AutomatonState) → before.states ≡ [] → after.states ≡ before.states ++ z ∷ [] → IsBounded capacity after
+pub one_bounded : (capacity : ℕ) (before after : CacheView) (z : AutomatonState) → before.states ≡ [] → after.states ≡ before.states ++ z ∷ [] → IsWithinCapacity capacity after
 one_bounded capacity before after z none states = inl (omega (arith, ap (λ (xs : List AutomatonState). length xs) none, ap (λ (xs : List AutomatonState). length xs) states, length-append before.states (z ∷ [])))
 
-pub same_bounded : (capacity : ℕ) (before after : CacheView) → after.states ≡ before.states → after.used ≡ before.used → IsBounded capacity before → IsBounded capacity after
+pub same_bounded : (capacity : ℕ) (before after : CacheView) → after.states ≡ before.states → after.used ≡ before.used → IsWithinCapacity capacity before → IsWithinCapacity capacity after
 same_bounded capacity before after states used (inl few) = inl (omega (arith, few, ap (λ (xs : List AutomatonState). length xs) states))
 same_bounded capacity before after states used (inr fits) = inr (omega (arith, fits, used))
 
@@ -261,9 +261,6 @@ entry_steps p alphabet w states x ahead entry at known goes plain_at ends_at ove
 entry_steps p alphabet w states x ahead entry at known goes plain_at ends_at over_at (ends {number} to e below some) = subst (λ k. LeadsTo p alphabet states x ahead k) (sym (ends_at number e below)) to
 entry_steps p alphabet w states x ahead entry at known goes plain_at ends_at over_at (over {number} to e below) = subst (λ k. LeadsTo p alphabet states x ahead k) (sym (over_at number e)) to
 
-pub all_bare : (p : Directed) (states : List AutomatonState) → All (IsStateOf p) states → All IsBare states
-all_bare p states all = λ k d lt. (all k d lt).bare
-
 pub found_new : (states : List AutomatonState) (z : AutomatonState) (number : ℕ) → slice_get states number ≡ Some z → (x : AutomatonState) × (slice_get states number ≡ Some x) × IsSameState z x
 found_new states z number e = (z, e, record { threads = refl; starting = refl; behind = refl; ended = refl })
 
@@ -301,11 +298,3 @@ pub step_set : (p : Directed) (alphabet : AlphabetView) (cache after : CacheView
     → after.table ≡ set cache.table (number * cache.width + column) entry → after.states ≡ cache.states → after.widths ≡ cache.widths → after.width ≡ cache.width → after.used ≡ cache.used → HoldsSteps p alphabet after
 step_set p alphabet cache after number column next entry x made stands in_row to is_to table states widths width used =
     cache_set p alphabet cache after number column entry x made stands in_row (entry_right p alphabet cache.width cache.states x (ahead_in alphabet column) next entry to (is_to to.next to.stands)) table states widths width used
-
--- before what stands there a search can't go on
-pub entry_quits : (p : Directed) (alphabet : AlphabetView) (w : ℕ) (states : List AutomatonState) (x : AutomatonState) (ahead : Ahead) (entry : ℕ) → entry ≡ 4294967294 → IsEntry p alphabet w states x ahead entry → quits alphabet.asked ahead.seen ≡ true
-entry_quits p alphabet w states x ahead entry is (unknown e) = absurd (omega (arith, is, e))
-entry_quits p alphabet w states x ahead entry is (quit e told) = told
-entry_quits p alphabet w states x ahead entry is (plain to e below none) = absurd (omega (arith, is, below))
-entry_quits p alphabet w states x ahead entry is (ends to e below some) = absurd (omega (arith, is, below))
-entry_quits p alphabet w states x ahead entry is (over to e below) = absurd (omega (arith, is, below))

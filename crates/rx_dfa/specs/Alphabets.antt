@@ -2,7 +2,7 @@
 use Rattle.std.specs.Prelude.{◌≡◌, ℕ, ◌+◌, ◌==◌, Bool, false, Option, None, Some, length, slice_get}
 use Rattle.rx_program.specs.Programs.{ByteProgram, IsByteProgram}
 use Rattle.rx_program.specs.Reversed.{IsReverseByteProgram, ReverseByteProgram}
-use Rattle.rx_steps.specs.Reversed.{bytes_of}
+use Rattle.rx_steps.specs.Reversed.{byte_program_of}
 use Rattle.rx_steps.specs.declared.asked.AskedLooks.{AskedLooks}
 use Rattle.rx_dfa.specs.declared.states.Ahead.{Ahead}
 use Rattle.rx_dfa.specs.Classes.{ByteClassesView, AreClassesOf}
@@ -31,7 +31,7 @@ pub record IsAlphabetOf (p : ByteProgram) (alphabet : AlphabetView) : Type 0 whe
 -- last byte back; a walk may start inside a character
 pub record IsAlphabetBack (turned : ReverseByteProgram) (alphabet : AlphabetView) : Type 0 where
   pub reads : IsReverseByteProgram turned
-  pub tells : TellsApart (bytes_of turned) alphabet
+  pub tells : TellsApart (byte_program_of turned) alphabet
   pub utf8_empty : alphabet.utf8_empty ≡ false
 
 -- the columns of a table are the classes, and behind them two for the end of the slice: where a

@@ -83,8 +83,8 @@ pub record IsSameState (x y : AutomatonState) : Type 0 where
   pub ended : y.ended ≡ x.ended
 
 -- none of the states is the same as this one
-abbrev pub IsNew : List AutomatonState → AutomatonState → Type 0
-IsNew states x = (number : ℕ) (y : AutomatonState) → slice_get states number ≡ Some y
+abbrev pub IsNewState : List AutomatonState → AutomatonState → Type 0
+IsNewState states x = (number : ℕ) (y : AutomatonState) → slice_get states number ≡ Some y
     → IsSameState x y → ⊥
 
 -- no two of the states are the same
@@ -124,13 +124,13 @@ pub record HoldsSteps (p : Directed) (alphabet : AlphabetView) (cache : CacheVie
   pub used : cache.used ≡ size_of_all cache.width cache.states
 
 -- it has two states, or takes no more room than it may
-abbrev pub IsBounded : ℕ → CacheView → Type 0
-IsBounded capacity cache = (length cache.states ≤ 2) ⊎ (cache.used ≤ capacity)
+abbrev pub IsWithinCapacity : ℕ → CacheView → Type 0
+IsWithinCapacity capacity cache = (length cache.states ≤ 2) ⊎ (cache.used ≤ capacity)
 
 -- a cache for searches by an automaton of a program
 pub record IsCacheOf (p : Directed) (alphabet : AlphabetView) (cache : CacheView) : Type 0 where
   pub steps : HoldsSteps p alphabet cache
-  pub bounded : IsBounded alphabet.capacity cache
+  pub bounded : IsWithinCapacity alphabet.capacity cache
 
 -- a search gives up only once all states were taken out so often for it
 abbrev pub GivesUpLate : CacheView → MatchError → Type 0

@@ -4,7 +4,7 @@ use Rattle.rx_util.specs.declared.search.MatchError.{MatchError}
 use Rattle.rx_util.specs.declared.search.MatchError.TheVariants as error
 use Rattle.rx_walks.specs.Finds.{Anchoring, Search}
 use Rattle.rx_walks.specs.ProgramFinds.{start_node}
-use Rattle.rx_program.specs.Programs.{characters_of}
+use Rattle.rx_program.specs.Programs.{character_program}
 use Rattle.rx_steps.specs.declared.asked.AskedLooks.{AskedLooks}
 use Rattle.rx_dfa.specs.declared.cache.TheConstants.{ENDS, UNKNOWN}
 use Rattle.rx_dfa.specs.declared.states.AutomatonState.{AutomatonState}
@@ -44,14 +44,14 @@ abbrev pub HasOneFirst : List AutomatonState → Starting → Behind → Type 0
 HasOneFirst states starting behind = (number : ℕ) × HasFirst states starting behind number
 
 -- so may walks of a search start from this state of the program; back they start once
-abbrev pub StartsFrom : Bool → ℕ → Starting → Type 0
-StartsFrom is_back q Never = is_back ≡ false
-StartsFrom is_back q (Once r) = r ≡ q
-StartsFrom is_back q (Always r) = (is_back ≡ false) × (r ≡ q)
+abbrev pub WalksStartFrom : Bool → ℕ → Starting → Type 0
+WalksStartFrom is_back q Never = is_back ≡ false
+WalksStartFrom is_back q (Once r) = r ≡ q
+WalksStartFrom is_back q (Always r) = (is_back ≡ false) × (r ≡ q)
 
 -- however they start, where this stands before
 abbrev pub HasStarts : Bool → List AutomatonState → ℕ → Behind → Type 0
-HasStarts is_back states q behind = (starting : Starting) → StartsFrom is_back q starting
+HasStarts is_back states q behind = (starting : Starting) → WalksStartFrom is_back q starting
     → HasOneFirst states starting behind
 
 -- this is none, or a byte
@@ -67,7 +67,7 @@ HasStartsFrom p alphabet states q = (byte : Option ℕ) → MayBeByte byte
 -- from wherever walks of a search start
 abbrev pub HasAllStarts : Directed → AlphabetView → List AutomatonState → Type 0
 HasAllStarts p alphabet states = (anchoring : Anchoring) (q : ℕ)
-    → start_node (characters_of p.bytes) anchoring ≡ Some q → HasStartsFrom p alphabet states q
+    → start_node (character_program p.bytes) anchoring ≡ Some q → HasStartsFrom p alphabet states q
 
 -- the states in which searches begin are there, and of each state each entry is known
 pub record IsClosedOf (p : Directed) (alphabet : AlphabetView) (cache : CacheView) : Type 0 where

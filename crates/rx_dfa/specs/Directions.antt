@@ -8,7 +8,7 @@ use Rattle.rx_steps.specs.declared.place.Place.{Place}
 use Rattle.rx_steps.specs.Threads.{Slots, Thread}
 use Rattle.rx_steps.specs.Lists.{IsNextList}
 use Rattle.rx_steps.specs.ListsAll.{nodes_of}
-use Rattle.rx_steps.specs.Reversed.{IsNextListBack, bytes_of}
+use Rattle.rx_steps.specs.Reversed.{IsNextListBack, byte_program_of}
 
 -- a program, and whether it is one turned round, whose walks read backwards
 pub record Directed : Type 0 where
@@ -19,7 +19,7 @@ abbrev pub forward : ByteProgram → Directed
 forward p = record { bytes = p; is_back = false }
 
 abbrev pub backward : ReverseByteProgram → Directed
-backward turned = record { bytes = bytes_of turned; is_back = true }
+backward turned = record { bytes = byte_program_of turned; is_back = true }
 
 -- the looks of a place whose sides have changed places
 abbrev pub turned_looks : Looks → Looks

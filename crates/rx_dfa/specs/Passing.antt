@@ -56,7 +56,7 @@ IsNoted width states met (Some end) last = IsMetAt width states end.row end.at l
 
 -- a run through a table: from this state, place and last end on these bytes were followed, to the
 -- state of this row, and this end was noted on the way
-pub record Run : Type 0 where
+pub record TableRun : Type 0 where
   pub first : AutomatonState
   pub at : ℕ
   pub met : Option HalfFound
@@ -65,7 +65,7 @@ pub record Run : Type 0 where
   pub end : Option PassedEnd
 
 -- the bytes lead to the row, and the end is the last one
-pub record IsRunning (a : Automaton) (table : CacheView) (run : Run) : Type 0 where
+pub record IsRunning (a : Automaton) (table : CacheView) (run : TableRun) : Type 0 where
   pub number : ℕ
   pub next : AutomatonState
   pub last : Option HalfFound
@@ -83,14 +83,14 @@ pub record HasPassed (a : Automaton) (states : List AutomatonState) (x : Automat
   pub passes : Passes a bytes i x met next met'
 
 -- no walk lives, and none will start
-pub record IsOverAt (states : List AutomatonState) (number : ℕ) : Type 0 where
+pub record IsDeadState (states : List AutomatonState) (number : ℕ) : Type 0 where
   pub last : AutomatonState
   pub stands : slice_get states number ≡ Some last
   pub threads : last.threads.threads ≡ []
   pub starting : last.starting ≡ Never
 
 -- a search stands at a place, at the state with this number, with this end met last
-pub record StandsAt (a : Automaton) (s : Search) (q i : ℕ) (states : List AutomatonState)
+pub record SearchStandsAt (a : Automaton) (s : Search) (q i : ℕ) (states : List AutomatonState)
     (number : ℕ) (met : Option HalfFound) : Type 0 where
   pub state : AutomatonState
   pub stands : slice_get states number ≡ Some state

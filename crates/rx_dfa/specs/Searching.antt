@@ -4,14 +4,14 @@ use Rattle.std.specs.Str.{IsCharBoundary}
 use Rattle.unicode.specs.Perl.{is_word_char}
 use Rattle.rx_util.specs.Search.{HalfFound}
 use Rattle.rx_walks.specs.Finds.{Search, is_anchored}
-use Rattle.rx_walks.specs.Laws.{Begins}
+use Rattle.rx_walks.specs.Laws.{MayBegin}
 use Rattle.rx_walks.specs.Looks.{asks_characters}
 use Rattle.rx_walks.specs.Machines.{Outcome}
 use Rattle.rx_walks.specs.Programs.{Notes, left_from}
 use Rattle.rx_walks.specs.ProgramFinds.{ProgramFinds, before_in, after_in}
 use Rattle.rx_utf8.specs.Automata.{is_in}
 use Rattle.rx_program.specs.declared.states.State.{State}
-use Rattle.rx_program.specs.Programs.{ByteProgram, characters_of}
+use Rattle.rx_program.specs.Programs.{ByteProgram, character_program}
 use Rattle.rx_steps.specs.declared.asked.AskedLooks.{AskedLooks}
 use Rattle.rx_steps.specs.Threads.{Slots}
 use Rattle.rx_steps.specs.Asked.{AsksSome, is_look, is_of_lines}
@@ -40,7 +40,7 @@ met_after i (Some k) met = Some (record { pattern = k; offset = i })
 
 -- from this place on walks start as it says
 abbrev pub StartsSo : Search → ℕ → ℕ → Starting → Option HalfFound → Type 0
-StartsSo s q i Never met = met ≡ None → (j : ℕ) → i ≤ j → Begins s j → ⊥
+StartsSo s q i Never met = met ≡ None → (j : ℕ) → i ≤ j → MayBegin s j → ⊥
 StartsSo s q i (Once r) met =
     (r ≡ q) × (met ≡ None) × IsTrue (is_anchored s.anchoring) × (i ≡ s.start)
 StartsSo s q i (Always r) met = (r ≡ q) × (met ≡ None) × (is_anchored s.anchoring ≡ false)
@@ -76,5 +76,5 @@ pub record IsAhead (p : ByteProgram) (asked : AskedLooks) (s : Search) (i : ℕ)
 -- what a search answers: pattern and end of what the program finds
 pub record IsHalfAnswer (p : ByteProgram) (s : Search) (met : Option HalfFound) : Type 0 where
   pub found : Option (Outcome Notes)
-  pub finds : ProgramFinds is_in is_word_char (characters_of p) s found
+  pub finds : ProgramFinds is_in is_word_char (character_program p) s found
   pub met_is : met ≡ option_map (λ t. record { pattern = t.pattern; offset = t.end }) found

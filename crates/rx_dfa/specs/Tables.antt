@@ -4,7 +4,7 @@ use Rattle.rx_util.specs.declared.search.MatchError.{MatchError}
 use Rattle.rx_util.specs.declared.search.MatchError.TheVariants as error
 use Rattle.rx_walks.specs.Finds.{Anchoring, Search}
 use Rattle.rx_walks.specs.ProgramFinds.{start_node}
-use Rattle.rx_program.specs.Programs.{characters_of}
+use Rattle.rx_program.specs.Programs.{character_program}
 use Rattle.rx_dfa.specs.declared.automaton.Automaton.{Automaton}
 use Rattle.rx_dfa.specs.declared.behind.Behind.{Behind}
 use Rattle.rx_dfa.specs.declared.states.AutomatonState.{AutomatonState}
@@ -14,7 +14,7 @@ use Rattle.rx_dfa.specs.Alphabets.{ahead_in}
 use Rattle.rx_dfa.specs.Automata.{directed}
 use Rattle.rx_dfa.specs.Caches as caches
 use Rattle.rx_dfa.specs.Caches.{CacheView, HoldsSteps, IsCacheOf}
-use Rattle.rx_dfa.specs.DenseTables.{IsClosedOf, IsQuit, MayBeByte, StartsFrom}
+use Rattle.rx_dfa.specs.DenseTables.{IsClosedOf, IsQuit, MayBeByte, WalksStartFrom}
 use Rattle.rx_dfa.specs.Passing.{IsRefusal}
 
 -- what is known of an automaton's states and steps
@@ -39,8 +39,8 @@ HasStepped a states x column next =
 pub record IsBeginning (a : Automaton) (starting : Starting) (behind : Behind) : Type 0 where
   pub anchoring : Anchoring
   pub start : ℕ
-  pub starts : start_node (characters_of (directed a).bytes) anchoring ≡ Some start
-  pub starting_is : StartsFrom (directed a).is_back start starting
+  pub starts : start_node (character_program (directed a).bytes) anchoring ≡ Some start
+  pub starting_is : WalksStartFrom (directed a).is_back start starting
   pub byte : Option ℕ
   pub may_be : MayBeByte byte
   pub behind_is : behind ≡ behind_of a.alphabet.now.asked (directed a).bytes.line_terminator byte

@@ -2,13 +2,13 @@
 //! counted from there, and bytes are turned round, so that the loop over them is the one that
 //! searches forward.
 
-ghost use Rattle.std.specs.Prelude.{◌≡◌, ◌-◌, ◌<◌, ◌≤◌, ℕ, Bool, IsTrue, true, false, None, Some, get_or, length, min, option_map, slice_get, take, IfErr, IfOk, OnOk};
+ghost use Rattle.std.specs.Prelude.{◌≡◌, ◌-◌, ◌<◌, ◌≤◌, ℕ, Bool, IsTrue, true, false, None, Some, get_or, length, min, take, IfErr, IfOk, OnOk};
 ghost use Rattle.rx_util.specs.declared.search.MatchError.{MatchError};
 ghost use Rattle.rx_walks.specs.Finds.{IsInside, Search, is_anchored};
 ghost use Rattle.rx_walks.specs.ProgramFinds.{lowest, start_node};
 ghost use Rattle.rx_input.specs.Cursors.{IsSameContent};
 ghost use Rattle.rx_input.specs.Inputs.{IsMoved};
-ghost use Rattle.rx_program.specs.Programs.{ByteProgram, characters_of};
+ghost use Rattle.rx_program.specs.Programs.{ByteProgram, character_program};
 ghost use Rattle.rx_program.specs.Reversed.{IsReverseByteProgram};
 ghost use Rattle.rx_steps.specs.Reversed.{IsHalfAnswerBack, IsReverseOf};
 ghost use Rattle.rx_steps.specs.Searching.{anchoring_of, search_of};
@@ -264,7 +264,7 @@ fn begin_back<T: Table, C: Cursor>(
 ) -> Result<Option<HalfMatch>, MatchError>
     requires back { ReadsBack automaton.now }
     requires table { IsTable T.is_whole automaton.now (T.shown table.old) }
-    requires start { start_node (characters_of (directed automaton.now).bytes)
+    requires start { start_node (character_program (directed automaton.now).bytes)
         (anchoring_of input.old.asked.anchored) ≡ Some start }
     requires inside { (utf8_empty : Bool)
         → IsInside (search_of utf8_empty input.old) input.old.position }

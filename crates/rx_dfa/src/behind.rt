@@ -3,7 +3,7 @@
 ghost use Rattle.std.specs.Prelude.{◌≡◌, ◌<◌, true, false, Some, None, IfSome};
 ghost use Rattle.rx_dfa.specs.DenseTables.{MayBeByte};
 ghost use Rattle.rx_dfa.specs.Hashes.{side_number};
-ghost use Rattle.rx_dfa.specs.Behind.{is_word_ascii, behind_of, looks_of, quits, ends_line_at, is_word_at, starts_line, was_word, is_start, is_end};
+ghost use Rattle.rx_dfa.specs.Behind.{is_word_ascii, behind_of, looks_of, quits, starts_line, was_word, is_start};
 
 use rx_steps::{AskedLooks, Looks};
 use unicode::perl::is_word_code;

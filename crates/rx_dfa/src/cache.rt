@@ -5,7 +5,7 @@ ghost use Rattle.rx_util.specs.declared.search.MatchError.{MatchError};
 ghost use Rattle.rx_dfa.specs.declared.states.AutomatonState.{AutomatonState};
 ghost use Rattle.rx_dfa.specs.Alphabets.{column_count};
 ghost use Rattle.rx_dfa.specs.Automata.{directed, directed_by};
-ghost use Rattle.rx_dfa.specs.Caches.{GivesUpLate, HasFirst, IsBare, IsCacheOf, IsEntryTo, IsNew, IsSameState, KeepNumbers, counted, size_of, size_of_parts, used_with};
+ghost use Rattle.rx_dfa.specs.Caches.{GivesUpLate, HasFirst, IsBare, IsCacheOf, IsEntryTo, IsNewState, IsSameState, KeepNumbers, counted, size_of, size_of_parts, used_with};
 ghost use Rattle.rx_dfa.specs.DenseTables.{HasOneFirst};
 ghost use Rattle.rx_dfa.specs.Directions.{backward, forward};
 ghost use Rattle.rx_dfa.specs.States.{IsFirstState, IsStateOf, IsStep};
@@ -259,7 +259,7 @@ impl Cache {
         requires state { IsBare state.now }
         ensures some { IfSome result (λ number. (x : AutomatonState)
             × (slice_get self.now.states number ≡ Some x) × IsSameState state.now x) }
-        ensures none { result ≡ None → IsNew self.now.states state.now }
+        ensures none { result ≡ None → IsNewState self.now.states state.now }
     {
         for number in 0..self.states.len() {
             if self.is_at(number, state) {
@@ -276,7 +276,7 @@ impl Cache {
         requires state { IsBare state.now }
         ensures some { IfSome result (λ number. (x : AutomatonState)
             × (slice_get self.now.states number ≡ Some x) × IsSameState state.now x) }
-        ensures none { result ≡ None → IsNew self.now.states state.now }
+        ensures none { result ≡ None → IsNewState self.now.states state.now }
     {
         let number = *self.numbers.get(&state.hash())?;
         if self.is_at(number, state) {
@@ -329,7 +329,7 @@ impl Cache {
     ) -> Result<usize, MatchError>
         requires made { HoldsBy automaton.now self.old }
         requires state { IsStateOf (directed automaton.now) state }
-        requires is_new { IsNew self.old.states state }
+        requires is_new { IsNewState self.old.states state }
         ensures made { HoldsBy automaton.now self.new }
         ensures number { IfOk result (λ number.
             slice_get self.new.states number ≡ Some state) }

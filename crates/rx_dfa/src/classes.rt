@@ -1,8 +1,8 @@
 //! Classes of bytes that are alike to a program.
 
-ghost use Rattle.std.specs.Prelude.{◌≡◌, ℕ, ◌+◌, ◌-◌, ◌<◌, ◌≤◌, length, map, slice_get, All, IfOk, true, false};
+ghost use Rattle.std.specs.Prelude.{◌≡◌, ◌+◌, ◌-◌, ◌<◌, length, map, slice_get, All, IfOk, true, false};
 ghost use Rattle.unicode.specs.Perl.{is_word_char};
-ghost use Rattle.rx_steps.specs.Reversed.{bytes_of, state_of};
+ghost use Rattle.rx_steps.specs.Reversed.{byte_program_of, state_of};
 ghost use Rattle.rx_dfa.specs.Classes.{HasCut, HasMoreCuts, RowIsCut, AutomatonIsCut, StateIsCut, WordsAreCut, LooksAreCut, AreClasses, AreClassesOf, class_of};
 
 use rx_program::{Program, ReverseProgram, ReverseState, State};
@@ -205,7 +205,7 @@ impl ByteClasses {
         reverse: &ReverseProgram,
         asked: AskedLooks,
     ) -> Result<ByteClasses, AllocError>
-        ensures { IfOk result (AreClassesOf (bytes_of reverse.now) asked) }
+        ensures { IfOk result (AreClassesOf (byte_program_of reverse.now) asked) }
     {
         let cuts = cuts_of_back(reverse, asked);
         let classes = ByteClasses::between(alloc, &cuts)?;

@@ -1,6 +1,6 @@
 //! Automata all of whose states and steps are made at once. A search takes no memory.
 
-ghost use Rattle.std.specs.Prelude.{◌≡◌, ◌<◌, ◌≤◌, true, Some, length, slice_get, IfSome, IfOk, IfErr, IsTrue, OnOk};
+ghost use Rattle.std.specs.Prelude.{◌≡◌, ◌<◌, true, Some, length, slice_get, IfSome, IfOk, IfErr, IsTrue, OnOk};
 ghost use Rattle.rx_input.specs.Cursors.{IsSameContent};
 ghost use Rattle.rx_walks.specs.Finds.{is_anchored};
 ghost use Rattle.rx_program.specs.Programs.{ByteProgram};

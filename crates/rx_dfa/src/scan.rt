@@ -6,7 +6,7 @@ ghost use Rattle.rx_dfa.specs.declared.scan.PassedEnd.{PassedEnd};
 ghost use Rattle.rx_dfa.specs.declared.states.AutomatonState.{AutomatonState};
 ghost use Rattle.rx_dfa.specs.Caches.{GivesUpLate};
 ghost use Rattle.rx_dfa.specs.Searching.{met_after};
-ghost use Rattle.rx_dfa.specs.Passing.{HasPassed, IsNoted, IsOverAt};
+ghost use Rattle.rx_dfa.specs.Passing.{HasPassed, IsNoted, IsDeadState};
 ghost use Rattle.rx_dfa.specs.Automata.{IsAutomaton};
 ghost use Rattle.rx_dfa.specs.Tables.{HoldsBy, IsRefusalAmong, IsTable};
 
@@ -107,7 +107,7 @@ impl Cache {
     /// Whether no walk lives at a state, and none will start.
     pub(crate) fn is_over(&self, number: usize) -> bool
         requires { number < length self.now.states }
-        ensures { result ≡ true → IsOverAt self.now.states number }
+        ensures { result ≡ true → IsDeadState self.now.states number }
     {
         self.states[number].is_over()
     }

@@ -6,7 +6,7 @@ ghost use Rattle.rx_walks.specs.Finds.{IsInside};
 ghost use Rattle.rx_walks.specs.ProgramFinds.{start_node, lowest, highest};
 ghost use Rattle.rx_input.specs.Cursors.{IsSameContent};
 ghost use Rattle.rx_input.specs.Inputs.{IsMoved};
-ghost use Rattle.rx_program.specs.Programs.{IsByteProgram, characters_of};
+ghost use Rattle.rx_program.specs.Programs.{IsByteProgram, character_program};
 ghost use Rattle.rx_steps.specs.Searching.{search_of, anchoring_of};
 ghost use Rattle.rx_dfa.specs.Automata.{IsAutomaton, ReadsForward, directed};
 ghost use Rattle.rx_dfa.specs.declared.states.AutomatonState.{AutomatonState};
@@ -16,7 +16,7 @@ ghost use Rattle.rx_dfa.specs.States.{EndsSo};
 ghost use Rattle.rx_dfa.specs.Classes.{class_of};
 ghost use Rattle.rx_dfa.specs.Alphabets.{IsAlphabetOf, ahead_in, column_count};
 ghost use Rattle.rx_dfa.specs.Caches.{GivesUpLate, IsCacheOf};
-ghost use Rattle.rx_dfa.specs.Passing.{IsLastColumn, StandThere, StandsAt, IsRefusal, search_by};
+ghost use Rattle.rx_dfa.specs.Passing.{IsLastColumn, StandThere, SearchStandsAt, IsRefusal, search_by};
 ghost use Rattle.rx_dfa.specs.Searching.{StartsSo, IsHalfAnswer, byte_before, byte_after};
 ghost use Rattle.rx_dfa.specs.Tables.{IsLack, IsRefusalBy, IsTable};
 
@@ -180,9 +180,9 @@ fn pass_piece<T: Table, C: Cursor>(
     ensures table { IsTable T.is_whole automaton.now (T.shown table.new) }
     ensures number { IfOk result (λ next. next < length (T.shown table.new).states) }
     ensures stands { IfOk result (λ next. (q : ℕ)
-        → StandsAt automaton.now (search_by automaton.now input.old) q
+        → SearchStandsAt automaton.now (search_by automaton.now input.old) q
         input.old.position (T.shown table.old).states number met.old
-        → StandsAt automaton.now (search_by automaton.now input.old) q
+        → SearchStandsAt automaton.now (search_by automaton.now input.old) q
         input.new.position (T.shown table.new).states next met.new) }
     ensures inside { OnOk result
         (IsInside (search_by automaton.now input.old) input.new.position) }
@@ -248,9 +248,9 @@ fn finish<T: Table, C: Cursor>(
     requires last { input.now.position ≡ highest (search_by automaton.now input.now) }
     ensures table { IsTable T.is_whole automaton.now (T.shown table.new) }
     ensures answer { IfOk result (λ found. (q : ℕ)
-        → start_node (characters_of (directed automaton.now).bytes)
+        → start_node (character_program (directed automaton.now).bytes)
         (anchoring_of input.now.asked.anchored) ≡ Some q
-        → StandsAt automaton.now (search_by automaton.now input.now) q
+        → SearchStandsAt automaton.now (search_by automaton.now input.now) q
         input.now.position (T.shown table.old).states number met
         → IsHalfAnswer (directed automaton.now).bytes (search_by automaton.now input.now) found) }
     ensures refused { IfErr result
@@ -283,9 +283,9 @@ fn follow<T: Table, C: Cursor>(
     requires inside { IsInside (search_by automaton.now input.old) input.old.position }
     ensures table { IsTable T.is_whole automaton.now (T.shown table.new) }
     ensures answer { IfOk result (λ found. (q : ℕ)
-        → start_node (characters_of (directed automaton.now).bytes)
+        → start_node (character_program (directed automaton.now).bytes)
         (anchoring_of input.old.asked.anchored) ≡ Some q
-        → StandsAt automaton.now (search_by automaton.now input.old) q
+        → SearchStandsAt automaton.now (search_by automaton.now input.old) q
         input.old.position (T.shown table.old).states first None
         → IsHalfAnswer (directed automaton.now).bytes (search_by automaton.now input.old) found) }
     ensures same { IsSameContent input.old.cursor input.new.cursor }
@@ -317,7 +317,7 @@ fn start<T: Table, C: Cursor>(
     requires is { IsAutomaton automaton.now }
     requires forward { ReadsForward automaton.now }
     requires table { IsTable T.is_whole automaton.now (T.shown table.old) }
-    requires start { start_node (characters_of (directed automaton.now).bytes)
+    requires start { start_node (character_program (directed automaton.now).bytes)
         (anchoring_of input.old.asked.anchored) ≡ Some start }
     requires inside { IsInside (search_by automaton.now input.old) input.old.position }
     requires first { input.old.position ≡ lowest (search_by automaton.now input.old) }

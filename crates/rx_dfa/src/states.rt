@@ -3,7 +3,6 @@
 ghost use Rattle.std.specs.Prelude.{◌≡◌, false, true, [], IfOk};
 ghost use Rattle.rx_dfa.specs.declared.states.Starting.TheVariants.{Never};
 ghost use Rattle.rx_steps.specs.Alike.{AreBare};
-ghost use Rattle.rx_dfa.specs.Classes.{continues};
 ghost use Rattle.rx_dfa.specs.Caches.{IsSameState};
 ghost use Rattle.rx_dfa.specs.Hashes.{hash_of, mixed, starting_hash, with_end, with_nodes};
 ghost use Rattle.rx_dfa.specs.Searching.{met_after};

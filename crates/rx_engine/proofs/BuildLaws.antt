@@ -7,7 +7,7 @@ use Rattle.rx_util.specs.declared.search.MatchKind.{MatchKind}
 use Rattle.rx_util.specs.declared.search.MatchKind.TheVariants.{LeftmostFirst}
 use Rattle.rx_util.specs.declared.captures.WhichCaptures.{WhichCaptures}
 use Rattle.rx_util.specs.declared.captures.WhichCaptures.TheVariants as which
-use Rattle.rx_util.specs.Groups.{Groups, slot_len}
+use Rattle.rx_util.specs.Groups.{GroupNames, slot_len}
 use Rattle.rx_util.specs.Captured.{Captured, nothing_noted}
 use Rattle.rx_grammar.specs.declared.error.SyntaxError.{SyntaxError}
 use Rattle.rx_grammar.specs.declared.error.SyntaxError.TheVariants as errors
@@ -21,7 +21,7 @@ use Rattle.rx_walks.specs.Programs.{Program}
 use Rattle.rx_program.specs.declared.error.BuildError.{BuildError}
 use Rattle.rx_program.specs.declared.error.BuildError.TheVariants as build
 use Rattle.rx_program.specs.Code.{program_of}
-use Rattle.rx_program.specs.Programs.{ByteProgram, characters_of}
+use Rattle.rx_program.specs.Programs.{ByteProgram, character_program}
 use Rattle.rx_program.specs.Sizes.{IsTooLarge, told_limit, weight_of_all}
 use Rattle.rx_engine.specs.Engines.{AreNotedOf, AreRefused, Engine, EngineSettings, IsBuiltOf, IsBuiltOfAll, IsBuiltOfTrees, IsOfTrees, IsRefused, IsRefusedAt, IsRefusedOfAll, IsRefusedText, Spell, Wanted, by_first_text, by_text, by_weight, by_weight_of_all, memory, captures_len_of, memory_there, no_memory, nesting, outside, refusal_of, size_limit_of, text_there, too_large, too_long, want_of_memory}
 
@@ -101,7 +101,7 @@ if_err (Err e) f h = f e h
 pub not_refused : {A E : Type 0} (x : A) (error : E) → ◌≡◌ {A = Result A E} (Ok x) (Err error) → ⊥
 not_refused x error is = cc
 
-terminator_of : (p : ByteProgram) (trees : List Tree) (terminator : ℕ) → characters_of p ≡ program_of trees terminator → p.line_terminator ≡ terminator
+terminator_of : (p : ByteProgram) (trees : List Tree) (terminator : ℕ) → character_program p ≡ program_of trees terminator → p.line_terminator ≡ terminator
 terminator_of p [] terminator is = ap (λ (q : Program walks.Look (List Range)). q.line_terminator) is
 terminator_of p (tree ∷ []) terminator is = ap (λ (q : Program walks.Look (List Range)). q.line_terminator) is
 terminator_of p (tree ∷ other ∷ trees) terminator is = ap (λ (q : Program walks.Look (List Range)). q.line_terminator) is
@@ -109,7 +109,7 @@ terminator_of p (tree ∷ other ∷ trees) terminator is = ap (λ (q : Program w
 -- an engine without its program
 pub record Beside : Type 0 where
   pub match_kind : MatchKind
-  pub groups : Groups
+  pub groups : GroupNames
   pub which_captures : WhichCaptures
   pub captures_len : ℕ
   pub static_captures_len : Option ℕ
@@ -140,7 +140,7 @@ pub record IsAsSet (settings : EngineSettings) (b : Beside) : Type 0 where
   pub utf8_empty : b.utf8_empty ≡ unwrap_or settings.utf8_empty true
   pub which_captures : b.which_captures ≡ unwrap_or settings.which_captures which.All
 
-pub of_trees : (p : ByteProgram) (b : Beside) (trees : List Tree) (terminator : ℕ) → AreOfTrees trees b → characters_of p ≡ program_of trees terminator → IsOfTrees (engine_of p b) trees
+pub of_trees : (p : ByteProgram) (b : Beside) (trees : List Tree) (terminator : ℕ) → AreOfTrees trees b → character_program p ≡ program_of trees terminator → IsOfTrees (engine_of p b) trees
 of_trees p b trees terminator are is =
     record {
       well_formed = are.well_formed;
@@ -151,7 +151,7 @@ of_trees p b trees terminator are is =
     }
 
 pub built : (settings : EngineSettings) (p : ByteProgram) (b : Beside) (trees : List Tree) (terminator : ℕ) → AreOfTrees trees b → IsAsSet settings b
-    → (IsTooLarge (size_limit_of settings) (weight_of_all trees) → ⊥) → characters_of p ≡ program_of trees terminator
+    → (IsTooLarge (size_limit_of settings) (weight_of_all trees) → ⊥) → character_program p ≡ program_of trees terminator
     → terminator ≡ unwrap_or settings.line_terminator 10 → IsBuiltOfTrees trees settings (engine_of p b)
 built settings p b trees terminator are as_set fits is set = record {
   fits = fits;

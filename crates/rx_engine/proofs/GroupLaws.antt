@@ -9,7 +9,7 @@ use Rattle.std.proofs.lemmas.List.Sums.{sum_by_push}
 use Rattle.std.proofs.lemmas.List.Elements.{All-head, All-tail, Contains-append_left, Contains-append_right, Contains-append_cases}
 use Rattle.std.proofs.lemmas.Option.{none-some, slice_get_within, slice_get-get_or}
 use Rattle.std.specs.Prelude.{String, string_bytes, option_map}
-use Rattle.rx_util.specs.Groups.{names_of as names_of_texts, Groups, name_among, HasDistinctNames}
+use Rattle.rx_util.specs.Groups.{names_of as names_of_texts, GroupNames, name_among, HasDistinctNames}
 use Rattle.rx_grammar.specs.Trees.{Name, Tree, Trees, empty, one_of, look_at, group, concat, alternation, repeated, two, more, names_of, all_names_of, numbers_of, all_numbers_of}
 use Rattle.rx_grammar.specs.Subtrees.{NodeKind, a_group, root_of, subtrees_of, all_subtrees_of, nodes_of, HasName, IsWellFormed}
 use Rattle.rx_grammar.specs.declared.hir.Node.{Node}
@@ -17,7 +17,7 @@ use Rattle.rx_grammar.specs.Nodes.{kind_of}
 use Rattle.rx_grammar.specs.Postorder.{own_names, names_in}
 use Rattle.rx_util.specs.declared.captures.WhichCaptures.{WhichCaptures}
 use Rattle.rx_util.specs.declared.captures.WhichCaptures.TheVariants as notes
-use Rattle.rx_engine.specs.Engines.{AreNamesOf, AreGroupsOf, AreNotedOf, captures_len_of}
+use Rattle.rx_engine.specs.Engines.{AreNamesOf, AreGroupNamesOf, AreNotedOf, captures_len_of}
 
 -- ---- names
 
@@ -429,30 +429,30 @@ has_name tree names g name are is =
     let at = name_among-first names g name is in
     subst (λ n. HasName tree n name) (sym at.1) ((are.named at.0 name).0 at.2)
 
-first_or_later : (tree : Tree) (names : List (Option Name)) (groups : Groups) → IsWellFormed tree → AreNamesOf tree names → HasDistinctNames groups → HasDistinctNames (names ∷ groups)
+first_or_later : (tree : Tree) (names : List (Option Name)) (groups : GroupNames) → IsWellFormed tree → AreNamesOf tree names → HasDistinctNames groups → HasDistinctNames (names ∷ groups)
 first_or_later tree names groups formed are later zero g h name at at' = name_once tree g h name formed (has_name tree names g name are at) (has_name tree names h name are at')
 first_or_later tree names groups formed are later (suc p) g h name at at' = later p g h name at at'
 
-pub distinct_names : (trees : List Tree) (groups : Groups) → All IsWellFormed trees → AreGroupsOf trees groups → HasDistinctNames groups
+pub distinct_names : (trees : List Tree) (groups : GroupNames) → All IsWellFormed trees → AreGroupNamesOf trees groups → HasDistinctNames groups
 distinct_names [] groups formed are = subst (λ x. HasDistinctNames x) (sym are) (λ p g h name at at'. absurd (none-some name at))
 distinct_names (tree ∷ trees) [] formed are = absurd are
 distinct_names (tree ∷ trees) (names ∷ groups) formed are =
     first_or_later tree names groups (All-head IsWellFormed tree trees formed) are.0 (distinct_names trees groups (All-tail IsWellFormed tree trees formed) are.1)
 
 -- those of one tree more
-pub one_more_groups : (trees : List Tree) (groups : Groups) (tree : Tree) (names : List (Option Name)) → AreGroupsOf trees groups → AreNamesOf tree names
-    → AreGroupsOf (trees ++ tree ∷ []) (groups ++ names ∷ [])
-one_more_groups [] groups tree names are named = subst (λ x. AreGroupsOf (tree ∷ []) (x ++ names ∷ [])) (sym are) (named, refl)
+pub one_more_groups : (trees : List Tree) (groups : GroupNames) (tree : Tree) (names : List (Option Name)) → AreGroupNamesOf trees groups → AreNamesOf tree names
+    → AreGroupNamesOf (trees ++ tree ∷ []) (groups ++ names ∷ [])
+one_more_groups [] groups tree names are named = subst (λ x. AreGroupNamesOf (tree ∷ []) (x ++ names ∷ [])) (sym are) (named, refl)
 one_more_groups (t ∷ trees) [] tree names are named = absurd are
 one_more_groups (t ∷ trees) (n ∷ groups) tree names are named = (are.0, one_more_groups trees groups tree names are.1 named)
 
-pub group_count : (trees : List Tree) (groups : Groups) → AreGroupsOf trees groups → length groups ≡ length trees
+pub group_count : (trees : List Tree) (groups : GroupNames) → AreGroupNamesOf trees groups → length groups ≡ length trees
 group_count [] groups are = ap length are
 group_count (tree ∷ trees) [] are = absurd are
 group_count (tree ∷ trees) (names ∷ groups) are = ap suc (group_count trees groups are.1)
 
 -- and as many are noted
-pub noted_count : (trees : List Tree) (groups : Groups) (which : WhichCaptures) → AreNotedOf which trees groups → length groups ≡ length trees
+pub noted_count : (trees : List Tree) (groups : GroupNames) (which : WhichCaptures) → AreNotedOf which trees groups → length groups ≡ length trees
 noted_count trees groups notes.All are = ap length are.noted ∙ group_count trees are.all_groups are.are_groups
 noted_count trees groups notes.Implicit are = ap length are.noted ∙ length-replicate (length are.all_groups) [] ∙ group_count trees are.all_groups are.are_groups
 noted_count trees groups notes.None are = ap length are.noted ∙ length-replicate (length are.all_groups) [] ∙ group_count trees are.all_groups are.are_groups

@@ -1,9 +1,9 @@
 -- One number of groups in each match, whichever pattern matches.
-use Rattle.std.proofs.Common.{◌≡◌, ℕ, suc, zero, ◌<◌, Bool, true, false, not, List, [], ◌∷◌, ◌++◌, length, get_or, map, Option, Some, None, refl, sym, ap, subst, ◌∙◌, arith}
+use Rattle.std.proofs.Common.{◌≡◌, ℕ, suc, zero, ◌<◌, true, false, not, List, [], ◌∷◌, ◌++◌, length, get_or, map, Option, Some, None, refl, sym, ap, subst, ◌∙◌, arith}
 use Rattle.std.specs.Option.{option_eq}
 use lib.Dec.{eqb}
 use Rattle.rx_grammar.specs.Trees.{Tree}
-use Rattle.rx_grammar.specs.StaticGroups.{common_groups, common_of_all, static_captures_of, static_captures_of_all}
+use Rattle.rx_grammar.specs.StaticGroups.{common_groups, static_captures_of, static_captures_of_all}
 
 common_left : (a b : Option ℕ) (n : ℕ) → common_groups a b ≡ Some n → a ≡ Some n
 common_left None b n is = grind (arith, is)
@@ -63,14 +63,6 @@ one_differs f xs first x n k some begins has lt is other = none_or (static_captu
     let all = all_alike (map f xs) m told in
     let same : Some m ≡ Some n = sym (each_at m f xs 0 first some begins all) ∙ has in
     other (each_at m f xs k x lt is all ∙ same))
-
--- the first has none
-pub first_differs : {X : Type 0} (f : X → Tree) (xs : List X) (first : X) → 0 < length xs → first ≡ get_or xs 0 first → static_captures_of (f first) ≡ None → static_captures_of_all (map f xs) ≡ None
-first_differs f xs first some begins none = none_or (static_captures_of_all (map f xs)) (λ m told.
-    absurd (never m (sym none ∙ each_at m f xs 0 first some begins (all_alike (map f xs) m told))))
-  where
-    never : (m : ℕ) → ◌≡◌ {A = Option ℕ} None (Some m) → ⊥
-    never m is = cc
 
 -- what a comparison tells
 pub told_same : (a : Option ℕ) (n : ℕ) → false ≡ not (option_eq eqb a (Some n)) → a ≡ Some n

@@ -6,7 +6,7 @@ use Rattle.rx_util.specs.declared.search.MatchKind.{MatchKind}
 use Rattle.rx_util.specs.declared.search.MatchKind.TheVariants.{LeftmostFirst}
 use Rattle.rx_util.specs.declared.captures.WhichCaptures.{WhichCaptures}
 use Rattle.rx_util.specs.declared.captures.WhichCaptures.TheVariants as which
-use Rattle.rx_util.specs.Groups.{Groups, Name, noted_groups}
+use Rattle.rx_util.specs.Groups.{GroupNames, Name, noted_groups}
 use Rattle.rx_grammar.specs.declared.error.SyntaxError.{SyntaxError}
 use Rattle.rx_grammar.specs.declared.error.SyntaxError.TheVariants as errors
 use Rattle.rx_grammar.specs.Trees.{Tree, numbers_of}
@@ -17,7 +17,7 @@ use Rattle.rx_grammar.specs.Grammar.{Spells, IsTooDeep, NeverSpells}
 use Rattle.rx_program.specs.declared.error.BuildError.{BuildError}
 use Rattle.rx_program.specs.declared.error.BuildError.TheVariants as build
 use Rattle.rx_program.specs.Code.{program_of}
-use Rattle.rx_program.specs.Programs.{ByteProgram, characters_of}
+use Rattle.rx_program.specs.Programs.{ByteProgram, character_program}
 use Rattle.rx_program.specs.Sizes.{IsTooLarge, told_limit, weight_of_all}
 
 -- a program, which match is found, the groups of its patterns that are noted, which ones these are,
@@ -26,7 +26,7 @@ use Rattle.rx_program.specs.Sizes.{IsTooLarge, told_limit, weight_of_all}
 pub record Engine : Type 0 where
   pub program : ByteProgram
   pub match_kind : MatchKind
-  pub groups : Groups
+  pub groups : GroupNames
   pub which_captures : WhichCaptures
   pub captures_len : ℕ
   pub static_captures_len : Option ℕ
@@ -80,15 +80,17 @@ pub record AreNamesOf (tree : Tree) (names : List (Option Name)) : Type 0 where
       → (slice_get names k ≡ Some (Some name)) ↔ HasName tree (k + 1) name
 
 -- the groups of trees that stand beside one another, those of each from group 1 on
-abbrev pub AreGroupsOf : List Tree → Groups → Type 0
-AreGroupsOf [] groups = groups ≡ []
-AreGroupsOf (tree ∷ trees) [] = ⊥
-AreGroupsOf (tree ∷ trees) (names ∷ groups) = AreNamesOf tree names × AreGroupsOf trees groups
+abbrev pub AreGroupNamesOf : List Tree → GroupNames → Type 0
+AreGroupNamesOf [] groups = groups ≡ []
+AreGroupNamesOf (tree ∷ trees) [] = ⊥
+AreGroupNamesOf (tree ∷ trees) (names ∷ groups) = AreNamesOf tree names
+    × AreGroupNamesOf trees groups
 
 -- those of them that are noted: all, or the groups 0 alone
-pub record AreNotedOf (which : WhichCaptures) (trees : List Tree) (groups : Groups) : Type 0 where
-  pub all_groups : Groups
-  pub are_groups : AreGroupsOf trees all_groups
+pub record AreNotedOf (which : WhichCaptures) (trees : List Tree)
+    (groups : GroupNames) : Type 0 where
+  pub all_groups : GroupNames
+  pub are_groups : AreGroupNamesOf trees all_groups
   pub noted : groups ≡ noted_groups which all_groups
 
 -- how many groups trees have together, the whole match of each among them
@@ -98,7 +100,7 @@ captures_len_of trees = sum_by (λ tree. length (numbers_of tree) + 1) trees
 -- the program and the groups of an engine are those of trees, which are such as texts may spell
 pub record IsOfTrees (e : Engine) (trees : List Tree) : Type 0 where
   pub well_formed : All IsWellFormed trees
-  pub program : characters_of e.program ≡ program_of trees e.program.line_terminator
+  pub program : character_program e.program ≡ program_of trees e.program.line_terminator
   pub groups : AreNotedOf e.which_captures trees e.groups
   pub captures_len : e.captures_len ≡ captures_len_of trees
   pub static_captures_len : e.static_captures_len ≡ static_captures_of_all trees

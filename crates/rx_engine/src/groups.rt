@@ -6,7 +6,7 @@ ghost use Rattle.rx_grammar.specs.Subtrees.{IsWellFormed, a_group};
 ghost use Rattle.rx_grammar.specs.Nodes.{kind_of};
 ghost use Rattle.rx_grammar.specs.Postorder.{own_names, tree_of};
 ghost use Rattle.rx_grammar.specs.StaticGroups.{static_captures_of_all};
-ghost use Rattle.rx_engine.specs.Engines.{AreGroupsOf, AreNamesOf, AreNotedOf, captures_len_of};
+ghost use Rattle.rx_engine.specs.Engines.{AreGroupNamesOf, AreNamesOf, AreNotedOf, captures_len_of};
 
 use rx_grammar::{Hir, Node};
 use rx_util::{GroupInfo, WhichCaptures};
@@ -61,7 +61,7 @@ fn group_names(alloc: Global, hir: &Hir) -> Result<Vec<Option<String>>, AllocErr
 /// The names of patterns' groups, of each from group 1 on.
 fn all_names(alloc: Global, hirs: &[&Hir]) -> Result<Vec<Vec<Option<String>>>, AllocError>
     ensures groups { IfOk result (λ names.
-        AreGroupsOf (map (λ hir. tree_of hir.now) hirs.now) (named_groups names.items)) }
+        AreGroupNamesOf (map (λ hir. tree_of hir.now) hirs.now) (named_groups names.items)) }
     ensures well_formed { OnOk result
         (All IsWellFormed (map (λ hir. tree_of hir.now) hirs.now)) }
 {

@@ -1,7 +1,6 @@
 -- Empty edges, by where they lead.
-use Rattle.std.proofs.Common.{◌≡◌, ℕ, zero, suc, ◌+◌, ◌<◌, ◌≤◌, ◌⊎◌, Bool, true, false, List, [], ◌∷◌, ◌++◌, length, map, set, get_or, Option, Some, None, Vec, slice_get, Contains, refl, sym, ap, subst, ◌∙◌, arith, inl, inr}
+use Rattle.std.proofs.Common.{◌≡◌, ℕ, zero, suc, ◌<◌, ◌⊎◌, Bool, true, false, List, [], ◌∷◌, ◌++◌, length, map, set, get_or, Option, Some, None, Vec, slice_get, Contains, refl, sym, ap, subst, ◌∙◌, arith, inl, inr}
 use Rattle.std.proofs.lemmas.Bool.{cases_eq}
-use Rattle.std.proofs.lemmas.Option.{slice_get_within}
 use Rattle.std.proofs.lemmas.List.Elements.{Contains-append_left, Contains-append_right}
 use Rattle.rx_program.specs.declared.states.State.{State}
 use Rattle.rx_program.specs.declared.states.State.TheVariants as state
@@ -14,7 +13,7 @@ use Rattle.rx_steps.specs.declared.place.Place.{Place}
 use Rattle.rx_steps.specs.Nodes.{width_of}
 use Rattle.rx_steps.specs.Threads.{first_node}
 use Rattle.rx_steps.specs.Lists.{move_at, read_next, is_among}
-use Rattle.rx_lists.specs.Arrivals.{edges_of, nodes_in, IsTold, AreTold, TellEdges}
+use Rattle.rx_lists.specs.Arrivals.{edges_of, nodes_in, IsInList, AreTold}
 use Rattle.rx_lists.specs.Leading.{GoesTo}
 use Rattle.rx_lists.proofs.FillLaws.{edge_of}
 
@@ -55,9 +54,6 @@ edge_in place i q (state.Match pattern) r to less = absurd to
 
 -- ---- lists of which some get a node
 
-pub told_none : (from : ℕ × ℕ) (lists : List (List (ℕ × ℕ))) → AreTold from [] lists lists
-told_none from lists = record { count = refl; others = λ on q told. told; there = λ k on e. absurd (cc e) }
-
 pub told_part : (from : ℕ × ℕ) (ons ons' : List ℕ) (old new : List (List (ℕ × ℕ))) → ons ≡ ons' → AreTold from ons old new → AreTold from ons' old new
 told_part from ons ons' old new same told = subst (λ xs. AreTold from xs old new) same told
 
@@ -76,13 +72,9 @@ told_more from ons on old mid new one two = record {
   others = λ on' q told. two.others on' q (one.others on' q told);
   there = λ k on' e below. elim (got_pushed ons on k on' e) [
     | inl before ↦ two.others on' from (one.there k on' before below)
-    | inr same ↦ subst (λ j. IsTold new j from) same (two.there 0 on refl (subst (λ j. j < length mid) (sym same) (omega (arith, below, one.count))))
+    | inr same ↦ subst (λ j. IsInList new j from) same (two.there 0 on refl (subst (λ j. j < length mid) (sym same) (omega (arith, below, one.count))))
   ];
 }
-
-pub length_nodes : {Z : Type 0} (lists : List (Vec (ℕ × ℕ) Z)) → length (nodes_in lists) ≡ length lists
-length_nodes [] = refl
-length_nodes (x ∷ lists) = ap suc (length_nodes lists)
 
 set_length : {Z : Type 0} (lists : List (Vec (ℕ × ℕ) Z)) (at : ℕ) (list : Vec (ℕ × ℕ) Z) → length (nodes_in (set lists at list)) ≡ length (nodes_in lists)
 set_length [] at list = refl
@@ -116,7 +108,7 @@ told_put lists at from old new within was more = record {
         (new.items, ap (λ j. slice_get (nodes_in (set lists at new)) j) same ∙ set_here lists at new within, subst (λ xs. Contains xs q) (sym more) (Contains-append_left old.items (from ∷ []) q (subst (λ xs. Contains xs q) list told.2)))
     | inr other ↦ (told.0, set_other lists at on new other ∙ told.1, told.2)
   ];
-  there = λ k on e below. subst (λ j. IsTold (nodes_in (set lists at new)) j from) (the_on k on e)
+  there = λ k on e below. subst (λ j. IsInList (nodes_in (set lists at new)) j from) (the_on k on e)
       (new.items, set_here lists at new within, subst (λ xs. Contains xs from) (sym more) (Contains-append_right old.items (from ∷ []) from (0, omega arith, refl)));
 }
   where
@@ -130,34 +122,6 @@ told_put lists at from old new within was more = record {
         same f = cc f
     the_on (suc k) on e = absurd (cc e)
 
-pub told_outside : (from : ℕ × ℕ) (on : ℕ) (lists : List (List (ℕ × ℕ))) → length lists ≤ on → AreTold from (on ∷ []) lists lists
-told_outside from on lists past = record {
-  count = refl;
-  others = λ on' q told. told;
-  there = λ k on' e below. absurd (by_number k on' e below);
-}
-  where
-    by_number : (k on' : ℕ) → slice_get (on ∷ []) k ≡ Some on' → on' < length lists → ⊥
-    by_number zero on' e below = let same : on ≡ on' = the_on e in omega (arith, same, below, past)
-      where
-        the_on : Some on ≡ Some on' → on ≡ on'
-        the_on f = cc f
-    by_number (suc k) on' e below = cc e
-
 -- the edges of the states so far are told of
 abbrev pub TellSoFar : List State → ℕ → List (List (ℕ × ℕ)) → Type 0
-TellSoFar states number lists = (q k on : ℕ) (x : State) → q < number → slice_get states q ≡ Some x → slice_get (edges_of x) k ≡ Some on → on < length states → IsTold lists on (q, 0)
-
-pub told_next : (states : List State) (number : ℕ) (x : State) (old new : List (List (ℕ × ℕ))) → slice_get states number ≡ Some x → length old ≡ length states → TellSoFar states number old → AreTold (number, 0) (edges_of x) old new → TellSoFar states (number + 1) new
-told_next states number x old new here count so_far told q k on y below at edge inside = elim (cases_eq q number) [
-  | inl same ↦
-      let state : y ≡ x = the_state (sym at ∙ ap (λ j. slice_get states j) same ∙ here) in
-      subst (λ j. IsTold new on (j, 0)) (sym same) (told.there k on (subst (λ z. slice_get (edges_of z) k ≡ Some on) state edge) (omega (arith, inside, count)))
-  | inr other ↦ told.others on (q, 0) (so_far q k on y (omega (arith, below, other)) at edge inside)
-]
-  where
-    the_state : Some y ≡ Some x → y ≡ x
-    the_state e = cc e
-
-pub told_all : (states : List State) (number : ℕ) (lists : List (List (ℕ × ℕ))) → length states ≤ number → TellSoFar states number lists → TellEdges states (length states) lists
-told_all states number lists past so_far q k on x at edge inside = so_far q k on x (omega (arith, slice_get_within states q x at, past)) at edge inside
+TellSoFar states number lists = (q k on : ℕ) (x : State) → q < number → slice_get states q ≡ Some x → slice_get (edges_of x) k ≡ Some on → on < length states → IsInList lists on (q, 0)

@@ -7,7 +7,7 @@ use Rattle.rx_program.specs.Programs.{ByteProgram}
 use Rattle.rx_walks.specs.Machines.{Machine, Move, ends, goes, reads}
 use Rattle.rx_walks.specs.Leading.{LeadsBy, match_ends, edge_leads, read_leads}
 use Rattle.rx_steps.specs.declared.place.Place.{Place}
-use Rattle.rx_steps.specs.Nodes.{IsNodeOf, widths_of, index_from}
+use Rattle.rx_steps.specs.Nodes.{IsNodeIn, widths_of, index_from}
 use Rattle.rx_steps.specs.Threads.{Slots, first_node}
 use Rattle.rx_steps.specs.Lists.{move_at}
 use Rattle.rx_lists.specs.Leading.{Moves, LeadsOn, AreFilled, AreSound, AreClosed}
@@ -37,7 +37,7 @@ sound_more p place beyond old new q x more at on sound m i moves r c = elim (Con
 -- where no node that leads on is left out all that lead are there
 all_there : (p : ByteProgram) (place : Place) (beyond here : Nodes) (those : ℕ × ℕ → Type 0) → AreClosed p place beyond here those
     → ((q : ℕ × ℕ) (k : ℕ) → index_from 0 (widths_of p) q.0 q.1 ≡ Some k → those q) → (m : Machine (ℕ × ℕ) Slots) (i : ℕ) → Moves m i p.states place
-    → {q : ℕ × ℕ} → IsNodeOf p.states q → LeadsBy m i (λ r. Contains beyond r) q → Contains here q
+    → {q : ℕ × ℕ} → IsNodeIn p.states q → LeadsBy m i (λ r. Contains beyond r) q → Contains here q
 all_there p place beyond here those closed all m i moves {q = q} may (match_ends {p = k} is) =
     let at = node_index p place m i moves q may (λ e. absurd (cc (sym is ∙ e))) in
     closed q (all q at.0 at.2) at.0 i at.1 at.2 at.3 (subst (λ y. LeadsOn here beyond y) (sym is ∙ moves.at_state q at.1 at.3) tt)

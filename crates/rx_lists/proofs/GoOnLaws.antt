@@ -12,18 +12,18 @@ use Rattle.rx_walks.specs.Finds.{Search, IsInside, IsFind, from_place_on}
 use Rattle.rx_walks.specs.ProgramFinds.{start_node, lowest, highest, machine_of, IfStarts}
 use Rattle.rx_walks.specs.Matches.{no_match}
 use Rattle.rx_walks.specs.Bytes.{Automaton}
-use Rattle.rx_walks.specs.Likenesses.{noted_by}
+use Rattle.rx_walks.specs.Likenesses.{noted_by, Keeping}
 use Rattle.rx_walks.specs.Leading.{LeadsToMatch, Follows}
 use Rattle.rx_walks.specs.Listings.{Listing, over, no_start, passed_over, listed}
 use Rattle.rx_walks.specs.LeadLaws.{ByteListingsAreMatches, begins_from}
-use Rattle.rx_program.specs.Programs.{ByteProgram, IsByteProgram, characters_of, automata_of}
+use Rattle.rx_program.specs.Programs.{ByteProgram, IsByteProgram, character_program, automata_of}
 use Rattle.rx_steps.specs.Threads.{Slots, note_slot, no_slots, first_node}
 use Rattle.rx_steps.specs.Searching.{slots_from}
 use Rattle.rx_steps.specs.Coming.{machine_in}
 use Rattle.rx_steps.proofs.SlotLaws.{slots_keep, slots_of_noted, empty_slots}
-use Rattle.rx_lists.specs.Lists.{Listed, listed_of, AreAllMatches, outcome_of_listed, Lists, AreListedTo, IsFoundAt, IsTaken, places_left, reads_for, read_before, places_in, end_or}
+use Rattle.rx_lists.specs.Lists.{Listed, listed_of, AreAllMatches, outcome_of_listed, Lists, AreListedTo, IsFoundOnward, IsTaken, places_left, reads_for, read_before, places_in, end_or}
 use Rattle.rx_lists.specs.declared.pass_back.Block.{Block}
-use Rattle.rx_lists.specs.Blocks.{Reaches}
+use Rattle.rx_lists.specs.Blocks.{BlockReaches}
 use Rattle.rx_lists.specs.declared.walk.Ending.{Ending}
 use Rattle.rx_lists.specs.Passes.{outcome_of}
 use Rattle.rx_walks.proofs.ForwardLaws.{pair_told}
@@ -82,7 +82,7 @@ module _ (p : ByteProgram) (s : Search) (q len : ℕ) where
       (so_far (outcome_of_listed x ∷ ms) (listed b follows (λ is at at'. not is at') (subst (λ e. Lists p s q len true e e ms) (sym same) on))))
 
   -- and so is one that is told of by what was found
-  pub list_told : (found found' : List Listed) (after : Bool) (from i : ℕ) (x : Listed) (t : Outcome Slots) → found' ≡ found ++ x ∷ [] → Some (outcome_of_listed x) ≡ Some t → (after ≡ true → t.end ≡ i → ⊥) → IsFoundAt p s q len from i (Some t)
+  pub list_told : (found found' : List Listed) (after : Bool) (from i : ℕ) (x : Listed) (t : Outcome Slots) → found' ≡ found ++ x ∷ [] → Some (outcome_of_listed x) ≡ Some t → (after ≡ true → t.end ≡ i → ⊥) → IsFoundOnward p s q len from i (Some t)
       → AreListedTo p s q len found after from i → AreListedTo p s q len found' true t.end t.end
   list_told found found' after from i x t more told not is so_far =
       let same : outcome_of_listed x ≡ t = one told in
@@ -107,9 +107,12 @@ module _ (p : ByteProgram) (s : Search) (q len : ℕ) where
 abbrev kept : ℕ → Notes → Slots
 kept len n = slots_from 0 len (record { start = 0; noted = n.noted })
 
+abbrev keeping_slots : ℕ → Keeping Slots
+keeping_slots len = record { put = note_slot; kept = kept len; alike = λ slot i n. slots_keep len slot i (record { start = 0; noted = n.noted }) }
+
 abbrev pub ListingLaw : Type 0
-ListingLaw = (put : ℕ → ℕ → Slots → Slots) (keeps : Notes → Slots) (member : List Range → ℕ → Bool) (is_word : ℕ → Bool) (c : Program walks.Look (List Range)) (step : ℕ → Automaton)
-    → ByteListingsAreMatches put keeps member is_word c step
+ListingLaw = (keeping : Keeping Slots) (member : List Range → ℕ → Bool) (is_word : ℕ → Bool) (c : Program walks.Look (List Range)) (step : ℕ → Automaton)
+    → ByteListingsAreMatches keeping member is_word c step
 
 abbrev listed_from : Outcome Slots → Listed
 listed_from t = record { pattern = t.pattern; end = t.end; slots = t.notes }
@@ -122,18 +125,18 @@ forth : (len : ℕ) (own : List (Outcome Notes)) → map listed_from (map (noted
 forth len [] = refl
 forth len (t ∷ own) = ap₂ (λ xs ys. record { pattern = t.pattern; end = t.end; slots = xs } ∷ ys) (slots_of_noted 0 len 0 t.notes) (forth len own)
 
-pub are_all : (p : ByteProgram) (s : Search) (q len : ℕ) (found : List Listed) → IsByteProgram p → ListingLaw → start_node (characters_of p) s.anchoring ≡ Some q → Lists p s q len false s.start s.start (map outcome_of_listed found) → AreAllMatches p s len found
+pub are_all : (p : ByteProgram) (s : Search) (q len : ℕ) (found : List Listed) → IsByteProgram p → ListingLaw → start_node (character_program p) s.anchoring ≡ Some q → Lists p s q len false s.start s.start (map outcome_of_listed found) → AreAllMatches p s len found
 are_all p s q len found reads law starts lists =
     let empty : no_slots len ≡ slots_from 0 len (fresh_notes 0) = sym (empty_slots 0 len) in
-    let on = law note_slot (kept len) is_in is_word_char (characters_of p) (automata_of p) reads (λ slot i n. slots_keep len slot i (record { start = 0; noted = n.noted })) s q (map outcome_of_listed found) starts
+    let on = law (keeping_slots len) is_in is_word_char (character_program p) (automata_of p) reads s q (map outcome_of_listed found) starts
     (subst (λ xs. Listing (machine_in p s) (begins_from s) (λ j. xs) (first_node q) false s.start s.start (map outcome_of_listed found)) empty lists) in
     record { matches = on.0; are_all = on.2; found_are = sym (back found) ∙ ap (λ ms. map listed_from ms) (sym on.1) ∙ forth len on.0 }
 
 -- where no walk starts there is no match
-pub no_walks : (p : ByteProgram) (s : Search) (len : ℕ) (found : List Listed) → found ≡ [] → start_node (characters_of p) s.anchoring ≡ None → AreAllMatches p s len found
+pub no_walks : (p : ByteProgram) (s : Search) (len : ℕ) (found : List Listed) → found ≡ [] → start_node (character_program p) s.anchoring ≡ None → AreAllMatches p s len found
 no_walks p s len found none starts = record {
   matches = [];
-  are_all = no_match (subst (λ o. IfStarts o (IsFind (machine_of is_in is_word_char (characters_of p) (from_place_on s s.start)) fresh_notes (from_place_on s s.start)) None) (sym starts) refl);
+  are_all = no_match (subst (λ o. IfStarts o (IsFind (machine_of is_in is_word_char (character_program p) (from_place_on s s.start)) fresh_notes (from_place_on s s.start)) None) (sym starts) refl);
   found_are = none;
 }
 
@@ -176,17 +179,17 @@ found_counted p s q len i r r' None slots leads follows counted = absurd (follow
 found_counted p s q len i r r' (Some x) slots leads follows counted = omega (arith, counted)
 
 pub found_reached : (p : ByteProgram) (s : Search) (q len i : ℕ) (found : Option Ending) (slots : Slots) (block : Block) → LeadsToMatch (machine_in p s) (first_node q) i → Follows (machine_in p s) i [] ((no_slots len, first_node q) ∷ []) (outcome_of found slots)
-    → IfSome found (λ x. Reaches block x.end) → Reaches block (end_or found i)
+    → IfSome found (λ x. BlockReaches block x.end) → BlockReaches block (end_or found i)
 found_reached p s q len i None slots block leads follows reaches = absurd (follows_never pair_told follows leads)
 found_reached p s q len i (Some x) slots block leads follows reaches = reaches
 
 -- ---- what is found at a place
 
-pub found_by : (p : ByteProgram) (s : Search) (q len from i : ℕ) (out : Option (Outcome Slots)) → begins_from s from i → Follows (machine_in p s) i [] ((no_slots len, first_node q) ∷ []) out → IsFoundAt p s q len from i out
+pub found_by : (p : ByteProgram) (s : Search) (q len from i : ℕ) (out : Option (Outcome Slots)) → begins_from s from i → Follows (machine_in p s) i [] ((no_slots len, first_node q) ∷ []) out → IsFoundOnward p s q len from i out
 found_by p s q len from i None b follows = λ b'. follows_never pair_told follows
 found_by p s q len from i (Some t) b follows = (b, follows)
 
-pub not_begun : (p : ByteProgram) (s : Search) (q len from i : ℕ) → (begins_from s from i → ⊥) → IsFoundAt p s q len from i None
+pub not_begun : (p : ByteProgram) (s : Search) (q len from i : ℕ) → (begins_from s from i → ⊥) → IsFoundOnward p s q len from i None
 not_begun p s q len from i never b leads = never b
 
 -- ---- where the list goes on
@@ -223,7 +226,7 @@ module _ (p : ByteProgram) (s : Search) (q len : ℕ) where
       subst (λ b. r'' ≤ r + read_before s' pos b) (sym taken.0) (subst (λ j. r'' ≤ r + read_before s' j true) (sym at) (read_found s' r r' r'' i e after so_far (subst (λ j. r'' ≤ r' + (1 + (j + 1 - i))) is more) above on further))
 
   -- the block at hand reaches back there
-  pub reached_on : (i pos : ℕ) (out : Option Ending) (end : Option ℕ) (block : Block) → Reaches block (end_or out i) → IfSome end (λ e. pos ≡ e) → (end ≡ None → pos ≡ i + 1) → IfSome end (λ e. IsSomeAnd out (λ x. x.end ≡ e)) → (end ≡ None → IfSome out (λ x. x.end ≡ i)) → Reaches block pos
+  pub reached_on : (i pos : ℕ) (out : Option Ending) (end : Option ℕ) (block : Block) → BlockReaches block (end_or out i) → IfSome end (λ e. pos ≡ e) → (end ≡ None → pos ≡ i + 1) → IfSome end (λ e. IsSomeAnd out (λ x. x.end ≡ e)) → (end ≡ None → IfSome out (λ x. x.end ≡ i)) → BlockReaches block pos
   reached_on i pos None None block reaches at next is passed = omega (arith, reaches, next refl)
   reached_on i pos (Some x) None block reaches at next is passed = omega (arith, reaches, next refl, passed refl)
   reached_on i pos None (Some e) block reaches at next is passed = absurd is
@@ -235,11 +238,11 @@ module _ (p : ByteProgram) (s : Search) (q len : ℕ) where
 
   -- what was found at a place is taken there
   pub taken_at : (s' : Search) (from i at : ℕ) (out : Option Ending) (slots slots' : Slots) (found found' : List Listed) (after after' : Bool) (from' : ℕ) (end : Option ℕ)
-      → ((p : ByteProgram) → (s : Search) → (q : ℕ) → (len : ℕ) → IsFoundAt p s q len from at (outcome_of out slots') → from ≤ at → (after ≡ true → from ≡ at) → AreListedTo p s q len found after from at → IsTaken p s q len at found' after' from' end)
-      → s' ≡ s → at ≡ i → slots' ≡ slots → IsFoundAt p s' q len from i (outcome_of out slots) → from ≤ i → (after ≡ true → from ≡ i) → AreListedTo p s q len found after from i → IsTaken p s q len i found' after' from' end
+      → ((p : ByteProgram) → (s : Search) → (q : ℕ) → (len : ℕ) → IsFoundOnward p s q len from at (outcome_of out slots') → from ≤ at → (after ≡ true → from ≡ at) → AreListedTo p s q len found after from at → IsTaken p s q len at found' after' from' end)
+      → s' ≡ s → at ≡ i → slots' ≡ slots → IsFoundOnward p s' q len from i (outcome_of out slots) → from ≤ i → (after ≡ true → from ≡ i) → AreListedTo p s q len found after from i → IsTaken p s q len i found' after' from' end
   taken_at s' from i at out slots slots' found found' after after' from' end taken same there kept' is le stands so_far =
-      let here : IsFoundAt p s q len from at (outcome_of out slots') = subst (λ x. IsFoundAt p x q len from at (outcome_of out slots')) same
-      (subst (λ j. IsFoundAt p s' q len from j (outcome_of out slots')) (sym there) (subst (λ x. IsFoundAt p s' q len from i (outcome_of out x)) (sym kept') is)) in
+      let here : IsFoundOnward p s q len from at (outcome_of out slots') = subst (λ x. IsFoundOnward p x q len from at (outcome_of out slots')) same
+      (subst (λ j. IsFoundOnward p s' q len from j (outcome_of out slots')) (sym there) (subst (λ x. IsFoundOnward p s' q len from i (outcome_of out x)) (sym kept') is)) in
       subst (λ j. IsTaken p s q len j found' after' from' end) there
       (taken p s q len here (omega (arith, le, there)) (λ yes'. stands yes' ∙ sym there) (subst (λ j. AreListedTo p s q len found after from j) (sym there) so_far))
 

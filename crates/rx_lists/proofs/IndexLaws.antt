@@ -1,12 +1,9 @@
 -- Sets of nodes in bits.
-use Rattle.std.proofs.Common.{◌≡◌, ◌≢◌, ℕ, true, false, List, Some, None, sym, ap, ap₂, subst, ◌∙◌, inl, inr}
+use Rattle.std.proofs.Common.{◌≡◌, ◌≢◌, ℕ, true, List, Some, sym, ap, ap₂, ◌∙◌, inl, inr}
 use Rattle.std.proofs.lemmas.Bool.{cases_eq}
 use Rattle.rx_steps.specs.Nodes.{index_from}
 use Rattle.rx_steps.proofs.IndexLaws.{one_index}
-use Rattle.rx_lists.specs.Bits.{has_bit, HasNode, IsPut}
-
-same_some : {a b : ℕ} → Some a ≡ Some b → a ≡ b
-same_some e = cc e
+use Rattle.rx_lists.specs.Bits.{has_bit, IsPut}
 
 pub put_one : (widths old new : List ℕ) (x : ℕ × ℕ) (n : ℕ) → index_from 0 widths x.0 x.1 ≡ Some n → has_bit new n ≡ true → ((k : ℕ) → k ≢ n → has_bit new k ≡ has_bit old k) → IsPut widths old x new
 put_one widths old new x n at there others = record {
@@ -20,13 +17,3 @@ put_one widths old new x n at there others = record {
   ];
   there = λ k at'. (n, at, there);
 }
-
-pub put_none : (widths old new : List ℕ) (x : ℕ × ℕ) → index_from 0 widths x.0 x.1 ≡ None → new ≡ old → IsPut widths old x new
-put_none widths old new x at same = record {
-  only = λ q has. inl (subst (λ set. HasNode widths set q) same has);
-  others = λ q has. subst (λ set. HasNode widths set q) (sym same) has;
-  there = λ k at'. absurd (cc (sym at ∙ at'));
-}
-
-pub none_has : (widths set : List ℕ) (q : ℕ × ℕ) → ((k : ℕ) → has_bit set k ≡ false) → HasNode widths set q → ⊥
-none_has widths set q none has = cc (sym (none has.0) ∙ has.2)

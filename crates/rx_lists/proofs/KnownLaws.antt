@@ -10,8 +10,8 @@ use Rattle.rx_steps.specs.declared.place.Place.{Place}
 use Rattle.rx_steps.specs.Nodes.{widths_of, index_from}
 use Rattle.rx_steps.specs.Threads.{Slots}
 use Rattle.rx_steps.specs.Lists.{Asks, move_at, read_next}
-use Rattle.rx_lists.specs.Bits.{HasNode, IsSetOf}
-use Rattle.rx_lists.specs.Known.{KnownView, HasColumns, IsSetBefore, IsAlwaysBefore, IsTold, column_of}
+use Rattle.rx_lists.specs.Bits.{HasNode, IsNodeSetOf}
+use Rattle.rx_lists.specs.Known.{KnownView, HasColumns, IsSetBefore, IsAlwaysBefore, TellsTruly, column_of}
 use Rattle.rx_lists.specs.Leading.{Moves, AreFilled}
 use Rattle.rx_lists.specs.Sets.{AreAllNodes}
 use Rattle.rx_lists.proofs.FillLaws.{Nodes}
@@ -22,7 +22,7 @@ use Rattle.rx_lists.proofs.WayLaws.{inside_is, leading_set, loaded_set}
 pub filled_before : (p : ByteProgram) (place : Place) (order beyond here : Nodes) (widths widths' words words' : List ℕ) → widths ≡ widths_of p → widths' ≡ widths_of p → AreAllNodes p.states order
     → ((q : ℕ × ℕ) → Contains beyond q → HasNode widths words q)
     → ((q : ℕ × ℕ) (k : ℕ) → Contains order q → HasNode widths words q → index_from 0 widths' q.0 q.1 ≡ Some k → Contains beyond q)
-    → AreFilled p place beyond here → IsSetOf widths here words' → IsSetBefore p place words words'
+    → AreFilled p place beyond here → IsNodeSetOf widths here words' → IsSetBefore p place words words'
 filled_before p place order beyond here widths widths' words words' same same' ordered these all filled is s i inside moves leading =
     let at = inside_is s i inside in
     leading_set p s i widths here words' same at.0 at.1
@@ -96,8 +96,8 @@ pub some_same : {X : Type 0} {a b : X} → Some a ≡ Some b → a ≡ b
 some_same e = cc e
 
 -- one number more is told
-pub tell_more : (p : ByteProgram) (k k' : KnownView) (number byte to : ℕ) → byte < 256 → k'.sets ≡ k.sets → k'.before ≡ set k.before (column_of number byte) (Some to) → IsTold p k
-    → ((beyond here : List ℕ) → slice_get k.sets number ≡ Some beyond → slice_get k.sets to ≡ Some here → IsAlwaysBefore p byte beyond here) → IsTold p k'
+pub tell_more : (p : ByteProgram) (k k' : KnownView) (number byte to : ℕ) → byte < 256 → k'.sets ≡ k.sets → k'.before ≡ set k.before (column_of number byte) (Some to) → TellsTruly p k
+    → ((beyond here : List ℕ) → slice_get k.sets number ≡ Some beyond → slice_get k.sets to ≡ Some here → IsAlwaysBefore p byte beyond here) → TellsTruly p k'
 tell_more p k k' number byte to low same more told one number' byte' to' beyond here low' get from there =
     let from' : slice_get k.sets number' ≡ Some beyond = ap (λ xs. slice_get xs number') (sym same) ∙ from in
     let there' : slice_get k.sets to' ≡ Some here = ap (λ xs. slice_get xs to') (sym same) ∙ there in
@@ -113,7 +113,7 @@ tell_more p k k' number byte to low same more told one number' byte' to' beyond 
 
 -- of lists of which more is kept, and no more is told
 pub more_known : (p : ByteProgram) (k k' : KnownView) → HasColumns k → ((number : ℕ) (other : List ℕ) → number < length k.sets → slice_get k'.sets number ≡ Some other → slice_get k.sets number ≡ Some other)
-    → ((column to : ℕ) → slice_get k'.before column ≡ Some (Some to) → slice_get k.before column ≡ Some (Some to)) → IsTold p k → IsTold p k'
+    → ((column to : ℕ) → slice_get k'.before column ≡ Some (Some to) → slice_get k.before column ≡ Some (Some to)) → TellsTruly p k → TellsTruly p k'
 more_known p k k' columns kept less told number byte to beyond here low get from there =
     let get' = less (column_of number byte) to get in
     told number byte to beyond here low get' (kept number beyond (omega (arith, columns.from (column_of number byte) to get', low)) from) (kept to here (columns.to (column_of number byte) to get') there)
@@ -135,7 +135,7 @@ pub put_there : (sets sets' : List (List ℕ)) (more : List ℕ) → sets' ≡ s
 put_there sets sets' more is = ap (λ xs. slice_get xs (length sets)) is ∙ got_last sets more
 
 -- what is read of the numbers
-pub before_told : (p : ByteProgram) (k : KnownView) (number byte : ℕ) (o : Option ℕ) → byte < 256 → slice_get k.before (column_of number byte) ≡ Some o → IsTold p k
+pub before_told : (p : ByteProgram) (k : KnownView) (number byte : ℕ) (o : Option ℕ) → byte < 256 → slice_get k.before (column_of number byte) ≡ Some o → TellsTruly p k
     → IfSome o (λ to. (beyond here : List ℕ) → slice_get k.sets number ≡ Some beyond → slice_get k.sets to ≡ Some here → IsAlwaysBefore p byte beyond here)
 before_told p k number byte None low get told = tt
 before_told p k number byte (Some to) low get told = λ beyond here from there. told number byte to beyond here low get from there

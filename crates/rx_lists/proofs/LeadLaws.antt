@@ -3,7 +3,7 @@ use Rattle.std.proofs.Common.{◌≡◌, ℕ, ◌+◌, List, [], ◌∷◌, Some
 use Rattle.rx_walks.specs.Machines.{Machine, goes, reads}
 use Rattle.rx_walks.specs.Paths.{Path, at_end, by_edge, by_read}
 use Rattle.rx_walks.specs.Steps.{Best, miss}
-use Rattle.rx_walks.specs.Laws.{IsTold}
+use Rattle.rx_walks.specs.Laws.{IsDecidable}
 use Rattle.rx_walks.specs.Leading.{LeadsToMatch, LeadsBy, match_ends, edge_leads, read_leads, Follows}
 use Rattle.rx_walks.proofs.FollowLaws.{followed_best, leads_walk}
 
@@ -24,9 +24,9 @@ module _ {Q N : Type 0} (m : Machine Q N) (i : ℕ) (Here : Q → Type 0)
       let one = on_read j q r here is in
       read_leads r (subst (λ x. m.move i q ≡ reads r x) one.1 is) (on r one.0 (record { pattern = p; end = e; path = subst (λ x. Path m r x p e) one.1 path }))
 
-never_best : {Q N : Type 0} {m : Machine Q N} {i : ℕ} {n : N} {q : Q} → IsTold Q → Best m [] i ((n, q) ∷ []) None → LeadsToMatch m q i → ⊥
+never_best : {Q N : Type 0} {m : Machine Q N} {i : ℕ} {n : N} {q : Q} → IsDecidable Q → Best m [] i ((n, q) ∷ []) None → LeadsToMatch m q i → ⊥
 never_best told (miss never best) leads = leads_walk told leads never
 
 -- where nothing is found a node doesn't lead
-pub follows_never : {Q N : Type 0} {m : Machine Q N} {i : ℕ} {n : N} {q : Q} → IsTold Q → Follows m i [] ((n, q) ∷ []) None → LeadsToMatch m q i → ⊥
+pub follows_never : {Q N : Type 0} {m : Machine Q N} {i : ℕ} {n : N} {q : Q} → IsDecidable Q → Follows m i [] ((n, q) ∷ []) None → LeadsToMatch m q i → ⊥
 follows_never told follows leads = never_best told (followed_best told follows) leads

@@ -10,7 +10,7 @@ use Rattle.rx_walks.specs.Paths.{Path, at_end, by_edge, by_read}
 use Rattle.rx_walks.specs.Programs.{only_if}
 use Rattle.rx_walks.specs.Bytes.{read_on}
 use Rattle.rx_steps.specs.declared.place.Place.{Place}
-use Rattle.rx_steps.specs.Nodes.{MayStand, IsNodeOf, widths_of, index_from}
+use Rattle.rx_steps.specs.Nodes.{MayStand, IsNodeIn, widths_of, index_from}
 use Rattle.rx_steps.specs.Threads.{Slots, first_node}
 use Rattle.rx_steps.specs.Lists.{MakesMoves, move_at, read_next, is_among}
 use Rattle.rx_lists.specs.Leading.{Moves}
@@ -80,14 +80,14 @@ pub moves_of : {m : Machine (ℕ × ℕ) Slots} {i : ℕ} {states : List State} 
 moves_of makes = record { at_state = makes.at_state; elsewhere = makes.elsewhere }
 
 module _ (p : ByteProgram) (place : Place) (m : Machine (ℕ × ℕ) Slots) (i : ℕ) (moves : Moves m i p.states place) where
-  first_is_node : (r : ℕ × ℕ) → r.1 ≡ 0 → IsNodeOf p.states r
+  first_is_node : (r : ℕ × ℕ) → r.1 ≡ 0 → IsNodeIn p.states r
   first_is_node r e = subst (λ s. MayStand (slice_get p.states r.0) s) (sym e) (first_may (slice_get p.states r.0))
 
   stays_so : (q : ℕ × ℕ) (o : Option State) (move : Move (ℕ × ℕ)) → slice_get p.states q.0 ≡ o → m.move i q ≡ move → ((x : State) × (o ≡ Some x) × Stays i q x move) ⊎ (move ≡ goes [])
   stays_so q None move at is = inr (sym is ∙ moves.elsewhere q at)
   stays_so q (Some x) move at is = inl (x, refl, subst (λ y. Stays i q x y) (sym (moves.at_state q x at) ∙ is) (stays_at place i q x))
 
-  pub edge_stays : (q r : ℕ × ℕ) (rs : List (ℕ × ℕ)) (k : ℕ) → m.move i q ≡ goes rs → slice_get rs k ≡ Some r → IsNodeOf p.states r
+  pub edge_stays : (q r : ℕ × ℕ) (rs : List (ℕ × ℕ)) (k : ℕ) → m.move i q ≡ goes rs → slice_get rs k ≡ Some r → IsNodeIn p.states r
   edge_stays q r rs k is at = elim (stays_so q (slice_get p.states q.0) (goes rs) refl is) [
     | inl one ↦ first_is_node r (one.2 k r at)
     | inr none ↦ absurd (no_edge (the_edges none) at)
@@ -99,7 +99,7 @@ module _ (p : ByteProgram) (place : Place) (m : Machine (ℕ × ℕ) Slots) (i :
       no_edge : rs ≡ [] → slice_get rs k ≡ Some r → ⊥
       no_edge e at' = let f : slice_get [] k ≡ Some r = ap (λ xs. slice_get xs k) (sym e) ∙ at' in cc f
 
-  pub read_stays_in : (j : ℕ) (q r : ℕ × ℕ) → IsNodeOf p.states q → m.move i q ≡ reads r j → IsNodeOf p.states r × (j ≡ i + 1)
+  pub read_stays_in : (j : ℕ) (q r : ℕ × ℕ) → IsNodeIn p.states q → m.move i q ≡ reads r j → IsNodeIn p.states r × (j ≡ i + 1)
   read_stays_in j q r may is = elim (stays_so q (slice_get p.states q.0) (reads r j) refl is) [
     | inl one ↦ (
       elim one.2.1 [
@@ -112,7 +112,7 @@ module _ (p : ByteProgram) (place : Place) (m : Machine (ℕ × ℕ) Slots) (i :
   ]
 
   -- a node with something to do has an index, and a state
-  pub node_index : (q : ℕ × ℕ) → IsNodeOf p.states q → (m.move i q ≡ goes [] → ⊥) → (k : ℕ) × (x : State) × (index_from 0 (widths_of p) q.0 q.1 ≡ Some k) × (slice_get p.states q.0 ≡ Some x)
+  pub node_index : (q : ℕ × ℕ) → IsNodeIn p.states q → (m.move i q ≡ goes [] → ⊥) → (k : ℕ) × (x : State) × (index_from 0 (widths_of p) q.0 q.1 ≡ Some k) × (slice_get p.states q.0 ≡ Some x)
   node_index q may some = by_state (slice_get p.states q.0) refl
     where
       by_index : (x : State) → slice_get p.states q.0 ≡ Some x → (o : Option ℕ) → index_from 0 (widths_of p) q.0 q.1 ≡ o → (k : ℕ) × (x : State) × (index_from 0 (widths_of p) q.0 q.1 ≡ Some k) × (slice_get p.states q.0 ≡ Some x)

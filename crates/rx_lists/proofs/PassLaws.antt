@@ -7,13 +7,13 @@ use Rattle.rx_walks.specs.Programs.{is_within, only_if}
 use Rattle.rx_walks.specs.Bytes.{by_byte}
 use Rattle.rx_walks.specs.Finds.{Search, IsInside}
 use Rattle.rx_walks.specs.ProgramFinds.{lowest, highest}
-use Rattle.rx_program.specs.Programs.{ByteProgram, characters_of, automata_of}
+use Rattle.rx_program.specs.Programs.{ByteProgram, character_program, automata_of}
 use Rattle.rx_steps.specs.declared.place.Place.{Place}
-use Rattle.rx_steps.specs.Nodes.{IsNodeOf, widths_of}
+use Rattle.rx_steps.specs.Nodes.{IsNodeIn, widths_of}
 use Rattle.rx_steps.specs.Searching.{haystack_in}
 use Rattle.rx_steps.specs.Coming.{machine_in}
 use Rattle.rx_lists.specs.Leading.{Moves, AreLeading, AreFilled}
-use Rattle.rx_lists.specs.LeadingSets.{AreKnown, AreLeadingSets, IsLeadingSet}
+use Rattle.rx_lists.specs.LeadingSets.{HasLeadingSets, AreLeadingSets, IsLeadingSet}
 use Rattle.rx_lists.specs.Bits.{HasNode}
 use Rattle.rx_lists.proofs.FillLaws.{Nodes}
 use Rattle.rx_lists.proofs.SetLaws.{none_in}
@@ -25,7 +25,7 @@ pub leading_by : (p : ByteProgram) (s : Search) (i : ℕ) (place : Place) (beyon
 leading_by p s i place beyond here moves filled next = let m = machine_in p s in record {
   leads = λ q c. leads_so (filled.leads m i moves q c) next.leads;
   all = λ q may leads. filled.all m i moves q may
-      (leads_by m i (λ r. IsNodeOf p.states r) (λ x r rs k is at. edge_stays p place m i moves x r rs k is at) (λ j x r may' is. read_stays_in p place m i moves j x r may' is)
+      (leads_by m i (λ r. IsNodeIn p.states r) (λ x r rs k is at. edge_stays p place m i moves x r rs k is at) (λ j x r may' is. read_stays_in p place m i moves j x r may' is)
       (λ r may' leads'. next.all r may' leads') may leads.path);
 }
 
@@ -37,7 +37,7 @@ pub none_past : (p : ByteProgram) (s : Search) (i : ℕ) → highest s < i → A
 none_past p s i past = record {
   leads = λ q c. absurd (none_in q c);
   all = λ q may leads. absurd (path_does leads.path
-      (ap (λ b. only_if b (by_byte (automata_of p) (haystack_in p.line_terminator s) i q.0 q.1 (slice_get (characters_of p).nodes q.0))) (is_past (lowest s) (highest s) i past)));
+      (ap (λ b. only_if b (by_byte (automata_of p) (haystack_in p.line_terminator s) i q.0 q.1 (slice_get (character_program p).nodes q.0))) (is_past (lowest s) (highest s) i past)));
 }
 
 got_pushed : {X : Type 0} (xs : List X) (y : X) (k : ℕ) (z : X) → slice_get (xs ++ y ∷ []) k ≡ Some z → (slice_get xs k ≡ Some z) ⊎ ((k ≡ length xs) × (y ≡ z))
@@ -75,13 +75,13 @@ pub count_more : (sets sets' : List (List ℕ)) (set : List ℕ) → sets' ≡ s
 count_more sets sets' set more = ap (λ xs. length xs) more ∙ length-append sets (set ∷ [])
 
 -- one more place is known
-pub known_more : (p : ByteProgram) (s : Search) (i : ℕ) (set : List ℕ) → AreKnown p s (i + 1) → IsLeadingSet p s i set → AreKnown p s i
+pub known_more : (p : ByteProgram) (s : Search) (i : ℕ) (set : List ℕ) → HasLeadingSets p s (i + 1) → IsLeadingSet p s i set → HasLeadingSets p s i
 known_more p s i set known leading j above below = elim (cases_eq j i) [
   | inl same ↦ (set, subst (λ k. IsLeadingSet p s k set) (sym same) leading)
   | inr other ↦ known j (omega (arith, above, other)) below
 ]
 
-pub known_none : (p : ByteProgram) (s : Search) (i : ℕ) → highest s < i → AreKnown p s i
+pub known_none : (p : ByteProgram) (s : Search) (i : ℕ) → highest s < i → HasLeadingSets p s i
 known_none p s i past j above below = absurd (omega (arith, past, above, below))
 
 pub inside_up : (s : Search) (i j : ℕ) → IsInside s i → i ≤ j → j ≤ highest s → IsInside s j

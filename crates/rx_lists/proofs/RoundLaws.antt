@@ -9,15 +9,15 @@ use Rattle.rx_walks.specs.Machines.{Move, ends, goes, reads}
 use Rattle.rx_steps.specs.declared.place.Place.{Place}
 use Rattle.rx_steps.specs.Nodes.{widths_of, width_of, index_from, end_from}
 use Rattle.rx_steps.specs.Lists.{move_at}
-use Rattle.rx_lists.specs.Arrivals.{IsTold, TellEdges}
+use Rattle.rx_lists.specs.Arrivals.{IsInList, TellEdges}
 use Rattle.rx_lists.specs.Sets.{AreAllNodes, IsAdded}
-use Rattle.rx_lists.specs.Leading.{LeadsOn, GoesTo, IsMarked, IsRound, AreSound, AreClosed, AreReal, AreFilled}
+use Rattle.rx_lists.specs.Leading.{LeadsOn, GoesTo, IsLookedAt, IsRound, AreSound, AreClosed, AreReal, AreFilled}
 use Rattle.rx_lists.proofs.ArrivalLaws.{edge_in}
 use Rattle.rx_lists.proofs.SetLaws.{there_at, with_one, last_one}
 use Rattle.rx_lists.proofs.FillLaws.{Nodes, sound_more, are_filled}
 
 pub marked_by : (p : ByteProgram) (place : Place) (q : ℕ × ℕ) (beyond old new : Nodes) (widths : List ℕ) (x : State) (b : Bool) → widths ≡ widths_of p → slice_get p.states q.0 ≡ Some x → ((i : ℕ) → LeadsOn old beyond (move_at place i q x))
-    → IsAdded widths old q b new → IsMarked p place q beyond old new b
+    → IsAdded widths old q b new → IsLookedAt p place q beyond old new b
 marked_by p place q beyond old new widths x true same at on added = (added.0, subst (λ w. length new ≤ end_from 0 w) same added.1, (x, at, on))
 marked_by p place q beyond old new widths x false same at on added = (added.0, λ k i y idx at' on'. added.1 k (subst (λ w. index_from 0 w q.0 q.1 ≡ Some k) (sym same) idx))
 
@@ -59,7 +59,7 @@ round_part p place those others beyond old new part round = record {
   real = round.real;
 }
 
-pub round_next : (p : ByteProgram) (place : Place) (done done' beyond old mid new : Nodes) (q : ℕ × ℕ) (b : Bool) → done' ≡ done ++ q ∷ [] → IsRound p place (λ r. Contains done r) beyond old mid → IsMarked p place q beyond mid new b
+pub round_next : (p : ByteProgram) (place : Place) (done done' beyond old mid new : Nodes) (q : ℕ × ℕ) (b : Bool) → done' ≡ done ++ q ∷ [] → IsRound p place (λ r. Contains done r) beyond old mid → IsLookedAt p place q beyond mid new b
     → IsRound p place (λ r. Contains done' r) beyond old new
 round_next p place done done' beyond old mid new q true more round marked = record {
   sound = λ sound. sound_more p place beyond mid new q marked.2.0 marked.0 marked.2.1 marked.2.2 (round.sound sound);
@@ -106,7 +106,7 @@ in_order p order all q k idx = let at = index_state 0 p.states q.0 q.1 k idx in 
 
 -- the nodes with an empty edge to a node that lead on came in
 abbrev pub IsBack : ByteProgram → Place → List (List (ℕ × ℕ)) → ℕ × ℕ → Nodes → Type 0
-IsBack p place lists r here = (q : ℕ × ℕ) → (r.1 ≡ 0) × IsTold lists r.0 q → (k i : ℕ) (x : State) → index_from 0 (widths_of p) q.0 q.1 ≡ Some k → slice_get p.states q.0 ≡ Some x
+IsBack p place lists r here = (q : ℕ × ℕ) → (r.1 ≡ 0) × IsInList lists r.0 q → (k i : ℕ) (x : State) → index_from 0 (widths_of p) q.0 q.1 ≡ Some k → slice_get p.states q.0 ≡ Some x
     → GoesTo (move_at place i q x) r → Contains here q
 
 goes_on : (here beyond : Nodes) (move : Move (ℕ × ℕ)) (r : ℕ × ℕ) → GoesTo move r → Contains here r → LeadsOn here beyond move
@@ -114,7 +114,7 @@ goes_on here beyond (ends k) r to c = absurd to
 goes_on here beyond (goes rs) r to c = (to.0, r, to.1, c)
 goes_on here beyond (reads next j) r to c = absurd to
 
-pub back_now : (p : ByteProgram) (place : Place) (lists : List (List (ℕ × ℕ))) (beyond old new : Nodes) (r : ℕ × ℕ) → IsRound p place (λ q. (r.1 ≡ 0) × IsTold lists r.0 q) beyond old new → Contains old r → IsBack p place lists r new
+pub back_now : (p : ByteProgram) (place : Place) (lists : List (List (ℕ × ℕ))) (beyond old new : Nodes) (r : ℕ × ℕ) → IsRound p place (λ q. (r.1 ≡ 0) × IsInList lists r.0 q) beyond old new → Contains old r → IsBack p place lists r new
 back_now p place lists beyond old new r round c q told k i x idx at to = round.reached q told k i x idx at (goes_on old beyond (move_at place i q x) r to c)
 
 pub back_still : (p : ByteProgram) (place : Place) (lists : List (List (ℕ × ℕ))) (old new : Nodes) (r : ℕ × ℕ) → IsStill old new → IsBack p place lists r old → IsBack p place lists r new
@@ -146,8 +146,8 @@ fills p place lists order beyond here all tell sound real begun back = are_fille
         let less : q.1 < width_of x = subst (λ y. q.1 < width_of y) (same_state (sym state.1 ∙ at)) state.2 in
         let to : GoesTo (move_at place i q x) r = subst (λ m. GoesTo m r) (sym is) (n, get) in
         let edge = edge_in place i q x r to less in
-        let told : IsTold lists r.0 (q.0, 0) = tell q.0 edge.2 r.0 x at edge.3 (real r there) in
-        back there.0 r (got_in here r there) q (edge.1, subst (λ s. IsTold lists r.0 (q.0, s)) (sym edge.0) told) k i x idx at to
+        let told : IsInList lists r.0 (q.0, 0) = tell q.0 edge.2 r.0 x at edge.3 (real r there) in
+        back there.0 r (got_in here r there) q (edge.1, subst (λ s. IsInList lists r.0 (q.0, s)) (sym edge.0) told) k i x idx at to
 
     closed : AreClosed p place beyond here (λ q. Contains order q)
     closed q c k i x idx at on = by_move q c k i x idx at (move_at place i q x) refl on

@@ -1,10 +1,10 @@
 -- Sets of nodes by their indices.
-use Rattle.std.proofs.Common.{◌≡◌, ℕ, ◌↔◌, ◌⊎◌, Bool, true, false, List, [], ◌∷◌, ◌++◌, Option, Some, None, Contains, IsTrue, slice_get, refl, sym, ap, ap₂, subst, ◌∙◌, arith, inl, inr}
+use Rattle.std.proofs.Common.{◌≡◌, ℕ, ◌↔◌, Bool, true, false, List, [], ◌∷◌, ◌++◌, Option, Some, None, Contains, IsTrue, slice_get, refl, sym, ap, ap₂, subst, ◌∙◌, arith, inl, inr}
 use Rattle.std.proofs.lemmas.Option.{slice_get_within, get_or_from_slice_get}
 use Rattle.std.proofs.lemmas.List.Elements.{Contains-append_left, Contains-append_right, Contains-push_cases}
 use Rattle.rx_steps.specs.Nodes.{index_from, IsInserted, IsMember}
 use Rattle.rx_steps.proofs.IndexLaws.{one_index}
-use Rattle.rx_lists.specs.Sets.{AreOf, IsAdded, IsAddedIf}
+use Rattle.rx_lists.specs.Sets.{AreOf}
 
 same_some : {a b : ℕ} → Some a ≡ Some b → a ≡ b
 same_some e = cc e
@@ -35,9 +35,6 @@ inserted_before widths ids ids' nodes q false (Some j) k e f at is are = (are q)
 pub of_same : (widths widths' ids ids' : List ℕ) (nodes : List (ℕ × ℕ)) → widths' ≡ widths → ids' ≡ ids → AreOf widths ids nodes → AreOf widths' ids' nodes
 of_same widths widths' ids ids' nodes e f are = rw e (rw f are)
 
-pub of_none : (widths ids : List ℕ) (nodes : List (ℕ × ℕ)) → ids ≡ [] → nodes ≡ [] → AreOf widths ids nodes
-of_none widths ids nodes e f = rw e (rw f (λ q. ((λ there. absurd (none_in there.0 there.2)), (λ c. absurd (none_in q c)))))
-
 pub of_more : (widths ids : List ℕ) (nodes : List (ℕ × ℕ)) (x : ℕ × ℕ) (k : ℕ) → index_from 0 widths x.0 x.1 ≡ Some k → AreOf widths ids nodes → AreOf widths (ids ++ k ∷ []) (nodes ++ x ∷ [])
 of_more widths ids nodes x k at are q = (
   (λ there. elim (Contains-push_cases ids k there.0 there.2) [
@@ -57,33 +54,5 @@ with_one old new x q e c = subst (λ xs. Contains xs q) (sym e) (Contains-append
 pub last_one : {X : Type 0} (old new : List X) (x q : X) → new ≡ old ++ x ∷ [] → x ≡ q → Contains new q
 last_one old new x q e f = subst (λ xs. Contains xs q) (sym e) (subst (λ y. Contains (old ++ x ∷ []) y) f (Contains-append_right old (x ∷ []) x (0, omega arith, refl)))
 
--- a node was added, or was there
-pub added_same : (widths : List ℕ) (old new : List (ℕ × ℕ)) (x q : ℕ × ℕ) (b : Bool) → IsAdded widths old x b new → Contains old q → Contains new q
-added_same widths old new x q true is c = with_one old new x q is.0 c
-added_same widths old new x q false is c = subst (λ xs. Contains xs q) (sym is.0) c
-
-pub added_one : (widths : List ℕ) (old new : List (ℕ × ℕ)) (x : ℕ × ℕ) (b : Bool) (k : ℕ) → IsAdded widths old x b new → index_from 0 widths x.0 x.1 ≡ Some k → Contains new x
-added_one widths old new x true k is at = last_one old new x x is.0 refl
-added_one widths old new x false k is at = subst (λ xs. Contains xs x) (sym is.0) (is.1 k at)
-
-pub added_only : (widths : List ℕ) (old new : List (ℕ × ℕ)) (x q : ℕ × ℕ) (b : Bool) → IsAdded widths old x b new → Contains new q → Contains old q ⊎ (x ≡ q)
-added_only widths old new x q true is c = Contains-push_cases old x q (subst (λ xs. Contains xs q) is.0 c)
-added_only widths old new x q false is c = inl (subst (λ xs. Contains xs q) is.0 c)
-
 pub there_at : {X : Type 0} (xs : List X) (k : ℕ) (x : X) → slice_get xs k ≡ Some x → Contains xs x
 there_at xs k x at = (k, slice_get_within xs k x at, get_or_from_slice_get xs k x x at)
-
--- a node was added where it was asked for
-pub asked_added : (widths : List ℕ) (old new : List (ℕ × ℕ)) (x : ℕ × ℕ) (b : Bool) → IsAdded widths old x b new → IsAddedIf widths old x true new
-asked_added widths old new x b is = record {
-  only = λ q c. elim (added_only widths old new x q b is c) [ inl c' ↦ inl c' | inr e ↦ inr (e, refl) ];
-  others = λ q c. added_same widths old new x q b is c;
-  there = λ k e at. added_one widths old new x b k is at;
-}
-
-pub not_asked : (widths : List ℕ) (old new : List (ℕ × ℕ)) (x : ℕ × ℕ) (b : Bool) → b ≡ false → new ≡ old → IsAddedIf widths old x b new
-not_asked widths old new x b not same = record {
-  only = λ q c. inl (subst (λ xs. Contains xs q) same c);
-  others = λ q c. subst (λ xs. Contains xs q) (sym same) c;
-  there = λ k e. absurd (cc (sym e ∙ not));
-}

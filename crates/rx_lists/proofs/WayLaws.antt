@@ -1,5 +1,5 @@
 -- The walk that is followed alone, from place to place.
-use Rattle.std.proofs.Common.{◌≡◌, ℕ, zero, suc, ◌+◌, ◌-◌, ◌<◌, ◌≤◌, ◌⊎◌, Bool, true, false, All, Result, Ok, Err, OnOk, IfSome, IsSomeAnd, List, [], ◌∷◌, Option, Some, None, slice_get, Contains, refl, sym, ap, subst, ◌∙◌, arith, inl, inr}
+use Rattle.std.proofs.Common.{◌≡◌, ℕ, zero, suc, ◌+◌, ◌-◌, ◌<◌, ◌≤◌, ◌⊎◌, Bool, true, false, All, IfSome, IsSomeAnd, List, [], ◌∷◌, Option, Some, None, slice_get, Contains, refl, sym, ap, subst, ◌∙◌, arith, inl, inr}
 use Rattle.std.proofs.lemmas.Option.{slice_get_within, get_or_from_slice_get}
 use Rattle.std.proofs.lemmas.List.Elements.{All-get_or}
 use Rattle.rx_walks.specs.Machines.{Machine, Outcome}
@@ -12,19 +12,19 @@ use Rattle.rx_walks.specs.ProgramFinds.{lowest, highest}
 use Rattle.rx_program.specs.declared.states.State.{State}
 use Rattle.rx_program.specs.Programs.{ByteProgram}
 use Rattle.rx_steps.specs.declared.place.Place.{Place}
-use Rattle.rx_steps.specs.Nodes.{IsNodeOf, widths_of, index_from}
+use Rattle.rx_steps.specs.Nodes.{IsNodeIn, widths_of, index_from}
 use Rattle.rx_steps.specs.Threads.{Slots, Thread, IsThreadOf}
 use Rattle.rx_steps.specs.Lists.{IsPlace, is_among, met_at}
 use Rattle.rx_steps.specs.Searching.{haystack_in}
 use Rattle.rx_steps.specs.Coming.{machine_in}
 use Rattle.rx_steps.proofs.ByteLaws.{within_is}
 use Rattle.rx_steps.proofs.PlaceLaws.{moves_at_place}
-use Rattle.rx_lists.specs.Bits.{has_bit, HasNode, IsSetOf}
+use Rattle.rx_lists.specs.Bits.{has_bit, HasNode, IsNodeSetOf}
 use Rattle.rx_lists.specs.Leading.{Moves, AreLeading}
-use Rattle.rx_lists.specs.LeadingSets.{AreKnown, AreLeadingSets, IsLeadingSet}
+use Rattle.rx_lists.specs.LeadingSets.{HasLeadingSets, AreLeadingSets, IsLeadingSet}
 use Rattle.rx_lists.specs.declared.pass_back.Block.{Block}
 use Rattle.rx_lists.specs.declared.blocks.Blocks.{Blocks}
-use Rattle.rx_lists.specs.Blocks.{AreBlocks, Reaches}
+use Rattle.rx_lists.specs.Blocks.{AreBlocks, BlockReaches}
 use Rattle.rx_lists.specs.Sets.{AreAllNodes}
 use Rattle.rx_lists.specs.declared.walk.Ending.{Ending}
 use Rattle.rx_lists.specs.Passes.{IsFirstAmong, outcome_of}
@@ -82,13 +82,13 @@ pub top_within : (p : ByteProgram) (s : Search) (b : Blocks) → AreBlocks p s b
 top_within p s b blocks = omega (arith, blocks.numbered.2, blocks.last_is)
 
 -- a block that reached back to a place reaches back to it and to the next one
-pub reached : (p : ByteProgram) (s : Search) (b : Blocks) (block : Block) (at next : ℕ) → AreBlocks p s b → next ≡ at + 1 → ((i : ℕ) → b.first ≤ i → next ≤ i + 1 → Reaches b.block i → Reaches block i) → lowest s ≤ at → Reaches b.block at
-    → Reaches block at × Reaches block next
+pub reached : (p : ByteProgram) (s : Search) (b : Blocks) (block : Block) (at next : ℕ) → AreBlocks p s b → next ≡ at + 1 → ((i : ℕ) → b.first ≤ i → next ≤ i + 1 → BlockReaches b.block i → BlockReaches block i) → lowest s ≤ at → BlockReaches b.block at
+    → BlockReaches block at × BlockReaches block next
 reached p s b block at next blocks is so above reaches =
     let here = so at (omega (arith, blocks.first_is, above)) (omega (arith, is)) reaches in
     (here, omega (arith, here, is))
 
-pub leads_or_not : (p : ByteProgram) (s : Search) (i : ℕ) (set : List ℕ) → IsLeadingSet p s i set → (q : ℕ × ℕ) → IsNodeOf p.states q → LeadsToMatch (machine_in p s) q i ⊎ (LeadsToMatch (machine_in p s) q i → ⊥)
+pub leads_or_not : (p : ByteProgram) (s : Search) (i : ℕ) (set : List ℕ) → IsLeadingSet p s i set → (q : ℕ × ℕ) → IsNodeIn p.states q → LeadsToMatch (machine_in p s) q i ⊎ (LeadsToMatch (machine_in p s) q i → ⊥)
 leads_or_not p s i set leading q may = by_index (index_from 0 (widths_of p) q.0 q.1) refl
   where
     by_bit : (k : ℕ) → index_from 0 (widths_of p) q.0 q.1 ≡ Some k → (b : Bool) → has_bit set k ≡ b → LeadsToMatch (machine_in p s) q i ⊎ (LeadsToMatch (machine_in p s) q i → ⊥)
@@ -105,7 +105,7 @@ leads_or_not p s i set leading q may = by_index (index_from 0 (widths_of p) q.0 
     by_index None at = inr (λ leads. let has = leading.all q may leads in absurd (cc (sym at ∙ has.1)))
 
 -- a set in bits of nodes that lead
-pub leading_set : (p : ByteProgram) (s : Search) (i : ℕ) (widths : List ℕ) (nodes : Nodes) (set : List ℕ) → widths ≡ widths_of p → lowest s ≤ i → i ≤ highest s → AreLeading p s i nodes → IsSetOf widths nodes set → IsLeadingSet p s i set
+pub leading_set : (p : ByteProgram) (s : Search) (i : ℕ) (widths : List ℕ) (nodes : Nodes) (set : List ℕ) → widths ≡ widths_of p → lowest s ≤ i → i ≤ highest s → AreLeading p s i nodes → IsNodeSetOf widths nodes set → IsLeadingSet p s i set
 leading_set p s i widths nodes set same above below leading is = record {
   leads = λ q has. leading.leads q (is.these q (subst (λ w. HasNode w set q) (sym same) has));
   all = λ q may leads.
@@ -146,14 +146,14 @@ chosen_at m i ((n, q) ∷ next) end out zero t at leads before follows =
 chosen_at m i ((n, q) ∷ next) end out (suc k) t at leads before follows =
     other_leads (before 0 (n, q) (omega arith) refl) (chosen_at m i next end out k t at leads (λ j u below get. before (suc j) u (omega (arith, below)) get) follows)
 
-pub walk_on : (p : ByteProgram) (s : Search) (i : ℕ) (n : Slots) (q : ℕ × ℕ) (next : List Thread) (end out : Option (Outcome Slots)) → AreKnown p s (lowest s) → IsInside s i → IsNodeOf p.states q
+pub walk_on : (p : ByteProgram) (s : Search) (i : ℕ) (n : Slots) (q : ℕ × ℕ) (next : List Thread) (end out : Option (Outcome Slots)) → HasLeadingSets p s (lowest s) → IsInside s i → IsNodeIn p.states q
     → Steps (machine_in p s) i [] ((n, q) ∷ []) next end → Chosen (machine_in p s) (i + 1) next end out → Follows (machine_in p s) i [] ((n, q) ∷ []) out
 walk_on p s i n q next end out known inside may steps chosen =
     let at = inside_is s i inside in
     let here = known i at.0 at.1 in
     let moves = moves_inside p s i at.0 at.1 in
     let m = machine_in p s in
-    thread_follows m i (λ r. IsNodeOf p.states r) (leads_or_not p s i here.0 here.1) (λ x r rs k may' is get. edge_stays p moves.0 m i moves.1 x r rs k is get) n q next end out may steps chosen
+    thread_follows m i (λ r. IsNodeIn p.states r) (leads_or_not p s i here.0 here.1) (λ x r rs k may' is get. edge_stays p moves.0 m i moves.1 x r rs k is get) n q next end out may steps chosen
 
 -- behind the last place nothing leads
 pub never_past : (p : ByteProgram) (s : Search) (i : ℕ) (t : Thread) → highest s < i → IsThreadOf p.states t → LeadsToMatch (machine_in p s) t.1 i → ⊥
@@ -187,7 +187,3 @@ ends_there (Some x) (Some k) at slots P e has = subst (λ j. P j) (sym (ap (λ (
   where
     one : {a b : Outcome Slots} → Some a ≡ Some b → a ≡ b
     one f = cc f
-
-pub on_ok_both : {A E P Q R : Type 0} (r : Result A E) → (P → Q → R) → OnOk r P → OnOk r Q → OnOk r R
-on_ok_both (Ok x) f h h' = f h h'
-on_ok_both (Err e) f h h' = h

@@ -18,17 +18,17 @@ abbrev pub nodes_in : {Z : Type 0} → List (Vec (ℕ × ℕ) Z) → List (List 
 nodes_in lists = map (λ list. list.items) lists
 
 -- a node is in the list of a state
-abbrev pub IsTold : List (List (ℕ × ℕ)) → ℕ → ℕ × ℕ → Type 0
-IsTold lists on q =
+abbrev pub IsInList : List (List (ℕ × ℕ)) → ℕ → ℕ × ℕ → Type 0
+IsInList lists on q =
     (list : List (ℕ × ℕ)) × (slice_get lists on ≡ Some list) × Contains list q
 
 -- a node came into the lists of these states
 pub record AreTold (from : ℕ × ℕ) (ons : List ℕ) (old new : List (List (ℕ × ℕ))) : Type 0 where
   pub count : length new ≡ length old
-  pub others : (on : ℕ) (q : ℕ × ℕ) → IsTold old on q → IsTold new on q
-  pub there : (k on : ℕ) → slice_get ons k ≡ Some on → on < length old → IsTold new on from
+  pub others : (on : ℕ) (q : ℕ × ℕ) → IsInList old on q → IsInList new on q
+  pub there : (k on : ℕ) → slice_get ons k ≡ Some on → on < length old → IsInList new on from
 
 -- the lists tell of the edges of states that lead to one of so many
 abbrev pub TellEdges : List State → ℕ → List (List (ℕ × ℕ)) → Type 0
 TellEdges states count lists = (q k on : ℕ) (x : State) → slice_get states q ≡ Some x
-    → slice_get (edges_of x) k ≡ Some on → on < count → IsTold lists on (q, 0)
+    → slice_get (edges_of x) k ≡ Some on → on < count → IsInList lists on (q, 0)

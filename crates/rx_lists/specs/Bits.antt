@@ -19,7 +19,7 @@ pub record IsPut (widths old : List ℕ) (x : ℕ × ℕ) (new : List ℕ) : Typ
   pub there : (k : ℕ) → index_from 0 widths x.0 x.1 ≡ Some k → HasNode widths new x
 
 -- a set is that of these nodes, as far as they have a number
-pub record IsSetOf (widths : List ℕ) (nodes : List (ℕ × ℕ)) (set : List ℕ) : Type 0 where
+pub record IsNodeSetOf (widths : List ℕ) (nodes : List (ℕ × ℕ)) (set : List ℕ) : Type 0 where
   pub these : (q : ℕ × ℕ) → HasNode widths set q → Contains nodes q
   pub all : (q : ℕ × ℕ) (k : ℕ) → Contains nodes q → index_from 0 widths q.0 q.1 ≡ Some k
       → HasNode widths set q

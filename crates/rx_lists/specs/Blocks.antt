@@ -5,12 +5,12 @@ use Rattle.rx_walks.specs.ProgramFinds.{lowest, highest}
 use Rattle.rx_program.specs.Programs.{ByteProgram}
 use Rattle.rx_lists.specs.declared.pass_back.Block.{Block}
 use Rattle.rx_lists.specs.declared.blocks.Blocks.{Blocks}
-use Rattle.rx_lists.specs.LeadingSets.{AreKnown, AreLeadingSets}
+use Rattle.rx_lists.specs.LeadingSets.{HasLeadingSets, AreLeadingSets}
 use Rattle.rx_lists.specs.Passes.{IsReady}
 
 -- the sets of a block go back to a place
-abbrev pub Reaches : Block → ℕ → Type 0
-Reaches b i = b.top < i + length b.sets
+abbrev pub BlockReaches : Block → ℕ → Type 0
+BlockReaches b i = b.top < i + length b.sets
 
 -- sets that were kept at distances from the last place of a search, and those of the block at hand,
 -- which begins at one of these places, are of the nodes that lead
@@ -23,4 +23,4 @@ pub record AreBlocks (p : ByteProgram) (s : Search) (b : Blocks) : Type 0 where
   pub sets : AreLeadingSets p s b.block.top 1 b.block.sets
   pub numbered : (k : ℕ) × (k < length b.kept) × (b.block.top + k * b.every ≡ b.last)
   pub above : lowest s ≤ b.block.top
-  pub known : AreKnown p s (lowest s)
+  pub known : HasLeadingSets p s (lowest s)

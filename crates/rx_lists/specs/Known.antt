@@ -37,8 +37,8 @@ IsAlwaysBefore p byte beyond here =
     (place : Place) → place.byte ≡ Some byte → IsSetBefore p place beyond here
 
 -- what is told is so
-abbrev pub IsTold : ByteProgram → KnownView → Type 0
-IsTold p k = (number byte to : ℕ) (beyond here : List ℕ) → byte < 256
+abbrev pub TellsTruly : ByteProgram → KnownView → Type 0
+TellsTruly p k = (number byte to : ℕ) (beyond here : List ℕ) → byte < 256
     → slice_get k.before (column_of number byte) ≡ Some (Some to)
     → slice_get k.sets number ≡ Some beyond → slice_get k.sets to ≡ Some here
     → IsAlwaysBefore p byte beyond here

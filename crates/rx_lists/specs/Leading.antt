@@ -7,7 +7,7 @@ use Rattle.rx_walks.specs.Finds.{Search}
 use Rattle.rx_program.specs.Programs.{ByteProgram}
 use Rattle.rx_program.specs.declared.states.State.{State}
 use Rattle.rx_steps.specs.declared.place.Place.{Place}
-use Rattle.rx_steps.specs.Nodes.{widths_of, node_count, index_from, IsNodeOf}
+use Rattle.rx_steps.specs.Nodes.{widths_of, node_count, index_from, IsNodeIn}
 use Rattle.rx_steps.specs.Threads.{Slots}
 use Rattle.rx_steps.specs.Lists.{move_at}
 use Rattle.rx_steps.specs.Coming.{machine_in}
@@ -15,7 +15,7 @@ use Rattle.rx_steps.specs.Coming.{machine_in}
 -- these are the nodes of a program that lead to a match from a place of a search
 pub record AreLeading (p : ByteProgram) (s : Search) (i : ℕ) (nodes : List (ℕ × ℕ)) : Type 0 where
   pub leads : (q : ℕ × ℕ) → Contains nodes q → LeadsToMatch (machine_in p s) q i
-  pub all : (q : ℕ × ℕ) → IsNodeOf p.states q → LeadsToMatch (machine_in p s) q i
+  pub all : (q : ℕ × ℕ) → IsNodeIn p.states q → LeadsToMatch (machine_in p s) q i
       → Contains nodes q
 
 -- ---- a place, by the one behind it
@@ -39,18 +39,18 @@ pub record AreFilled (p : ByteProgram) (place : Place) (beyond here : List (ℕ 
   pub leads : (m : Machine (ℕ × ℕ) Slots) (i : ℕ) → Moves m i p.states place
       → (q : ℕ × ℕ) → Contains here q → LeadsBy m i (λ r. Contains beyond r) q
   pub all : (m : Machine (ℕ × ℕ) Slots) (i : ℕ) → Moves m i p.states place
-      → (q : ℕ × ℕ) → IsNodeOf p.states q → LeadsBy m i (λ r. Contains beyond r) q
+      → (q : ℕ × ℕ) → IsNodeIn p.states q → LeadsBy m i (λ r. Contains beyond r) q
       → Contains here q
 
 -- ---- one node after the other
 
 -- a node was looked at: it came into the set, since it leads on, or did not
-abbrev pub IsMarked : ByteProgram → Place → ℕ × ℕ → List (ℕ × ℕ) → List (ℕ × ℕ) → List (ℕ × ℕ)
+abbrev pub IsLookedAt : ByteProgram → Place → ℕ × ℕ → List (ℕ × ℕ) → List (ℕ × ℕ) → List (ℕ × ℕ)
     → Bool → Type 0
-IsMarked p place q beyond old new true = (new ≡ old ++ q ∷ []) × (length new ≤ node_count p)
+IsLookedAt p place q beyond old new true = (new ≡ old ++ q ∷ []) × (length new ≤ node_count p)
     × ((x : State) × (slice_get p.states q.0 ≡ Some x)
     × ((i : ℕ) → LeadsOn old beyond (move_at place i q x)))
-IsMarked p place q beyond old new false = (new ≡ old)
+IsLookedAt p place q beyond old new false = (new ≡ old)
     × ((k i : ℕ) (x : State) → index_from 0 (widths_of p) q.0 q.1 ≡ Some k
     → slice_get p.states q.0 ≡ Some x → LeadsOn old beyond (move_at place i q x)
     → Contains old q)

@@ -9,7 +9,7 @@ use Rattle.rx_walks.specs.Leading.{LeadsToMatch, Follows}
 use Rattle.rx_walks.specs.Listings.{Listing}
 use Rattle.rx_walks.specs.LeadLaws.{begins_from}
 use Rattle.rx_utf8.specs.Automata.{is_in}
-use Rattle.rx_program.specs.Programs.{ByteProgram, characters_of}
+use Rattle.rx_program.specs.Programs.{ByteProgram, character_program}
 use Rattle.rx_steps.specs.Threads.{Slots, no_slots, first_node}
 use Rattle.rx_steps.specs.Searching.{slots_from}
 use Rattle.rx_steps.specs.Coming.{machine_in}
@@ -29,7 +29,7 @@ listed_of len t = record { pattern = t.pattern; end = t.end; slots = slots_from 
 pub record AreAllMatches (p : ByteProgram) (s : Search) (len : ℕ) (found : List Listed)
     : Type 0 where
   pub matches : List (Outcome Notes)
-  pub are_all : ProgramMatches is_in is_word_char (characters_of p) s matches
+  pub are_all : ProgramMatches is_in is_word_char (character_program p) s matches
   pub found_are : found ≡ map (listed_of len) matches
 
 -- ---- while they are listed
@@ -51,10 +51,10 @@ AreListedTo p s q len found after from i = (ms : List (Outcome Slots))
 
 -- what a find that began at a place comes to at a further one: no start counts there, or this is
 -- followed from it
-abbrev pub IsFoundAt : ByteProgram → Search → ℕ → ℕ → ℕ → ℕ → Option (Outcome Slots) → Type 0
-IsFoundAt p s q len from i None =
+abbrev pub IsFoundOnward : ByteProgram → Search → ℕ → ℕ → ℕ → ℕ → Option (Outcome Slots) → Type 0
+IsFoundOnward p s q len from i None =
     begins_from s from i → LeadsToMatch (machine_in p s) (first_node q) i → ⊥
-IsFoundAt p s q len from i (Some t) = begins_from s from i
+IsFoundOnward p s q len from i (Some t) = begins_from s from i
     × Follows (machine_in p s) i [] ((no_slots len, first_node q) ∷ []) (Some t)
 
 -- where the list goes on that has come to a place: behind it, unless that was the last one; or at the

@@ -9,7 +9,7 @@ use Rattle.rx_steps.specs.Threads.{Slots, Thread}
 use Rattle.rx_lists.specs.declared.pass_back.PassBack.{PassBack}
 use Rattle.rx_lists.specs.declared.walk.Ending.{Ending}
 use Rattle.rx_lists.specs.Arrivals.{TellEdges}
-use Rattle.rx_lists.specs.Known.{IsTold}
+use Rattle.rx_lists.specs.Known.{TellsTruly}
 use Rattle.rx_lists.specs.Sets.{AreAllNodes}
 
 -- the room of a pass back is one for a program
@@ -18,7 +18,7 @@ pub record IsReady (p : ByteProgram) (b : PassBack) : Type 0 where
   pub index_is : b.index ≡ widths_of p
   pub arrivals : TellEdges p.states (length p.states) b.arrivals
   pub looks : b.asks_looks ≡ false → (l : walks.Look) → Asks p.states l → ⊥
-  pub told : b.asks_looks ≡ false → IsTold p b.known
+  pub told : b.asks_looks ≡ false → TellsTruly p b.known
   pub numbered : IfSome b.number (λ n. slice_get b.known.sets n ≡ Some b.set.value)
   pub here_are : b.here.widths ≡ widths_of p
   pub beyond_are : b.beyond.widths ≡ widths_of p

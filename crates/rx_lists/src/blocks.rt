@@ -1,13 +1,13 @@
 //! The nodes that lead from each place of a span, a block of places at a time.
 
-ghost use Rattle.std.specs.Prelude.{◌≡◌, ◌+◌, ◌-◌, ◌<◌, ◌≤◌, Bool, ℕ, [], Some, IfOk, IfErr, OnOk, length, max, slice_get};
+ghost use Rattle.std.specs.Prelude.{◌≡◌, ◌+◌, ◌-◌, ◌<◌, ◌≤◌, Bool, ℕ, [], Some, IfOk, IfErr, OnOk, max, slice_get};
 ghost use Rattle.rx_util.specs.declared.search.MatchError.{MatchError};
 ghost use Rattle.rx_walks.specs.Finds.{IsInside};
 ghost use Rattle.rx_walks.specs.ProgramFinds.{highest, lowest};
 ghost use Rattle.rx_input.specs.Cursors.{IsSameContent};
 ghost use Rattle.rx_steps.specs.Searching.{search_of};
-ghost use Rattle.rx_lists.specs.Blocks.{AreBlocks, Reaches};
-ghost use Rattle.rx_lists.specs.LeadingSets.{AreKnown, IsLeadingSet};
+ghost use Rattle.rx_lists.specs.Blocks.{AreBlocks, BlockReaches};
+ghost use Rattle.rx_lists.specs.LeadingSets.{HasLeadingSets, IsLeadingSet};
 ghost use Rattle.rx_lists.specs.Passes.{IsReady};
 
 use crate::bits::Bits;
@@ -56,7 +56,7 @@ impl Blocks {
             → input.old.position ≡ highest (search_of utf8_empty input.old) }
         ensures blocks { IfOk result (λ blocks. (utf8_empty : Bool) → AreBlocks program.now
             (search_of utf8_empty input.old) blocks) }
-        ensures reaches { IfOk result (λ blocks. Reaches blocks.block input.new.position) }
+        ensures reaches { IfOk result (λ blocks. BlockReaches blocks.block input.new.position) }
         ensures first { IfOk result (λ blocks. input.new.position
             ≡ max input.old.asked.slice.start input.old.asked.span.start) }
         ensures same { IsSameContent input.old.cursor input.new.cursor }
@@ -102,7 +102,7 @@ impl Blocks {
             → IsInside (search_of utf8_empty input.old) input.old.position }
         requires leading { (utf8_empty : Bool) → IsLeadingSet program.now
             (search_of utf8_empty input.old) input.old.position self.old.pass.set.value }
-        requires known { (utf8_empty : Bool) → AreKnown program.now
+        requires known { (utf8_empty : Bool) → HasLeadingSets program.now
             (search_of utf8_empty input.old) input.old.position }
         requires first { (utf8_empty : Bool)
             → self.old.first ≡ lowest (search_of utf8_empty input.old) }
@@ -113,7 +113,7 @@ impl Blocks {
         requires none { self.old.kept ≡ [] }
         ensures blocks { OnOk result ((utf8_empty : Bool) → AreBlocks program.now
             (search_of utf8_empty input.old) self.new) }
-        ensures reaches { OnOk result (Reaches self.new.block self.old.first) }
+        ensures reaches { OnOk result (BlockReaches self.new.block self.old.first) }
         ensures first { OnOk result (input.new.position ≡ self.old.first) }
         ensures same { IsSameContent input.old.cursor input.new.cursor }
         ensures asked { input.new.asked ≡ input.old.asked }
@@ -146,7 +146,7 @@ impl Blocks {
             (search_of utf8_empty input.old) self.new) }
         ensures there { OnOk result (input.old.position ≤ self.new.block.top) }
         ensures reaches { OnOk result ((i : ℕ) → self.old.first ≤ i → input.old.position ≤ i + 1
-            → Reaches self.old.block i → Reaches self.new.block i) }
+            → BlockReaches self.old.block i → BlockReaches self.new.block i) }
         ensures position { OnOk result (input.new.position ≡ input.old.position) }
         ensures same { IsSameContent input.old.cursor input.new.cursor }
         ensures asked { input.new.asked ≡ input.old.asked }
@@ -171,7 +171,7 @@ impl Blocks {
     /// The nodes that lead from a place of the block at hand.
     pub(crate) fn set(&self, at: usize) -> &Bits
         requires there { at ≤ self.now.block.top }
-        requires reaches { Reaches self.now.block at }
+        requires reaches { BlockReaches self.now.block at }
         ensures { slice_get self.now.block.sets (self.now.block.top - at)
             ≡ Some result.now }
     {

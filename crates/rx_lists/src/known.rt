@@ -1,9 +1,9 @@
 //! Sets of nodes that were come to, and how a pass back goes from one of them to another.
 
 ghost use Rattle.std.specs.Prelude.{◌≡◌, ◌<◌, ◌++◌, ◌∷◌, [], ℕ, List, Some};
-ghost use Rattle.std.specs.Prelude.{IfOk, IfSome, OnOk, OnErr, false, length, slice_get};
+ghost use Rattle.std.specs.Prelude.{IfOk, IfSome, OnOk, OnErr, length, slice_get};
 ghost use Rattle.rx_program.specs.Programs.{ByteProgram};
-ghost use Rattle.rx_lists.specs.Known.{IsAlwaysBefore, IsTold};
+ghost use Rattle.rx_lists.specs.Known.{IsAlwaysBefore, TellsTruly};
 
 use crate::bits::Bits;
 use std::alloc::{AllocError, Global};
@@ -100,7 +100,7 @@ impl Model for Known {
 impl Known {
     /// None is known.
     pub(crate) fn new(alloc: Global) -> Known
-        ensures told { (p : ByteProgram) → IsTold p result }
+        ensures told { (p : ByteProgram) → TellsTruly p result }
     {
         Known {
             sets: Sets::new(alloc),
@@ -133,7 +133,7 @@ impl Known {
     pub(crate) fn before(&self, number: usize, byte: u8) -> Option<usize>
         requires { number < length self.now.sets }
         ensures there { IfSome result (λ to. to < length self.now.sets) }
-        ensures told { (p : ByteProgram) → IsTold p self.now → IfSome result
+        ensures told { (p : ByteProgram) → TellsTruly p self.now → IfSome result
             (λ to. (beyond here : List ℕ) → slice_get self.now.sets number ≡ Some beyond
             → slice_get self.now.sets to ≡ Some here → IsAlwaysBefore p byte beyond here) }
     {
@@ -145,9 +145,9 @@ impl Known {
         requires from { number < length self.old.sets }
         requires to { to < length self.old.sets }
         ensures sets { self.new.sets ≡ self.old.sets }
-        ensures told { (p : ByteProgram) → IsTold p self.old → ((beyond here : List ℕ)
+        ensures told { (p : ByteProgram) → TellsTruly p self.old → ((beyond here : List ℕ)
             → slice_get self.old.sets number ≡ Some beyond → slice_get self.old.sets to ≡ Some here
-            → IsAlwaysBefore p byte beyond here) → IsTold p self.new }
+            → IsAlwaysBefore p byte beyond here) → TellsTruly p self.new }
     {
         self.before[number * BYTES + usize::from(byte)] = Some(to);
     }
@@ -159,7 +159,7 @@ impl Known {
 
     /// Forgets all.
     pub(crate) fn clear(&mut self)
-        ensures told { (p : ByteProgram) → IsTold p self.new }
+        ensures told { (p : ByteProgram) → TellsTruly p self.new }
     {
         self.sets.clear();
         self.before.clear();
@@ -171,7 +171,7 @@ impl Known {
         ensures kept { (number : ℕ) (other : List ℕ)
             → slice_get self.old.sets number ≡ Some other
             → slice_get self.new.sets number ≡ Some other }
-        ensures told { (p : ByteProgram) → IsTold p self.old → IsTold p self.new }
+        ensures told { (p : ByteProgram) → TellsTruly p self.old → TellsTruly p self.new }
     {
         let number = self.sets.len();
         let shared = shared(alloc, set)?;
@@ -186,7 +186,7 @@ impl Known {
         ensures kept { (number : ℕ) (other : List ℕ)
             → slice_get self.old.sets number ≡ Some other
             → slice_get self.new.sets number ≡ Some other }
-        ensures told { (p : ByteProgram) → IsTold p self.old → IsTold p self.new }
+        ensures told { (p : ByteProgram) → TellsTruly p self.old → TellsTruly p self.new }
     {
         match self.find(&set) {
             Some(number) => Ok(number),

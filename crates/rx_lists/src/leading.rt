@@ -5,8 +5,8 @@ ghost use Rattle.rx_utf8.specs.Automata.{step_of};
 ghost use Rattle.rx_steps.specs.Nodes.{widths_of};
 ghost use Rattle.rx_steps.specs.Lists.{move_at, read_next};
 ghost use Rattle.rx_lists.specs.Sets.{AreAllNodes};
-ghost use Rattle.rx_lists.specs.Arrivals.{IsTold, TellEdges};
-ghost use Rattle.rx_lists.specs.Leading.{AreFilled, IsMarked, IsRound, LeadsOn};
+ghost use Rattle.rx_lists.specs.Arrivals.{IsInList, TellEdges};
+ghost use Rattle.rx_lists.specs.Leading.{AreFilled, IsLookedAt, IsRound, LeadsOn};
 
 use crate::arrivals::Arrivals;
 use crate::node_set::NodeSet;
@@ -85,7 +85,7 @@ fn mark(
     here: &mut NodeSet,
 ) -> Result<bool, AllocError>
     requires widths { here.old.widths ≡ widths_of program.now }
-    ensures marked { IfOk result (IsMarked program.now place.now node beyond.now.nodes
+    ensures marked { IfOk result (IsLookedAt program.now place.now node beyond.now.nodes
         here.old.nodes here.new.nodes) }
     ensures widths { here.new.widths ≡ here.old.widths }
 {
@@ -131,7 +131,7 @@ fn go_back(
 ) -> Result<(), AllocError>
     requires widths { here.old.widths ≡ widths_of program.now }
     ensures round { OnOk result (IsRound program.now place.now
-        (λ q. (node.1 ≡ 0) × IsTold arrivals.now node.0 q)
+        (λ q. (node.1 ≡ 0) × IsInList arrivals.now node.0 q)
         beyond.now.nodes here.old.nodes here.new.nodes) }
     ensures widths { here.new.widths ≡ here.old.widths }
 {

@@ -9,9 +9,9 @@ ghost use Rattle.rx_walks.specs.ProgramFinds.{highest};
 ghost use Rattle.rx_input.specs.Cursors.{IsSameContent};
 ghost use Rattle.rx_input.specs.Inputs.{IsMoved};
 ghost use Rattle.rx_steps.specs.Searching.{search_of};
-ghost use Rattle.rx_lists.specs.Blocks.{AreBlocks, Reaches};
+ghost use Rattle.rx_lists.specs.Blocks.{AreBlocks, BlockReaches};
 ghost use Rattle.rx_lists.specs.Passes.{IsWalking, outcome_of};
-ghost use Rattle.rx_lists.specs.Lists.{AreAllMatches, AreListedTo, IsFoundAt, IsTaken, Lists, end_or, outcome_of_listed, places_in, reads_for};
+ghost use Rattle.rx_lists.specs.Lists.{AreAllMatches, AreListedTo, IsFoundOnward, IsTaken, Lists, end_or, outcome_of_listed, places_in, reads_for};
 
 use crate::blocks::Blocks;
 use crate::walk::{Ending, Walk};
@@ -118,9 +118,9 @@ fn find_at<C: Cursor>(
         (search_of utf8_empty input.old) blocks.old }
     requires inside { (utf8_empty : Bool)
         → IsInside (search_of utf8_empty input.old) input.old.position }
-    requires reaches { Reaches blocks.old.block input.old.position }
+    requires reaches { BlockReaches blocks.old.block input.old.position }
     requires from { from ≤ input.old.position }
-    ensures found { IfOk result (λ found. IsFoundAt program.now
+    ensures found { IfOk result (λ found. IsFoundOnward program.now
         (search_of of.now.utf8_empty input.old) of.now.start of.now.slot_len from input.old.position
         (outcome_of found walk.new.stepper.slots)) }
     ensures inside { IfOk result (λ found. IfSome found (λ e.
@@ -129,7 +129,7 @@ fn find_at<C: Cursor>(
     ensures ready { IsWalking program.now walk.new.stepper.widths walk.new.asks_looks }
     ensures blocks { OnOk result ((utf8_empty : Bool) → AreBlocks program.now
         (search_of utf8_empty input.old) blocks.new) }
-    ensures reaches { IfOk result (λ found. Reaches blocks.new.block
+    ensures reaches { IfOk result (λ found. BlockReaches blocks.new.block
         (end_or found input.old.position)) }
     ensures same { IsSameContent input.old.cursor input.new.cursor }
     ensures asked { input.new.asked ≡ input.old.asked }
@@ -190,7 +190,7 @@ impl Progress {
     ) -> Result<Option<usize>, MatchError>
         requires bound { at + 1 < 2 ^ 64 }
         ensures taken { IfOk result (λ goes_on. (p : ByteProgram) → (s : Search) → (q : ℕ)
-            → (len : ℕ) → IsFoundAt p s q len self.old.from at (outcome_of found slots.now)
+            → (len : ℕ) → IsFoundOnward p s q len self.old.from at (outcome_of found slots.now)
             → self.old.from ≤ at → (self.old.after ≡ true → self.old.from ≡ at)
             → AreListedTo p s q len self.old.found.items self.old.after self.old.from at
             → IsTaken p s q len at self.new.found.items self.new.after self.new.from goes_on) }
@@ -261,7 +261,7 @@ fn list_all<C: Cursor>(
     requires ready { IsWalking program.now walk.old.stepper.widths walk.old.asks_looks }
     requires blocks { (utf8_empty : Bool) → AreBlocks program.now
         (search_of utf8_empty input.old) blocks.old }
-    requires reaches { Reaches blocks.old.block input.old.position }
+    requires reaches { BlockReaches blocks.old.block input.old.position }
     requires inside { (utf8_empty : Bool)
         → IsInside (search_of utf8_empty input.old) input.old.position }
     requires first { input.old.position

@@ -1,8 +1,8 @@
 //! The numbers of a program's nodes.
 
 ghost use Rattle.std.specs.Prelude.{◌≡◌, ◌↔◌, ◌*◌, ◌<◌, ◌≤◌, map, length, slice_get, IsTrue, IfOk, IfSome};
-ghost use Rattle.rx_steps.specs.Nodes.{widths_of, width_of, starts_from, end_from, index_from};
-ghost use Rattle.rx_lists.specs.Bits.{HasNode, IsPut, IsSetOf};
+ghost use Rattle.rx_steps.specs.Nodes.{widths_of, width_of, node_starts, end_from, index_from};
+ghost use Rattle.rx_lists.specs.Bits.{HasNode, IsPut, IsNodeSetOf};
 
 use crate::bits::Bits;
 use rx_program::{Program, State};
@@ -31,13 +31,13 @@ pub(crate) struct NodeIndex {
 
 impl Model for NodeIndex {
     ghost use Rattle.std.specs.Prelude.{◌≡◌, List, ℕ};
-    ghost use Rattle.rx_steps.specs.Nodes.{widths_in, starts_from, end_from};
+    ghost use Rattle.rx_steps.specs.Nodes.{widths_in, node_starts, end_from};
 
     ghost Value = { List ℕ };
 
     ghost view = { λ s. widths_in s.starts.items };
 
-    ghost invariant = { λ s. (s.starts.items ≡ starts_from 0 (widths_in s.starts.items))
+    ghost invariant = { λ s. (s.starts.items ≡ node_starts 0 (widths_in s.starts.items))
         × (s.count ≡ end_from 0 (widths_in s.starts.items)) };
 }
 
@@ -45,7 +45,7 @@ impl Model for NodeIndex {
 /// number.
 fn starts_of(alloc: Global, states: &[State]) -> Result<(Vec<usize>, usize), AllocError>
     ensures starts { IfOk result (λ made. made.0.items
-        ≡ starts_from 0 (map width_of states.now)) }
+        ≡ node_starts 0 (map width_of states.now)) }
     ensures end { IfOk result (λ made. made.1 ≡ end_from 0 (map width_of states.now)) }
 {
     let mut starts = Vec::new(alloc);
@@ -115,7 +115,7 @@ impl NodeIndex {
 
     /// The set of these nodes, as far as they are of the program.
     pub(crate) fn set_of(&self, alloc: Global, nodes: &[Node]) -> Result<Bits, AllocError>
-        ensures { IfOk result (λ set. IsSetOf self.now nodes.now set) }
+        ensures { IfOk result (λ set. IsNodeSetOf self.now nodes.now set) }
     {
         let mut set = Bits::new(alloc, self.count)?;
         for node in nodes {

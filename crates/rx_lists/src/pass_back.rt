@@ -1,9 +1,9 @@
 //! The pass back over a content: which nodes lead from each of its places.
 
 ghost use Rattle.std.specs.Prelude.{◌≡◌, ◌+◌, ◌<◌, ◌≤◌, ◌++◌, ◌∷◌, [], Bool, ℕ, List, Some};
-ghost use Rattle.std.specs.Prelude.{IfOk, IfErr, IfSome, OnOk, false, length, slice_get};
+ghost use Rattle.std.specs.Prelude.{IfOk, IfErr, IfSome, OnOk, length, slice_get};
 ghost use Rattle.rx_util.specs.declared.search.MatchError.{MatchError};
-ghost use Rattle.rx_walks.specs.Finds.{IsInside, Search};
+ghost use Rattle.rx_walks.specs.Finds.{IsInside};
 ghost use Rattle.rx_walks.specs.ProgramFinds.{lowest};
 ghost use Rattle.rx_program.specs.Programs.{ByteProgram};
 ghost use Rattle.rx_input.specs.Inputs.{IsMoved};
@@ -12,7 +12,7 @@ ghost use Rattle.rx_steps.specs.Nodes.{widths_of};
 ghost use Rattle.rx_steps.specs.Searching.{search_of};
 ghost use Rattle.rx_lists.specs.Bits.{HasNode};
 ghost use Rattle.rx_lists.specs.Known.{IsSetBefore};
-ghost use Rattle.rx_lists.specs.LeadingSets.{AreKnown, AreLeadingSets, IsLeadingSet};
+ghost use Rattle.rx_lists.specs.LeadingSets.{HasLeadingSets, AreLeadingSets, IsLeadingSet};
 ghost use Rattle.rx_lists.specs.Passes.{IsReady};
 
 use crate::arrivals::Arrivals;
@@ -244,7 +244,7 @@ impl PassBack {
         requires above { bottom ≤ input.old.position }
         requires leading { (utf8_empty : Bool) → IsLeadingSet program.now
             (search_of utf8_empty input.old) input.old.position self.old.set.value }
-        requires known { (utf8_empty : Bool) → AreKnown program.now
+        requires known { (utf8_empty : Bool) → HasLeadingSets program.now
             (search_of utf8_empty input.old) input.old.position }
         ensures sets { OnOk result ((utf8_empty : Bool) → AreLeadingSets program.now
             (search_of utf8_empty input.old) input.old.position 1 block.new.sets) }
@@ -253,7 +253,7 @@ impl PassBack {
         ensures top { block.new.top ≡ input.old.position }
         ensures leading { OnOk result ((utf8_empty : Bool) → IsLeadingSet program.now
             (search_of utf8_empty input.old) bottom self.new.set.value) }
-        ensures known { OnOk result ((utf8_empty : Bool) → AreKnown program.now
+        ensures known { OnOk result ((utf8_empty : Bool) → HasLeadingSets program.now
             (search_of utf8_empty input.old) bottom) }
         ensures ready { IsReady program.now self.new }
         ensures bottom { OnOk result (input.new.position ≡ bottom) }

@@ -13,7 +13,7 @@ ghost use Rattle.rx_steps.specs.Threads.{Slots, IsThreadOf, no_slots, first_node
 ghost use Rattle.rx_steps.specs.Lists.{met_at};
 ghost use Rattle.rx_steps.specs.Coming.{machine_in};
 ghost use Rattle.rx_lists.specs.Bits.{HasNode};
-ghost use Rattle.rx_lists.specs.Blocks.{AreBlocks, Reaches};
+ghost use Rattle.rx_lists.specs.Blocks.{AreBlocks, BlockReaches};
 ghost use Rattle.rx_lists.specs.Passes.{IsFirstAmong, IsWalking, outcome_of};
 
 use crate::bits::Bits;
@@ -157,7 +157,7 @@ impl Walk {
             → IsInside (search_of utf8_empty input.old) input.old.position }
         requires blocks { (utf8_empty : Bool) → AreBlocks program.now
             (search_of utf8_empty input.old) blocks.old }
-        requires reaches { Reaches blocks.old.block input.old.position }
+        requires reaches { BlockReaches blocks.old.block input.old.position }
         ensures followed { IfOk result (λ found. (utf8_empty : Bool)
             → Follows (machine_in program.now (search_of utf8_empty input.old)) input.old.position
             [] ((no_slots slot_len, first_node start) ∷ [])
@@ -170,7 +170,7 @@ impl Walk {
         ensures blocks { OnOk result ((utf8_empty : Bool) → AreBlocks program.now
             (search_of utf8_empty input.old) blocks.new) }
         ensures reaches { IfOk result (λ found. IfSome found (λ e.
-            Reaches blocks.new.block e.end)) }
+            BlockReaches blocks.new.block e.end)) }
         ensures same { IsSameContent input.old.cursor input.new.cursor }
         ensures asked { input.new.asked ≡ input.old.asked }
         ensures refused { IfErr result (λ error. error ≡ MatchError.Memory) }

@@ -20,19 +20,20 @@ use Rattle.rx_walks.specs.Programs.{Notes}
 use Rattle.rx_walks.proofs.FindBackLaws.{finds_start_back}
 use Rattle.rx_walks.proofs.InsideLaws.{finds_lie_inside}
 use Rattle.rx_utf8.specs.Automata.{is_in}
-use Rattle.rx_program.specs.Programs.{ByteProgram, characters_of}
+use Rattle.rx_program.specs.Programs.{ByteProgram, character_program}
 use Rattle.rx_steps.specs.Reversed.{IsHalfAnswerBack}
 use Rattle.rx_steps.specs.Searching.{anchoring_of, search_of}
 use Rattle.rx_dfa.specs.Searching.{IsHalfAnswer}
 use Rattle.rx_chunk.specs.Engines.{Finds, IsFound, match_of}
 use Rattle.rx_chunk.specs.Iterating.{IsFoundNext}
-use Rattle.rx_chunk.proofs.IterLaws.{MayStart, all_end, found_first}
+use Rattle.rx_chunk.proofs.IterLaws.{all_end, found_first}
 use Rattle.rx_chunk.proofs.KindLaws.{InsideLaw}
-use Rattle.rx_matches.specs.Halves.{IsEmptyAtLast, IsTurnedBack, StartsFirst, whole_of}
+use Rattle.rx_input.specs.Searchers.{IsEmptyAtLast}
+use Rattle.rx_matches.specs.Halves.{IsTurnedBack, StartsAtSpan, whole_of}
 
 -- what is found lies inside
 pub inside_law : (p : ByteProgram) → InsideLaw (Finds p)
-inside_law p s t finds = (finds_lie_inside is_in is_word_char (characters_of p) s t finds).found
+inside_law p s t finds = (finds_lie_inside is_in is_word_char (character_program p) s t finds).found
 
 -- ---- where a match ends
 
@@ -70,14 +71,6 @@ half_lies p s half answer =
     let at = ap (λ (f : HalfFound). f.offset) h.half_is in
     record { on = omega (arith, at, h.lies.inside.2); in_span = omega (arith, at, h.lies.inside.3); in_content = omega (arith, at, h.lies.inside.4) }
 
--- nothing is found
-pub none_whole : (p : ByteProgram) (s : Search) → IsHalfAnswer p s None → IsFound (Finds p) s None
-none_whole p s answer = by answer.found answer.finds answer.met_is
-  where
-    by : (out : Option (Outcome Notes)) → Finds p s out → None ≡ option_map half_of out → IsFound (Finds p) s None
-    by None finds is = (None, finds, refl)
-    by (Some t) finds is = absurd (cc is)
-
 -- ---- where it starts
 
 -- with the start of what is found it is the whole match
@@ -88,20 +81,20 @@ whole_is p s half start h is = (
   ap₂ (λ f k. Some (whole_of f k)) h.half_is (sym is),
 )
 
-starts_there : (s : Search) (start end : ℕ) → MayBeFound s start end → StartsFirst s end → start ≡ s.start
+starts_there : (s : Search) (start end : ℕ) → MayBeFound s start end → StartsAtSpan s end → start ≡ s.start
 starts_there s start end lies (inl anchored) = lies.possible.1 anchored
 starts_there s start end lies (inr here) = omega (arith, here, lies.ordered, lies.possible.0.2)
 
-pub first_whole : (p : ByteProgram) (s : Search) (half : HalfFound) → IsHalfAnswer p s (Some half) → StartsFirst s half.offset → IsFound (Finds p) s (Some (whole_of half s.start))
+pub first_whole : (p : ByteProgram) (s : Search) (half : HalfFound) → IsHalfAnswer p s (Some half) → StartsAtSpan s half.offset → IsFound (Finds p) s (Some (whole_of half s.start))
 first_whole p s half answer first =
     let h = has_half p s half answer in
-    whole_is p s half s.start h (starts_there s (start_of h.outcome) (end_of h.outcome) h.lies (subst (λ (f : HalfFound). StartsFirst s f.offset) h.half_is first))
+    whole_is p s half s.start h (starts_there s (start_of h.outcome) (end_of h.outcome) h.lies (subst (λ (f : HalfFound). StartsAtSpan s f.offset) h.half_is first))
 
 -- what is found back from its end
-back_found : (p : ByteProgram) (s : Search) (half : HalfFound) (h : HasHalf p s half) (out : Option PatternMatch) → ProgramFindsBack is_in is_word_char (characters_of p) (back_from s half.offset) out → IsStartOf h.outcome out
+back_found : (p : ByteProgram) (s : Search) (half : HalfFound) (h : HasHalf p s half) (out : Option PatternMatch) → ProgramFindsBack is_in is_word_char (character_program p) (back_from s half.offset) out → IsStartOf h.outcome out
 back_found p s half h out finds =
-    finds_start_back is_in is_word_char (characters_of p) s h.outcome out h.finds
-    (subst (λ (f : HalfFound). ProgramFindsBack is_in is_word_char (characters_of p) (back_from s f.offset) out) h.half_is finds)
+    finds_start_back is_in is_word_char (character_program p) s h.outcome out h.finds
+    (subst (λ (f : HalfFound). ProgramFindsBack is_in is_word_char (character_program p) (back_from s f.offset) out) h.half_is finds)
 
 abbrev back_half : PatternMatch → HalfFound
 back_half a = record { pattern = a.pattern; offset = a.start }
@@ -201,13 +194,3 @@ further_next p s last found next is empty further = by is.0 is.1 is.2
     by : (out : Option (Outcome Notes)) → Finds p s out → Some found ≡ option_map match_of out → IsFoundNext (Finds p) s last next
     by None finds is = absurd (cc is)
     by (Some t) finds is = (further.0, passed finds (subst (λ (a : Found). IsEmptyAtLast last a) (same_Some found (match_of t) is) empty) further.1, further.2)
-
--- a search that answers a match may start one byte further on
-pub found_starts : (p : ByteProgram) (s : Search) (found : Found) → IsFound (Finds p) s (Some found) → MayStart s
-found_starts p s found is = by is.0 is.1 is.2
-  where
-    by : (out : Option (Outcome Notes)) → Finds p s out → Some found ≡ option_map match_of out → MayStart s
-    by None finds is = absurd (cc is)
-    by (Some t) finds is =
-        let at = inside_law p s t finds in
-        record { in_span = omega (arith, at.inside.2, at.inside.3); in_content = omega (arith, at.inside.2, at.inside.4) }

@@ -1,10 +1,11 @@
 //! A match by its halves: where it ends, and where it starts.
 
-ghost use Rattle.std.specs.Prelude.{◌≡◌, ◌+◌, ◌≤◌, ◌<◌, ◌^◌, ◌↔◌, Bool, IsTrue, Some, true, false, length};
+ghost use Rattle.std.specs.Prelude.{◌≡◌, ◌+◌, ◌≤◌, ◌<◌, ◌↔◌, Bool, IsTrue, Some, true, false};
 ghost use Rattle.rx_util.specs.declared.search.Anchored.TheVariants.{No, Yes};
 ghost use Rattle.rx_input.specs.Cursors.{IsSameContent};
 ghost use Rattle.rx_steps.specs.Searching.{search_of};
-ghost use Rattle.rx_matches.specs.Halves.{IsEmptyAtLast, IsTurnedBack, StartsFirst, whole_of};
+ghost use Rattle.rx_input.specs.Searchers.{IsEmptyAtLast};
+ghost use Rattle.rx_matches.specs.Halves.{IsTurnedBack, StartsAtSpan, whole_of};
 
 use rx_input::{Cursor, Input};
 use rx_util::{Anchored, HalfMatch, Match, Span};
@@ -13,7 +14,7 @@ use rx_util::{Anchored, HalfMatch, Match, Span};
 /// match is an empty one there.
 pub fn starts_first<C: Cursor>(input: &Input<C>, end: usize) -> bool
     ensures yes { result ≡ true → (utf8_empty : Bool)
-        → StartsFirst (search_of utf8_empty input.now) end }
+        → StartsAtSpan (search_of utf8_empty input.now) end }
     ensures no { result ≡ false → input.now.asked.anchored ≡ No }
 {
     match input.get_anchored() {

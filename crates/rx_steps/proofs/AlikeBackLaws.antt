@@ -1,5 +1,5 @@
 -- Steps back that come to the same.
-use Rattle.std.proofs.Common.{◌≡◌, ℕ, ◌+◌, ◌⊎◌, List, [], ◌∷◌, ◌++◌, map, Option, Some, None, Contains, slice_get, refl, sym, ap, subst, ◌∙◌, arith, inl, inr}
+use Rattle.std.proofs.Common.{◌≡◌, ℕ, ◌⊎◌, List, [], ◌∷◌, ◌++◌, map, Option, Some, None, Contains, slice_get, refl, sym, ap, subst, ◌∙◌, arith, inl, inr}
 use Rattle.std.proofs.lemmas.List.{append_assoc}
 use Rattle.rx_program.specs.declared.states.State.{State}
 use Rattle.rx_program.specs.Programs.{ByteProgram}
@@ -9,7 +9,6 @@ use Rattle.rx_walks.specs.Steps.{Thins, thin_end, kept, left_out}
 use Rattle.rx_walks.specs.StepsAll.{StepsAll, done, passed, met, opened, read}
 use Rattle.rx_walks.proofs.WalkLaws.{Contains-head, Contains-tail, Contains-cases}
 use Rattle.rx_steps.specs.declared.place.Place.{Place}
-use Rattle.rx_steps.specs.Alike.{AreAlike}
 use Rattle.rx_steps.specs.AlikeBack.{StartsAreMetUnread, StepsBackAreAlike, StepsBackAreThinned}
 use Rattle.rx_steps.specs.Lists.{move_at}
 use Rattle.rx_steps.specs.ListsAll.{MovesSo, Started, nodes_of, started_at}

@@ -3,7 +3,7 @@
 use Rattle.std.proofs.Common.{◌≡◌, ℕ, zero, suc, ◌+◌, Bool, true, false, List, [], ◌∷◌, ◌++◌, map, take, drop, Option, Some, None, option_map, slice_get, refl, sym, ap, subst, ◌∙◌, arith}
 use Rattle.rx_program.specs.declared.states.State.{State}
 use Rattle.rx_program.specs.declared.states.State.TheVariants as state
-use Rattle.rx_program.specs.Programs.{ByteProgram, automaton_of, automata_of, characters_of}
+use Rattle.rx_program.specs.Programs.{ByteProgram, automaton_of, automata_of, character_program}
 use Rattle.rx_program.specs.Code.{place_of}
 use Rattle.rx_utf8.specs.Automata.{step_of}
 use Rattle.rx_walks.specs.Machines.{Machine, Move, Outcome, ends, goes, reads}
@@ -78,8 +78,8 @@ record GoAlike (m : SlotMachine) (i : ℕ) (m' : SlotMachine) (j : ℕ) : Type 0
 go_alike : (p : ByteProgram) (h h' : Haystack walks.Look) (i j : ℕ) (first second : Place) → IsPlace p.states h i first → IsPlace p.states h' j second → AreAlike p first second → GoAlike (slot_machine p h) i (slot_machine p h') j
 go_alike p h h' i j first second here there alike = record {
   moves = λ q. by_state q (slice_get p.states q.0) refl;
-  notes = λ q. none_noted i (slice_get (characters_of p).nodes q.0);
-  notes' = λ q. none_noted j (slice_get (characters_of p).nodes q.0);
+  notes = λ q. none_noted i (slice_get (character_program p).nodes q.0);
+  notes' = λ q. none_noted j (slice_get (character_program p).nodes q.0);
 }
   where
     by_state : (q : ℕ × ℕ) (o : Option State) → slice_get p.states q.0 ≡ o → Carried i j ((slot_machine p h).move i q) ((slot_machine p h').move j q)

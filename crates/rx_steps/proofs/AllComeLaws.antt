@@ -7,13 +7,14 @@ use Rattle.rx_walks.specs.Machines.{Machine, reads}
 use Rattle.rx_walks.specs.Programs.{Notes, is_within}
 use Rattle.rx_walks.specs.Finds.{Search, PatternMatch, IsInside, is_anchored}
 use Rattle.rx_walks.specs.ProgramFinds.{highest}
-use Rattle.rx_walks.specs.Laws.{Begins}
+use Rattle.rx_walks.specs.Laws.{MayBegin}
 use Rattle.rx_walks.specs.StepsAll.{StepsAll, done, passed, met, opened, read, Met, met_first, met_other, Latest, none_met, some_met, SearchesAll, over, started, stepped}
-use Rattle.rx_program.specs.Programs.{ByteProgram, automata_of, characters_of}
+use Rattle.rx_program.specs.Programs.{ByteProgram, automata_of, character_program}
 use Rattle.rx_steps.specs.declared.started.MetEnd.{MetEnd}
 use Rattle.rx_steps.specs.Searching.{haystack_in}
 use Rattle.rx_steps.specs.ListsAll.{Started, IsStartedOf, IsBestMet, IsStepAll}
 use Rattle.rx_steps.specs.SearchingAll.{pattern_match}
+use Rattle.rx_steps.specs.Coming.{course_of}
 use Rattle.rx_steps.specs.ComingAll.{BeganBy, byte_machine_in, HasStartedAll, IsOverAll, IsUnderWayAll}
 use Rattle.rx_steps.proofs.WayLaws.{none_within, nothing_left}
 
@@ -76,7 +77,7 @@ ends_there : (p : ByteProgram) (s : Search) (i : ℕ) (threads next : List Start
 ends_there p s i threads next ended step past =
     let h = haystack_in p.line_terminator s in
     let le : highest s ≤ i = omega (arith, past) in
-    none_read (byte_machine_in p s) i (λ q r. none_within (is_within h.low h.high i) (automata_of p) h i (i + 1) q r (slice_get (characters_of p).nodes q.0) (nothing_left s.content (highest s) i le)) step.steps
+    none_read (byte_machine_in p s) i (λ q r. none_within (is_within h.low h.high i) (automata_of p) h i (i + 1) q r (slice_get (character_program p).nodes q.0) (nothing_left s.content (highest s) i le)) step.steps
 
 -- ---- a place is passed
 
@@ -90,15 +91,15 @@ latest i ends None best none = none_met none
 latest i ends (Some e) best (here, least) = some_met here (λ s k there. let no_worse = least s k there in (no_worse.by_start, λ is. no_worse.by_pattern (sym is)))
 
 come_on : (p : ByteProgram) (s : Search) (q i : ℕ) (live threads next : List Started) (ended : Option MetEnd) (best : Option Found) → HasStartedAll s q i live threads → IsStepAll (byte_machine_in p s) i threads next ended → (out : Option PatternMatch)
-    → SearchesAll (byte_machine_in p s) (Begins s) (q, 0) (i + 1) next (option_map pattern_match (best_after i ended best)) out
-    → SearchesAll (byte_machine_in p s) (Begins s) (q, 0) i live (option_map pattern_match best) out
+    → SearchesAll (byte_machine_in p s) (MayBegin s) (q, 0) (i + 1) next (option_map pattern_match (best_after i ended best)) out
+    → SearchesAll (byte_machine_in p s) (MayBegin s) (q, 0) i live (option_map pattern_match best) out
 come_on p s q i live threads next ended best (inl begun) step out rest =
     started begun.0 (subst (λ xs. StepsAll (byte_machine_in p s) i [] xs next step.ends) begun.1 step.steps) (latest i step.ends ended best step.best) rest
 come_on p s q i live threads next ended best (inr waits) step out rest =
     stepped waits.0 (subst (λ xs. StepsAll (byte_machine_in p s) i [] xs next step.ends) waits.1 step.steps) (latest i step.ends ended best step.best) rest
 
 pub way_passed_all : (p : ByteProgram) (s : Search) (q i : ℕ) (live threads next : List Started) (ended : Option MetEnd) (best : Option Found) → HasStartedAll s q i live threads → IsStepAll (byte_machine_in p s) i threads next ended
-    → All (IsStartedOf p.states) next → IsUnderWayAll p s q i live best → IsUnderWayAll p s q (i + 1) next (best_after i ended best)
+    → All (IsStartedOf p.states) next → IsUnderWayAll (course_of p s q) i live best → IsUnderWayAll (course_of p s q) (i + 1) next (best_after i ended best)
 way_passed_all p s q i live threads next ended best began step nodes way = record {
   come = λ out rest. way.come out (come_on p s q i live threads next ended best began step out rest);
   nodes = nodes;
@@ -109,24 +110,24 @@ way_passed_all p s q i live threads next ended best began step nodes way = recor
 -- ---- where a search begins
 
 -- nothing begins at so many places
-skipped : (p : ByteProgram) (s : Search) (q : ℕ) (k i : ℕ) (out : Option PatternMatch) → ((j : ℕ) → i ≤ j → j < i + k → Begins s j → ⊥)
-    → SearchesAll (byte_machine_in p s) (Begins s) (q, 0) (i + k) [] None out → SearchesAll (byte_machine_in p s) (Begins s) (q, 0) i [] None out
-skipped p s q zero i out never rest = subst (λ j. SearchesAll (byte_machine_in p s) (Begins s) (q, 0) j [] None out) (omega arith) rest
+skipped : (p : ByteProgram) (s : Search) (q : ℕ) (k i : ℕ) (out : Option PatternMatch) → ((j : ℕ) → i ≤ j → j < i + k → MayBegin s j → ⊥)
+    → SearchesAll (byte_machine_in p s) (MayBegin s) (q, 0) (i + k) [] None out → SearchesAll (byte_machine_in p s) (MayBegin s) (q, 0) i [] None out
+skipped p s q zero i out never rest = subst (λ j. SearchesAll (byte_machine_in p s) (MayBegin s) (q, 0) j [] None out) (omega arith) rest
 skipped p s q (suc k) i out never rest =
     let more : i + suc k ≡ i + 1 + k = omega arith in
     stepped (never i (omega arith) (omega arith)) done (none_met (λ s' k' here. nothing here))
-    (skipped p s q k (i + 1) out (λ j le lt. never j (omega (arith, le)) (omega (arith, lt))) (subst (λ j. SearchesAll (byte_machine_in p s) (Begins s) (q, 0) j [] None out) more rest))
+    (skipped p s q k (i + 1) out (λ j le lt. never j (omega (arith, le)) (omega (arith, lt))) (subst (λ j. SearchesAll (byte_machine_in p s) (MayBegin s) (q, 0) j [] None out) more rest))
   where
     nothing : {s' k' : ℕ} → Met s' k' [] → ⊥
     nothing here = elim here [ ]
 
-pub way_begun_all : (p : ByteProgram) (s : Search) (q i : ℕ) (live : List Started) → i ≡ max s.slice_start s.start → live ≡ [] → IsUnderWayAll p s q i live None
+pub way_begun_all : (p : ByteProgram) (s : Search) (q i : ℕ) (live : List Started) → i ≡ max s.slice_start s.start → live ≡ [] → IsUnderWayAll (course_of p s q) i live None
 way_begun_all p s q i live first none =
     let k = i - s.start in
     let whole : i ≡ s.start + k = omega (arith, first) in
     record {
       come = λ out rest. skipped p s q k s.start out (λ j from below begins. omega (arith, first, from, below, begins.0.0.0))
-          (subst (λ j. SearchesAll (byte_machine_in p s) (Begins s) (q, 0) j [] None out) whole (subst (λ xs. SearchesAll (byte_machine_in p s) (Begins s) (q, 0) i xs None out) none rest));
+          (subst (λ j. SearchesAll (byte_machine_in p s) (MayBegin s) (q, 0) j [] None out) whole (subst (λ xs. SearchesAll (byte_machine_in p s) (MayBegin s) (q, 0) i xs None out) none rest));
       nodes = subst (All (IsStartedOf p.states)) (sym none) (All-nil (IsStartedOf p.states));
       began = subst (All (BeganBy i)) (sym none) (All-nil (BeganBy i));
       past_end = λ past. none;
@@ -134,16 +135,16 @@ way_begun_all p s q i live first none =
 
 -- ---- where it is over
 
-over_by : (p : ByteProgram) (s : Search) (q i : ℕ) (live : List Started) (best : Option Found) → live ≡ [] → ((j : ℕ) → i ≤ j → Begins s j → ⊥) → IsUnderWayAll p s q i live best → IsOverAll p s q best
+over_by : (p : ByteProgram) (s : Search) (q i : ℕ) (live : List Started) (best : Option Found) → live ≡ [] → ((j : ℕ) → i ≤ j → MayBegin s j → ⊥) → IsUnderWayAll (course_of p s q) i live best → IsOverAll (course_of p s q) best
 over_by p s q i live best none never way =
-    way.come (option_map pattern_match best) (subst (λ xs. SearchesAll (byte_machine_in p s) (Begins s) (q, 0) i xs (option_map pattern_match best) (option_map pattern_match best)) (sym none) (over never))
+    way.come (option_map pattern_match best) (subst (λ xs. SearchesAll (byte_machine_in p s) (MayBegin s) (q, 0) i xs (option_map pattern_match best) (option_map pattern_match best)) (sym none) (over never))
 
 -- no walk lives, and none starts past the search's start
-pub way_over_all : (p : ByteProgram) (s : Search) (q i : ℕ) (live : List Started) (best : Option Found) → IsInside s i → live ≡ [] → IsTrue (is_anchored s.anchoring) → IsUnderWayAll p s q (i + 1) live best → IsOverAll p s q best
+pub way_over_all : (p : ByteProgram) (s : Search) (q i : ℕ) (live : List Started) (best : Option Found) → IsInside s i → live ≡ [] → IsTrue (is_anchored s.anchoring) → IsUnderWayAll (course_of p s q) (i + 1) live best → IsOverAll (course_of p s q) best
 way_over_all p s q i live best inside none tied way = over_by p s q (i + 1) live best none (λ j from begins. omega (arith, from, begins.0.1 tied, inside.2)) way
 
 -- the last place was passed
-pub way_ended_all : (p : ByteProgram) (s : Search) (q i : ℕ) (live : List Started) (best : Option Found) → highest s < i + 1 → IsUnderWayAll p s q (i + 1) live best → IsOverAll p s q best
+pub way_ended_all : (p : ByteProgram) (s : Search) (q i : ℕ) (live : List Started) (best : Option Found) → highest s < i + 1 → IsUnderWayAll (course_of p s q) (i + 1) live best → IsOverAll (course_of p s q) best
 way_ended_all p s q i live best past way =
     over_by p s q (i + 1) live best (way.past_end past) (λ j from begins. let inside = begins.0.0 in omega (arith, past, from, inside.1, inside.3, inside.4)) way
 

@@ -16,11 +16,11 @@ use Rattle.rx_walks.specs.Bytes.{read_on}
 use Rattle.rx_walks.specs.StepsAll.{StepsAll, done, passed, met, opened, read}
 use Rattle.rx_steps.specs.declared.place.Place.{Place}
 use Rattle.rx_steps.specs.declared.started.MetEnd.{MetEnd}
-use Rattle.rx_steps.specs.Nodes.{widths_of, index_from, MayStand, IsNodeOf, IsInserted}
+use Rattle.rx_steps.specs.Nodes.{widths_of, index_from, MayStand, IsNodeIn, IsInserted}
 use Rattle.rx_steps.specs.Threads.{Slots, Thread, Waiting, IsThreadOf, first_node}
 use Rattle.rx_steps.specs.Lists.{IsPlace, is_among, read_next, move_at, IsMade}
-use Rattle.rx_steps.specs.ListsAll.{Started, IsStartedOf, started_at, ended_from, nodes_of, byte_machine, end_of, IsBestMet, MovesSo, AreUnderWayAll, FollowsAll, IsStepAll}
-use Rattle.rx_steps.proofs.FollowLaws.{behind_reads, no_width, seen_or_new, tells_none, tells_more, tells_outside}
+use Rattle.rx_steps.specs.ListsAll.{Started, IsStartedOf, started_at, ended_from, nodes_of, byte_machine, end_met_by, IsBestMet, MovesSo, AreUnderWayAll, FollowsAll, IsStepAll}
+use Rattle.rx_steps.proofs.FollowLaws.{behind_reads, no_width, seen_or_new, tells_more, tells_outside}
 use Rattle.rx_steps.proofs.IndexLaws.{behind}
 use Rattle.rx_steps.proofs.PlaceLaws.{moves_at_place}
 use Rattle.rx_steps.proofs.StandLaws.{first_of, rest_of}
@@ -119,7 +119,7 @@ all_entered_nowhere p place start q waits ids next here = follows_none p place s
     all_nowhere m i threads (widths_of p) ids start q (started_at start waits ++ others) out ends (no_width 0 p.states q.0 q.1 here) (moves.elsewhere q here) way)
 
 pub all_skipped : (p : ByteProgram) (place : Place) (start : ℕ) (q : ℕ × ℕ) (x : State) (waits : List (ℕ × ℕ)) (ids ids' : List ℕ) (next : List Thread) (o : Option ℕ) (is_new : Bool)
-    → index_from 0 (widths_of p) q.0 q.1 ≡ o → is_new ≡ false → IsInserted o is_new ids ids' → slice_get p.states q.0 ≡ Some x → IsNodeOf p.states q
+    → index_from 0 (widths_of p) q.0 q.1 ≡ o → is_new ≡ false → IsInserted o is_new ids ids' → slice_get p.states q.0 ≡ Some x → IsNodeIn p.states q
     → FollowsAll p place start (q ∷ waits) waits ids ids' next next None
 all_skipped p place start q x waits ids ids' next None is_new at old is here may = rw is.1 (follows_none p place start (q ∷ waits) waits ids ids next (λ m i threads others out ends moves way.
     all_nowhere m i threads (widths_of p) ids start q (started_at start waits ++ others) out ends at
@@ -154,12 +154,12 @@ same_at place i q (state.Match k) = refl
 
 follow_new : (p : ByteProgram) (place : Place) (start : ℕ) (q : ℕ × ℕ) (k : ℕ) (x : State) (move : Move (ℕ × ℕ)) (noted : Slots) (met' : Option ℕ) (w w' : Waiting) (ids : List ℕ) (next next' : List Thread)
     → index_from 0 (widths_of p) q.0 q.1 ≡ Some k → (Contains ids k → ⊥) → slice_get p.states q.0 ≡ Some x → ((i : ℕ) → SameAt i move (move_at place i q x)) → IsMade move noted met' w w' next next'
-    → FollowsAll p place start (q ∷ nodes_of w.threads) (nodes_of w'.threads) ids (ids ++ k ∷ []) next next' (end_of start met')
+    → FollowsAll p place start (q ∷ nodes_of w.threads) (nodes_of w'.threads) ids (ids ++ k ∷ []) next next' (end_met_by start met')
 follow_new p place start q k x (ends e) noted met' w w' ids next next' at none here same made = record {
   reached = [];
   ended = e ∷ [];
   put = ap nodes_of made.2 ∙ sym (append-nil (nodes_of next));
-  best = subst (λ o. IsBestMet (ended_from start (e ∷ [])) (end_of start o)) (sym made.0) (one_met start e);
+  best = subst (λ o. IsBestMet (ended_from start (e ∷ [])) (end_met_by start o)) (sym made.0) (one_met start e);
   goes_on = λ m i threads others out ends' moves way.
       subst (λ xs. AreUnderWayAll m i threads (widths_of p) (ids ++ k ∷ []) (started_at start (nodes_of w'.threads) ++ others) xs (ends' ++ (start, e) ∷ [])) (sym (append-nil out))
       (subst (λ ts. AreUnderWayAll m i threads (widths_of p) (ids ++ k ∷ []) (started_at start (nodes_of ts) ++ others) out (ends' ++ (start, e) ∷ [])) (sym made.3)
@@ -176,7 +176,7 @@ follow_new p place start q k x (reads r j) noted met' w w' ids next next' at non
   reached = r ∷ [];
   ended = [];
   put = ap nodes_of made.2 ∙ nodes_append next ((w.slots, r) ∷ []);
-  best = subst (λ o. IsBestMet [] (end_of start o)) (sym made.0) none_met;
+  best = subst (λ o. IsBestMet [] (end_met_by start o)) (sym made.0) none_met;
   goes_on = λ m i threads others out ends' moves way.
       subst (λ es. AreUnderWayAll m i threads (widths_of p) (ids ++ k ∷ []) (started_at start (nodes_of w'.threads) ++ others) (out ++ (start, r) ∷ []) es) (sym (append-nil ends'))
       (subst (λ ts. AreUnderWayAll m i threads (widths_of p) (ids ++ k ∷ []) (started_at start (nodes_of ts) ++ others) (out ++ (start, r) ∷ []) ends') (sym made.1)
@@ -185,7 +185,7 @@ follow_new p place start q k x (reads r j) noted met' w w' ids next next' at non
 
 pub all_entered_new : (p : ByteProgram) (place : Place) (start : ℕ) (q : ℕ × ℕ) (k : ℕ) (x : State) (noted : Slots) (met' : Option ℕ) (w w' : Waiting) (ids : List ℕ) (next next' : List Thread)
     → index_from 0 (widths_of p) q.0 q.1 ≡ Some k → (Contains ids k → ⊥) → slice_get p.states q.0 ≡ Some x → ((i : ℕ) → IsMade (move_at place i q x) noted met' w w' next next')
-    → FollowsAll p place start (q ∷ nodes_of w.threads) (nodes_of w'.threads) ids (ids ++ k ∷ []) next next' (end_of start met')
+    → FollowsAll p place start (q ∷ nodes_of w.threads) (nodes_of w'.threads) ids (ids ++ k ∷ []) next next' (end_met_by start met')
 all_entered_new p place start q k x noted met' w w' ids next next' at none here made =
     follow_new p place start q k x (move_at place 0 q x) noted met' w w' ids next next' at none here (λ i. same_at place i q x) (made 0)
 
@@ -210,9 +210,6 @@ follows_on p place start left middle left' ids mid ids' next between next' one o
 }
 
 -- ---- a step from its beginning to its end
-
-pub all_begun : (m : Machine (ℕ × ℕ) Notes) (i : ℕ) (threads : List Started) (widths : List ℕ) → AreUnderWayAll m i threads widths [] threads [] []
-all_begun m i threads widths = record { seen = []; tells = tells_none widths; so_far = λ next more steps. steps }
 
 pub all_over : (m : Machine (ℕ × ℕ) Notes) (i : ℕ) (widths ids : List ℕ) (threads out : List Started) (ends' : Ends) (best : Option MetEnd) → IsBestMet ends' best → AreUnderWayAll m i threads widths ids [] out ends' → IsStepAll m i threads out best
 all_over m i widths ids threads out ends' best is way = record {

@@ -17,6 +17,7 @@ use Rattle.rx_steps.specs.Lists.{Asks, IsNextList, slot_machine}
 use Rattle.rx_steps.specs.Searching.{haystack_in}
 use Rattle.rx_steps.specs.Idle.{IsIdle, AreIdle, IsPassedAt}
 use Rattle.rx_steps.specs.ListsAll.{Started, IsStartedOf, IsNextListAll, IsStepAll, byte_machine}
+use Rattle.rx_steps.specs.Coming.{course_of}
 use Rattle.rx_steps.specs.ComingAll.{byte_machine_in, HasMetNoneAll, HasStartedAll, IsOverAll, IsUnderWayAll, IsUnderWayAllInParts}
 use Rattle.rx_steps.proofs.ByteLaws.{below_or_not}
 use Rattle.rx_steps.proofs.EndLaws.{none_met}
@@ -104,19 +105,19 @@ skipped_step_all p s idle i free inside lt are passed_over =
     ]
 
 one_skipped : (p : ByteProgram) (s : Search) (idle : List Bool) (i : ℕ) (best : Option Found) → s.anchoring ≡ unanchored → IsInside s i → i < highest s → AreIdle p idle → IsPassedAt idle s.utf8_empty s.content i
-    → IsUnderWayAll p s p.start i [] best → IsUnderWayAll p s p.start (i + 1) [] best
+    → IsUnderWayAll (course_of p s p.start) i [] best → IsUnderWayAll (course_of p s p.start) (i + 1) [] best
 one_skipped p s idle i best free inside lt are passed_over way =
     let one = skipped_step_all p s idle i free inside lt are passed_over in
     way_passed_all p s p.start i [] one.threads [] None best one.began one.step (All-nil (IsStartedOf p.states)) way
 
 many_skipped : (p : ByteProgram) (s : Search) (idle : List Bool) (n i : ℕ) (best : Option Found) → s.anchoring ≡ unanchored → AreIdle p idle → lowest s ≤ i → i + n ≤ highest s
-    → ((k : ℕ) → i ≤ k → k < i + n → IsPassedAt idle s.utf8_empty s.content k) → IsUnderWayAll p s p.start i [] best → IsUnderWayAll p s p.start (i + n) [] best
-many_skipped p s idle zero i best free are low high each way = subst (λ j. IsUnderWayAll p s p.start j [] best) (omega arith) way
+    → ((k : ℕ) → i ≤ k → k < i + n → IsPassedAt idle s.utf8_empty s.content k) → IsUnderWayAll (course_of p s p.start) i [] best → IsUnderWayAll (course_of p s p.start) (i + n) [] best
+many_skipped p s idle zero i best free are low high each way = subst (λ j. IsUnderWayAll (course_of p s p.start) j [] best) (omega arith) way
 many_skipped p s idle (suc n) i best free are low high each way =
     let inside : IsInside s i = (omega (arith, low), omega (arith, high), omega (arith, low), omega (arith, high), omega (arith, high)) in
     let on = one_skipped p s idle i best free inside (omega (arith, high)) are (each i (omega arith) (omega arith)) way in
     let more : i + 1 + n ≡ i + suc n = omega arith in
-    subst (λ j. IsUnderWayAll p s p.start j [] best) more
+    subst (λ j. IsUnderWayAll (course_of p s p.start) j [] best) more
     (many_skipped p s idle n (i + 1) best free are (omega (arith, low)) (omega (arith, high)) (λ k from to. each k (omega (arith, from)) (omega (arith, to))) on)
 
 -- what a search knows of the places between two, of which it passes over all
@@ -128,36 +129,36 @@ abbrev pub StartsFree : ByteProgram → Search → ℕ → List Started → Type
 StartsFree p s q live = live ≡ [] → (s.anchoring ≡ unanchored) × (q ≡ p.start)
 
 pub way_skipped_all : (p : ByteProgram) (s : Search) (q i j : ℕ) (idle : List Bool) (live : List Started) (best : Option Found) → i ≤ j → lowest s ≤ i → j ≤ highest s → AreIdle p idle → StartsFree p s q live
-    → AreSkippedAll idle s.utf8_empty s.content i j live → IsUnderWayAll p s q i live best → IsUnderWayAll p s q j live best
+    → AreSkippedAll idle s.utf8_empty s.content i j live → IsUnderWayAll (course_of p s q) i live best → IsUnderWayAll (course_of p s q) j live best
 way_skipped_all p s q i j idle live best le low high are free skipped way = elim (below_or_not i j) [
-  | inr past ↦ subst (λ k. IsUnderWayAll p s q k live best) (omega (arith, le, past)) way
+  | inr past ↦ subst (λ k. IsUnderWayAll (course_of p s q) k live best) (omega (arith, le, past)) way
   | inl lt ↦
       let none : live ≡ [] = (skipped i (omega arith) lt).0 in
       let tied = free none in
-      let at_start : IsUnderWayAll p s p.start i [] best = subst (λ r. IsUnderWayAll p s r i [] best) tied.1 (subst (λ xs. IsUnderWayAll p s q i xs best) none way) in
+      let at_start : IsUnderWayAll (course_of p s p.start) i [] best = subst (λ r. IsUnderWayAll (course_of p s r) i [] best) tied.1 (subst (λ xs. IsUnderWayAll (course_of p s q) i xs best) none way) in
       let so_many : i + (j - i) ≡ j = omega (arith, le) in
-      let there : IsUnderWayAll p s p.start j [] best = subst (λ k. IsUnderWayAll p s p.start k [] best) so_many
+      let there : IsUnderWayAll (course_of p s p.start) j [] best = subst (λ k. IsUnderWayAll (course_of p s p.start) k [] best) so_many
       (many_skipped p s idle (j - i) i best tied.0 are low (omega (arith, le, high)) (λ k from to. (skipped k from (omega (arith, to, so_many))).1) at_start) in
-      subst (λ xs. IsUnderWayAll p s q j xs best) (sym none) (subst (λ r. IsUnderWayAll p s r j [] best) (sym tied.1) there)
+      subst (λ xs. IsUnderWayAll (course_of p s q) j xs best) (sym none) (subst (λ r. IsUnderWayAll (course_of p s r) j [] best) (sym tied.1) there)
 ]
 
 -- so it is in the parts that go on behind them
 pub parts_skipped_all : (p : ByteProgram) (s : Search) (q i j : ℕ) (idle : List Bool) (live : List Started) (best : Option Found) → i ≤ j → lowest s ≤ i → j ≤ highest s → AreIdle p idle → StartsFree p s q live
-    → AreSkippedAll idle s.utf8_empty s.content i j live → IsUnderWayAllInParts p s q i live best → IsUnderWayAllInParts p s q j live best
+    → AreSkippedAll idle s.utf8_empty s.content i j live → IsUnderWayAllInParts (course_of p s q) i live best → IsUnderWayAllInParts (course_of p s q) j live best
 parts_skipped_all p s q i j idle live best le low high are free skipped parts = λ e from within.
     way_skipped_all p (up_to_place s e) q i j idle live best le low (omega (arith, from, part_highest s e within)) are free skipped (parts e (omega (arith, le, from)) within)
 
 -- and at such a place nothing ends in the part that is cut there
 pub none_skipped_all : (p : ByteProgram) (s : Search) (q first i j : ℕ) (idle : List Bool) (live : List Started) → lowest s ≤ i → j ≤ highest s → AreIdle p idle → StartsFree p s q live
-    → AreSkippedAll idle s.utf8_empty s.content i j live → IsUnderWayAllInParts p s q i live None → HasMetNoneAll p s q first i → HasMetNoneAll p s q first j
+    → AreSkippedAll idle s.utf8_empty s.content i j live → IsUnderWayAllInParts (course_of p s q) i live None → HasMetNoneAll (course_of p s q) first i → HasMetNoneAll (course_of p s q) first j
 none_skipped_all p s q first i j idle live low high are free skipped parts before k since to = elim (below_or_not k i) [
   | inl less ↦ before k since less
   | inr from ↦
       let here = skipped k from to in
       let tied = free here.0 in
       let inside : IsInside s k = (omega (arith, low, from), omega (arith, high, to), omega (arith, low, from), omega (arith, high, to), omega (arith, high, to)) in
-      let ways : IsUnderWayAllInParts p s q k live None = parts_skipped_all p s q i k idle live None from low (omega (arith, high, to)) are free (λ l from' to'. skipped l from' (omega (arith, to, to'))) parts in
-      let alone : IsUnderWayAllInParts p s p.start k [] None = subst (λ r. IsUnderWayAllInParts p s r k [] None) tied.1 (subst (λ xs. IsUnderWayAllInParts p s q k xs None) here.0 ways) in
+      let ways : IsUnderWayAllInParts (course_of p s q) k live None = parts_skipped_all p s q i k idle live None from low (omega (arith, high, to)) are free (λ l from' to'. skipped l from' (omega (arith, to, to'))) parts in
+      let alone : IsUnderWayAllInParts (course_of p s p.start) k [] None = subst (λ r. IsUnderWayAllInParts (course_of p s r) k [] None) tied.1 (subst (λ xs. IsUnderWayAllInParts (course_of p s q) k xs None) here.0 ways) in
       let one = skipped_step_all p s idle k tied.0 inside (omega (arith, high, to)) are here.1 in
-      subst (λ r. IsOverAll p (up_to_place s k) r None) (sym tied.1) (part_over_all p s p.start k [] one.threads [] None None inside one.began one.step alone)
+      subst (λ r. IsOverAll (course_of p (up_to_place s k) r) None) (sym tied.1) (part_over_all p s p.start k [] one.threads [] None None inside one.began one.step alone)
 ]

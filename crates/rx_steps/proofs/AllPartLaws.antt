@@ -8,6 +8,7 @@ use Rattle.rx_walks.specs.StepsAll.{StepsAll, done, passed, met, opened, read}
 use Rattle.rx_program.specs.Programs.{ByteProgram}
 use Rattle.rx_steps.specs.declared.started.MetEnd.{MetEnd}
 use Rattle.rx_steps.specs.ListsAll.{Started, IsStartedOf, IsStepAll}
+use Rattle.rx_steps.specs.Coming.{course_of}
 use Rattle.rx_steps.specs.ComingAll.{byte_machine_in, HasStartedAll, HasMetNoneAll, IsOverAll, IsOverAllAt, IsUnderWayAllInParts}
 use Rattle.rx_steps.proofs.ByteLaws.{below_or_not}
 use Rattle.rx_steps.proofs.PartLaws.{MovesAlike, MovesStop, stopped, moves_alike, moves_stop, inside_part, begins_whole}
@@ -45,41 +46,41 @@ module _ (p : ByteProgram) (s : Search) where
   -- ---- a place is passed, in the parts that go on behind it, and in the one that is cut there
 
   pub parts_passed_all : (q i : ℕ) (live threads next : List Started) (ended : Option MetEnd) (best : Option Found) → IsInside s i → HasStartedAll s q i live threads → IsStepAll (byte_machine_in p s) i threads next ended
-      → All (IsStartedOf p.states) next → IsUnderWayAllInParts p s q i live best → IsUnderWayAllInParts p s q (i + 1) next (best_after i ended best)
+      → All (IsStartedOf p.states) next → IsUnderWayAllInParts (course_of p s q) i live best → IsUnderWayAllInParts (course_of p s q) (i + 1) next (best_after i ended best)
   parts_passed_all q i live threads next ended best inside began step nodes parts = λ e from within.
       let lt : i < e = omega (arith, from) in
       way_passed_all p (up_to_place s e) q i live threads next ended best (started_in_part q e i live threads inside (omega (arith, from)) began)
       (step_alike e i threads next ended (moves_alike p s e i inside lt within) step) nodes (parts e (omega (arith, from)) within)
 
   pub part_over_all : (q i : ℕ) (live threads next : List Started) (ended : Option MetEnd) (best : Option Found) → IsInside s i → HasStartedAll s q i live threads → IsStepAll (byte_machine_in p s) i threads next ended
-      → IsUnderWayAllInParts p s q i live best → IsOverAll p (up_to_place s i) q (best_after i ended best)
+      → IsUnderWayAllInParts (course_of p s q) i live best → IsOverAll (course_of p (up_to_place s i) q) (best_after i ended best)
   part_over_all q i live threads next ended best inside began step parts =
       way_ended_all p (up_to_place s i) q i [] (best_after i ended best) (omega arith)
       (way_passed_all p (up_to_place s i) q i live threads [] ended best (started_in_part q i i live threads inside (omega arith) began)
       (step_cut i threads next ended (moves_stop p s i inside) step) (All-nil (IsStartedOf p.states)) (parts i (omega arith) (omega (arith, inside.1, inside.3, inside.4))))
 
-  pub parts_begun_all : (q i : ℕ) (live : List Started) → i ≡ lowest s → live ≡ [] → IsUnderWayAllInParts p s q i live None
+  pub parts_begun_all : (q i : ℕ) (live : List Started) → i ≡ lowest s → live ≡ [] → IsUnderWayAllInParts (course_of p s q) i live None
   parts_begun_all q i live first none = λ e from within. way_begun_all p (up_to_place s e) q i live first none
 
   -- ---- no end was met so far
 
-  pub none_more_all : (q first i : ℕ) (best : Option Found) → best ≡ None → HasMetNoneAll p s q first i → IsOverAll p (up_to_place s i) q best → HasMetNoneAll p s q first (i + 1)
+  pub none_more_all : (q first i : ℕ) (best : Option Found) → best ≡ None → HasMetNoneAll (course_of p s q) first i → IsOverAll (course_of p (up_to_place s i) q) best → HasMetNoneAll (course_of p s q) first (i + 1)
   none_more_all q first i best unmet before here k from to = elim (below_or_not k i) [
     | inl less ↦ before k from less
-    | inr le ↦ subst (λ j. IsOverAll p (up_to_place s j) q None) (omega (arith, le, to)) (subst (λ o. IsOverAll p (up_to_place s i) q o) unmet here)
+    | inr le ↦ subst (λ j. IsOverAll (course_of p (up_to_place s j) q) None) (omega (arith, le, to)) (subst (λ o. IsOverAll (course_of p (up_to_place s i) q) o) unmet here)
   ]
 
   -- ---- where a search is over
 
-  pub over_whole_all : (earliest : Bool) (q first i : ℕ) (best : Option Found) → (earliest ≡ true → best ≡ None) → IsOverAll p s q best → IsOverAllAt earliest p s q first i best
+  pub over_whole_all : (earliest : Bool) (q first i : ℕ) (best : Option Found) → (earliest ≡ true → best ≡ None) → IsOverAll (course_of p s q) best → IsOverAllAt earliest (course_of p s q) first i best
   over_whole_all false q first i best unmet all = all
   over_whole_all true q first i None unmet all = all
   over_whole_all true q first i (Some found) unmet all = absurd (cc (unmet refl))
 
-  pub over_early_all : (q first i : ℕ) (found : Found) → found.span.end ≡ i → i ≤ highest s → IsOverAll p (up_to_place s i) q (Some found) → HasMetNoneAll p s q first i → IsOverAllAt true p s q first i (Some found)
+  pub over_early_all : (q first i : ℕ) (found : Found) → found.span.end ≡ i → i ≤ highest s → IsOverAll (course_of p (up_to_place s i) q) (Some found) → HasMetNoneAll (course_of p s q) first i → IsOverAllAt true (course_of p s q) first i (Some found)
   over_early_all q first i found here le all before = (here, le, all, before)
 
   pub early_all : (q first i : ℕ) (before best : Option Found) → (best ≡ None → ⊥) → before ≡ None → IfSome best (λ found. before ≡ None → found.span.end ≡ i) → i ≤ highest s
-      → IsOverAll p (up_to_place s i) q best → HasMetNoneAll p s q first i → IsOverAllAt true p s q first i best
+      → IsOverAll (course_of p (up_to_place s i) q) best → HasMetNoneAll (course_of p s q) first i → IsOverAllAt true (course_of p s q) first i best
   early_all q first i before None some none here le all none_before = absurd (some refl)
   early_all q first i before (Some found) some none here le all none_before = over_early_all q first i found (here none) le all none_before

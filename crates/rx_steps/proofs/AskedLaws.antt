@@ -21,9 +21,6 @@ pub record AskedSoFar (states : List State) (kind : walks.Look → Bool) (n : �
 abbrev pub IsTold : List State → (walks.Look → Bool) → ℕ → Bool → Type 0
 IsTold states kind n told = IsTrue told ↔ AskedSoFar states kind n
 
-pub none_told : (states : List State) (kind : walks.Look → Bool) (told : Bool) → told ≡ false → IsTold states kind 0 told
-none_told states kind told e = ((λ is. absurd (cc (sym e ∙ is))), (λ so. absurd (omega (arith, so.first))))
-
 either_is : (a b : Bool) → (a || b) ≡ true → (a ≡ true) ⊎ (b ≡ true)
 either_is true b e = inl refl
 either_is false b e = inr e

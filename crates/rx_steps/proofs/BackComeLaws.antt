@@ -1,5 +1,5 @@
 -- How far a search back has come, from the span's end to where it is over.
-use Rattle.std.proofs.Common.{inl, inr, ◌≡◌, ℕ, zero, suc, ◌+◌, ◌-◌, ◌<◌, ◌≤◌, ◌⊎◌, Bool, true, false, nat_lt, cond, IsTrue, List, [], ◌∷◌, map, length, reverse, take, drop, min, get_or, Option, Some, None, option_map, slice_get, All, refl, sym, ap, ap₂, subst, ◌∙◌, arith}
+use Rattle.std.proofs.Common.{inl, inr, ◌≡◌, ℕ, suc, ◌+◌, ◌-◌, ◌<◌, ◌≤◌, ◌⊎◌, true, false, cond, IsTrue, List, [], ◌∷◌, map, length, reverse, take, drop, min, Option, Some, None, option_map, slice_get, All, refl, sym, ap, ap₂, subst, ◌∙◌, arith}
 use Rattle.std.proofs.lemmas.Bool.{le-ltb, lt-ltb}
 use Rattle.std.proofs.lemmas.List.{get_or-reverse, length-reverse}
 use Rattle.std.proofs.lemmas.List.Elements.{All-cons, All-nil}
@@ -7,23 +7,21 @@ use Rattle.std.proofs.lemmas.Option.{slice_get-get_or}
 use Rattle.rx_util.specs.Search.{HalfFound}
 use Rattle.rx_walks.specs.Backward.{mirrored_search}
 use Rattle.rx_walks.specs.Finds.{Search, PatternMatch, IsInside}
-use Rattle.rx_walks.specs.Laws.{Begins}
+use Rattle.rx_walks.specs.Laws.{MayBegin}
 use Rattle.rx_walks.specs.Looks as walks
-use Rattle.rx_walks.specs.Machines.{Machine, goes, reads}
+use Rattle.rx_walks.specs.Machines.{Machine, reads}
 use Rattle.rx_walks.specs.ProgramFinds.{lowest, highest}
-use Rattle.rx_walks.specs.Programs.{Haystack, Notes, is_within}
+use Rattle.rx_walks.specs.Programs.{Notes, is_within}
 use Rattle.rx_walks.specs.Reversed.{mirrored}
 use Rattle.rx_walks.specs.StepsAll.{StepsAll, done, passed, met, opened, read, Latest, none_met, some_met, SearchesAll, over, started, stepped}
 use Rattle.rx_program.specs.declared.states.State.{State}
 use Rattle.rx_program.specs.declared.states.State.TheVariants as state
-use Rattle.rx_program.specs.Programs.{ByteProgram, automata_of, characters_of}
-use Rattle.rx_steps.specs.declared.place.Looks.{Looks}
+use Rattle.rx_program.specs.Programs.{ByteProgram, automata_of, character_program}
 use Rattle.rx_steps.specs.declared.place.Place.{Place}
-use Rattle.rx_steps.specs.Nodes.{IsNodeOf, MayStand}
+use Rattle.rx_steps.specs.Nodes.{IsNodeIn, MayStand}
 use Rattle.rx_steps.specs.Threads.{Thread, IsThreadOf}
-use Rattle.rx_steps.specs.ListsAll.{Started, IsBestMet, IsStepAll, MovesSo, end_of, nodes_of, started_at}
+use Rattle.rx_steps.specs.ListsAll.{Started, IsBestMet, IsStepAll, MovesSo, end_met_by, nodes_of, started_at}
 use Rattle.rx_steps.specs.Lists.{Asks, IsPlace, is_among, move_at}
-use Rattle.rx_steps.specs.Reversed.{IsNextListBack}
 use Rattle.rx_steps.specs.Searching.{haystack_in}
 use Rattle.rx_steps.specs.ComingBack.{HasComeBack, HasSteppedBack, IsOverBack, back_machine_in, byte_taken_back, mirror_match, mirror_of}
 use Rattle.rx_steps.proofs.AllFollowLaws.{all_moves}
@@ -95,11 +93,11 @@ length_zeros (x ∷ xs) = ap suc (length_zeros xs)
 not_true : IsTrue false → ⊥
 not_true is = let told : false ≡ true = is in absurd (cc told)
 
-begins_back : (s : Search) → Begins (mirrored_search s) (mirror_of s s.end)
+begins_back : (s : Search) → MayBegin (mirrored_search s) (mirror_of s s.end)
 begins_back s = (((omega arith, omega arith, omega arith, omega arith, omega (arith, length_zeros s.content)), λ on. refl), λ on. absurd (not_true on))
 
 -- no walk begins at a further place
-pub begins_not : (s : Search) (k : ℕ) → mirror_of s s.end < k → Begins (mirrored_search s) k → ⊥
+pub begins_not : (s : Search) (k : ℕ) → mirror_of s s.end < k → MayBegin (mirrored_search s) k → ⊥
 begins_not s k lt begins = omega (arith, lt, begins.0.1 refl)
 
 -- a search begins with one walk
@@ -113,7 +111,7 @@ abbrev pub best_back : ℕ → Option ℕ → Option HalfFound → Option HalfFo
 best_back j None best = best
 best_back j (Some k) best = Some (record { pattern = k; offset = j })
 
-latest_back : (s : Search) (j : ℕ) (ends : List (ℕ × ℕ)) (met' : Option ℕ) (best : Option HalfFound) → IsBestMet ends (end_of (mirror_of s s.end) met')
+latest_back : (s : Search) (j : ℕ) (ends : List (ℕ × ℕ)) (met' : Option ℕ) (best : Option HalfFound) → IsBestMet ends (end_met_by (mirror_of s s.end) met')
     → Latest (mirror_of s j) (option_map (mirror_match s) best) ends (option_map (mirror_match s) (best_back j met' best))
 latest_back s j ends None best none = none_met none
 latest_back s j ends (Some k) best (here, least) = some_met here (λ s' k' there. let no_worse = least s' k' there in (no_worse.by_start, λ is. no_worse.by_pattern (sym is)))
@@ -121,10 +119,10 @@ latest_back s j ends (Some k) best (here, least) = some_met here (λ s' k' there
 -- what comes of the step at a place, and then on
 abbrev GoesOn : ByteProgram → Search → ℕ → ℕ → List (ℕ × ℕ) → Option HalfFound → Type 0
 GoesOn p s q j next best = (out : Option PatternMatch)
-    → SearchesAll (back_machine_in p s) (Begins (mirrored_search s)) (q, 0) (mirror_of s j + 1) (started_at (mirror_of s s.end) next) (option_map (mirror_match s) best) out
-    → SearchesAll (back_machine_in p s) (Begins (mirrored_search s)) (q, 0) (mirror_of s s.end) [] None out
+    → SearchesAll (back_machine_in p s) (MayBegin (mirrored_search s)) (q, 0) (mirror_of s j + 1) (started_at (mirror_of s s.end) next) (option_map (mirror_match s) best) out
+    → SearchesAll (back_machine_in p s) (MayBegin (mirrored_search s)) (q, 0) (mirror_of s s.end) [] None out
 
-goes_on : (p : ByteProgram) (s : Search) (q j : ℕ) (nodes next : List (ℕ × ℕ)) (met' : Option ℕ) (best : Option HalfFound) → IsStepAll (back_machine_in p s) (mirror_of s j) (started_at (mirror_of s s.end) nodes) (started_at (mirror_of s s.end) next) (end_of (mirror_of s s.end) met')
+goes_on : (p : ByteProgram) (s : Search) (q j : ℕ) (nodes next : List (ℕ × ℕ)) (met' : Option ℕ) (best : Option HalfFound) → IsStepAll (back_machine_in p s) (mirror_of s j) (started_at (mirror_of s s.end) nodes) (started_at (mirror_of s s.end) next) (end_met_by (mirror_of s s.end) met')
     → HasComeBack p s q j nodes best → GoesOn p s q j next (best_back j met' best)
 goes_on p s q j nodes next met' best step come = λ out rest.
     come (started_at (mirror_of s s.end) next) step.ends (option_map (mirror_match s) (best_back j met' best)) out step.steps (latest_back s j step.ends met' best step.best) rest
@@ -134,13 +132,13 @@ come_back : (p : ByteProgram) (s : Search) (q j : ℕ) (next : List (ℕ × ℕ)
 come_back p s q j next best last inside lt on = λ next' ends after out steps latest rest.
     let place : mirror_of s (j - 1) ≡ mirror_of s j + 1 = omega (arith, lt, inside.4) in
     let past : mirror_of s s.end < mirror_of s (j - 1) = omega (arith, lt, inside.3, inside.4, last.4) in
-    on out (subst (λ i. SearchesAll (back_machine_in p s) (Begins (mirrored_search s)) (q, 0) i (started_at (mirror_of s s.end) next) (option_map (mirror_match s) best) out) place (stepped (begins_not s (mirror_of s (j - 1)) past) steps latest rest))
+    on out (subst (λ i. SearchesAll (back_machine_in p s) (MayBegin (mirrored_search s)) (q, 0) i (started_at (mirror_of s s.end) next) (option_map (mirror_match s) best) out) place (stepped (begins_not s (mirror_of s (j - 1)) past) steps latest rest))
 
 -- or the search is over there, where no walk lives
 over_back : (p : ByteProgram) (s : Search) (q j : ℕ) (next : List (ℕ × ℕ)) (best : Option HalfFound) → IsInside s j → next ≡ [] → GoesOn p s q j next best → IsOverBack p s q best
 over_back p s q j next best inside none on =
     on (option_map (mirror_match s) best)
-    (subst (λ xs. SearchesAll (back_machine_in p s) (Begins (mirrored_search s)) (q, 0) (mirror_of s j + 1) (started_at (mirror_of s s.end) xs) (option_map (mirror_match s) best) (option_map (mirror_match s) best)) (sym none)
+    (subst (λ xs. SearchesAll (back_machine_in p s) (MayBegin (mirrored_search s)) (q, 0) (mirror_of s j + 1) (started_at (mirror_of s s.end) xs) (option_map (mirror_match s) best) (option_map (mirror_match s) best)) (sym none)
     (over (λ k from begins. begins_not s k (omega (arith, from, inside.3)) begins)))
 
 none_read : (m : Machine (ℕ × ℕ) Notes) (i : ℕ) {seen : List (ℕ × ℕ)} {threads next : List Started} {ends : List (ℕ × ℕ)} → ((q r : ℕ × ℕ) → m.move i q ≡ reads r (i + 1) → ⊥) → StepsAll m i seen threads next ends → next ≡ []
@@ -155,13 +153,13 @@ none_started start [] e = refl
 none_started start (q ∷ nodes) e = absurd (cc e)
 
 -- at the first place inside no byte is taken, and no walk goes on
-none_beyond : (p : ByteProgram) (s : Search) (j : ℕ) (nodes next : List (ℕ × ℕ)) (met' : Option ℕ) → j ≤ lowest s → IsStepAll (back_machine_in p s) (mirror_of s j) (started_at (mirror_of s s.end) nodes) (started_at (mirror_of s s.end) next) (end_of (mirror_of s s.end) met')
+none_beyond : (p : ByteProgram) (s : Search) (j : ℕ) (nodes next : List (ℕ × ℕ)) (met' : Option ℕ) → j ≤ lowest s → IsStepAll (back_machine_in p s) (mirror_of s j) (started_at (mirror_of s s.end) nodes) (started_at (mirror_of s s.end) next) (end_met_by (mirror_of s s.end) met')
     → next ≡ []
 none_beyond p s j nodes next met' le step =
     let h = mirrored (haystack_in p.line_terminator s) in
     let i = mirror_of s j in
     none_started (mirror_of s s.end) next (none_read (back_machine_in p s) i
-    (λ q r. none_within (is_within h.low h.high i) (automata_of p) h i (i + 1) q r (slice_get (characters_of p).nodes q.0) (nothing_left (reverse s.content) (length s.content - lowest s) i (omega (arith, le)))) step.steps)
+    (λ q r. none_within (is_within h.low h.high i) (automata_of p) h i (i + 1) q r (slice_get (character_program p).nodes q.0) (nothing_left (reverse s.content) (length s.content - lowest s) i (omega (arith, le)))) step.steps)
 
 -- ---- what the loop keeps
 
@@ -169,7 +167,7 @@ none_beyond p s j nodes next met' le step =
 pub record Stepped (p : ByteProgram) (s : Search) (q j : ℕ) (nodes next : List (ℕ × ℕ)) (met' : Option ℕ) (best after : Option HalfFound) : Type 0 where
   pub last : IsInside s s.end
   pub inside : IsInside s j
-  pub step : IsStepAll (back_machine_in p s) (mirror_of s j) (started_at (mirror_of s s.end) nodes) (started_at (mirror_of s s.end) next) (end_of (mirror_of s s.end) met')
+  pub step : IsStepAll (back_machine_in p s) (mirror_of s j) (started_at (mirror_of s s.end) nodes) (started_at (mirror_of s s.end) next) (end_met_by (mirror_of s s.end) met')
   pub come : HasComeBack p s q j nodes best
   pub best_is : after ≡ best_back j met' best
 
@@ -199,7 +197,7 @@ no_nodes (t ∷ threads) e = absurd (omega (arith, e))
 pub found_back : (f : HalfFound) (k i : ℕ) → f.pattern ≡ k → f.offset ≡ i → Some f ≡ Some (record { pattern = k; offset = i })
 found_back f k i e g = ap₂ (λ x y. Some (record { pattern = x; offset = y })) e g
 
-first_stays : (states : List State) (q : ℕ) → IsNodeOf states (q, 0)
+first_stays : (states : List State) (q : ℕ) → IsNodeIn states (q, 0)
 first_stays states q = by (slice_get states q)
   where
     by : (o : Option State) → MayStand o 0

@@ -1,29 +1,27 @@
 -- A step back, one walk after the other.
-use Rattle.std.proofs.Common.{◌≡◌, ℕ, zero, suc, ◌+◌, ◌≤◌, ◌<◌, All, List, [], ◌∷◌, ◌++◌, length, map, drop, Option, Some, None, option_map, slice_get, IsSomeAnd, refl, sym, ap, subst, ◌∙◌, arith}
+use Rattle.std.proofs.Common.{◌≡◌, ℕ, zero, suc, ◌+◌, ◌≤◌, List, [], ◌∷◌, ◌++◌, length, drop, Option, Some, None, option_map, slice_get, IsSomeAnd, refl, sym, ap, subst, ◌∙◌, arith}
 use Rattle.std.proofs.lemmas.Option.{slice_get-map}
 use Rattle.std.proofs.Math.ListN.{drop_of_length-le}
 use Rattle.rx_walks.specs.Machines.{Machine}
 use Rattle.rx_walks.specs.Programs.{Notes}
-use Rattle.rx_program.specs.declared.states.State.{State}
 use Rattle.rx_program.specs.Programs.{ByteProgram}
 use Rattle.rx_steps.specs.declared.place.Place.{Place}
 use Rattle.rx_steps.specs.Nodes.{widths_of}
 use Rattle.rx_steps.specs.Threads.{Thread}
-use Rattle.rx_steps.specs.ListsAll.{AreUnderWayAll, FollowsAll, IsBestMet, IsStepAll, MovesSo, end_of, ended_from, nodes_of, started_at}
-use Rattle.rx_steps.proofs.AllFollowLaws.{all_begun, all_over, started_append}
-use Rattle.rx_steps.proofs.EndLaws.{none_met}
+use Rattle.rx_steps.specs.ListsAll.{AreUnderWayAll, FollowsAll, IsBestMet, IsStepAll, MovesSo, end_met_by, ended_from, nodes_of, started_at}
+use Rattle.rx_steps.proofs.AllFollowLaws.{all_over, started_append}
 
 abbrev Ends : Type 0
 Ends = List (ℕ × ℕ)
 
 -- of two lists of ends of which these are the best this is the best of both
 abbrev pub IsBetter : ℕ → Option ℕ → Option ℕ → Option ℕ → Type 0
-IsBetter start one other best = (xs ys : Ends) → IsBestMet xs (end_of start one) → IsBestMet ys (end_of start other) → IsBestMet (xs ++ ys) (end_of start best)
+IsBetter start one other best = (xs ys : Ends) → IsBestMet xs (end_met_by start one) → IsBestMet ys (end_met_by start other) → IsBestMet (xs ++ ys) (end_met_by start best)
 
 -- a step from these nodes is under way, with these left and these put out
 abbrev pub BackWay : ByteProgram → Place → List (ℕ × ℕ) → List ℕ → List (ℕ × ℕ) → List Thread → Option ℕ → Type 0
 BackWay p place nodes ids left out best = (m : Machine (ℕ × ℕ) Notes) (i start : ℕ) → MovesSo m i p.states place
-    → (ends : Ends) × IsBestMet ends (end_of start best) × AreUnderWayAll m i (started_at start nodes) (widths_of p) ids (started_at start left) (started_at start (nodes_of out)) ends
+    → (ends : Ends) × IsBestMet ends (end_met_by start best) × AreUnderWayAll m i (started_at start nodes) (widths_of p) ids (started_at start left) (started_at start (nodes_of out)) ends
 
 node_here : (threads : List Thread) (n : ℕ) (q : ℕ × ℕ) → IsSomeAnd (slice_get threads n) (λ t. q ≡ t.1) → slice_get (nodes_of threads) n ≡ Some q
 node_here threads n q here = slice_get-map (λ t. t.1) threads n ∙ by (slice_get threads n) here
@@ -45,13 +43,9 @@ first_left xs n x e =
     by (y ∷ xs) zero x e = ap (λ z. z ∷ xs) (the_first e)
     by (y ∷ xs) (suc n) x e = by xs n x e
 
-pub back_begun : (p : ByteProgram) (place : Place) (nodes : List (ℕ × ℕ)) (out : List Thread) → out ≡ [] → BackWay p place nodes [] nodes out None
-back_begun p place nodes out none = λ m i start moves.
-    ([], none_met, subst (λ xs. AreUnderWayAll m i (started_at start nodes) (widths_of p) [] (started_at start nodes) (started_at start (nodes_of xs)) []) (sym none) (all_begun m i (started_at start nodes) (widths_of p)))
-
 -- one more walk was followed
 pub back_next : (p : ByteProgram) (place : Place) (threads old new : List Thread) (q : ℕ × ℕ) (n : ℕ) (ids ids' : List ℕ) (before met after : Option ℕ)
-    → IsSomeAnd (slice_get threads n) (λ t. q ≡ t.1) → ((start : ℕ) → FollowsAll p place start (q ∷ []) [] ids ids' old new (end_of start met)) → ((start : ℕ) → IsBetter start before met after)
+    → IsSomeAnd (slice_get threads n) (λ t. q ≡ t.1) → ((start : ℕ) → FollowsAll p place start (q ∷ []) [] ids ids' old new (end_met_by start met)) → ((start : ℕ) → IsBetter start before met after)
     → BackWay p place (nodes_of threads) ids (drop n (nodes_of threads)) old before → BackWay p place (nodes_of threads) ids' (drop (n + 1) (nodes_of threads)) new after
 back_next p place threads old new q n ids ids' before met after here follows better way = λ m i start moves.
     let nodes = nodes_of threads in
@@ -72,10 +66,10 @@ length_nodes (t ∷ threads) = ap suc (length_nodes threads)
 
 -- and at last the step is made
 pub back_over : (p : ByteProgram) (place : Place) (threads new : List Thread) (n : ℕ) (ids : List ℕ) (best : Option ℕ) → length threads ≤ n → BackWay p place (nodes_of threads) ids (drop n (nodes_of threads)) new best
-    → (m : Machine (ℕ × ℕ) Notes) (i start : ℕ) → MovesSo m i p.states place → IsStepAll m i (started_at start (nodes_of threads)) (started_at start (nodes_of new)) (end_of start best)
+    → (m : Machine (ℕ × ℕ) Notes) (i start : ℕ) → MovesSo m i p.states place → IsStepAll m i (started_at start (nodes_of threads)) (started_at start (nodes_of new)) (end_met_by start best)
 back_over p place threads new n ids best past way m i start moves =
     let nodes = nodes_of threads in
     let (es, is, on) = way m i start moves in
     let none : started_at start (drop n nodes) ≡ [] = ap (started_at start) (drop_of_length-le nodes (omega (arith, past, length_nodes threads))) in
-    all_over m i (widths_of p) ids (started_at start nodes) (started_at start (nodes_of new)) es (end_of start best) is
+    all_over m i (widths_of p) ids (started_at start nodes) (started_at start (nodes_of new)) es (end_met_by start best) is
     (subst (λ xs. AreUnderWayAll m i (started_at start nodes) (widths_of p) ids xs (started_at start (nodes_of new)) es) none on)

@@ -4,7 +4,7 @@ use Rattle.std.proofs.lemmas.List.{append_assoc}
 use Rattle.rx_walks.specs.StepsAll.{Met, met_first, met_other}
 use Rattle.rx_steps.specs.declared.started.MetEnd.{MetEnd}
 use Rattle.rx_steps.specs.Threads.{Thread}
-use Rattle.rx_steps.specs.ListsAll.{Started, IsBestMet, IsNoWorse, end_of, ended_from, nodes_of, started_at}
+use Rattle.rx_steps.specs.ListsAll.{Started, IsBestMet, IsNoWorse, end_met_by, ended_from, nodes_of, started_at}
 
 abbrev Ends : Type 0
 Ends = List (ℕ × ℕ)
@@ -66,7 +66,7 @@ second_best xs ys a b one other is = (
 pub none_met : IsBestMet [] None
 none_met = none_in
 
-pub one_met : (start k : ℕ) → IsBestMet (ended_from start (k ∷ [])) (end_of start (Some k))
+pub one_met : (start k : ℕ) → IsBestMet (ended_from start (k ∷ [])) (end_met_by start (Some k))
 one_met start k = (met_first refl refl, λ s k' m. only m)
   where
     only : {s k' : ℕ} → Met s k' ((start, k) ∷ []) → IsNoWorse (record { start = start; pattern = k }) (record { start = s; pattern = k' })

@@ -13,7 +13,7 @@ use Rattle.rx_walks.specs.Programs.{only_if}
 use Rattle.rx_walks.specs.Bytes.{read_on}
 use Rattle.rx_walks.specs.Steps.{Steps, passed, met, opened, read}
 use Rattle.rx_steps.specs.declared.place.Place.{Place}
-use Rattle.rx_steps.specs.Nodes.{width_of, widths_of, index_from, MayStand, IsNodeOf, IsInserted}
+use Rattle.rx_steps.specs.Nodes.{width_of, widths_of, index_from, MayStand, IsNodeIn, IsInserted}
 use Rattle.rx_steps.specs.Threads.{Slots, Thread, Waiting, first_node}
 use Rattle.rx_steps.specs.Lists.{move_at, noted_at, read_next, is_among, IsMade, MakesMoves, Tells, AreUnderWay, AreFollowed, fan_of, widest_fan}
 use Rattle.rx_steps.proofs.IndexLaws.{one_index, behind, same_number}
@@ -53,12 +53,6 @@ seen_or_new (x ∷ seen) q = elim (same_node x q) [
 ]
 
 -- ---- the set of indices
-
-no_index_yet : (k : ℕ) → Contains [] k → ⊥
-no_index_yet k (n, within, is) = absurd (omega (arith, within))
-
-pub tells_none : (widths : List ℕ) → Tells widths [] []
-tells_none widths q k e = ((λ c. absurd (none_yet q c)), (λ c. absurd (no_index_yet k c)))
 
 same_index : {a b : ℕ} → Some a ≡ Some b → a ≡ b
 same_index e = cc e
@@ -205,7 +199,7 @@ entered_nowhere m i threads p place ids n q left out moves here way =
     thread_nowhere m i threads (widths_of p) ids n q left out (no_width 0 p.states q.0 q.1 here) (moves.elsewhere q here) way
 
 pub entered_behind : (m : SlotMachine) (i : ℕ) (threads : List Thread) (p : ByteProgram) (place : Place) (ids : List ℕ) (n : Slots) (q : ℕ × ℕ) (x : State) (left out : List Thread)
-    → MakesMoves m i p.states place → slice_get p.states q.0 ≡ Some x → IsNodeOf p.states q → index_from 0 (widths_of p) q.0 q.1 ≡ None
+    → MakesMoves m i p.states place → slice_get p.states q.0 ≡ Some x → IsNodeIn p.states q → index_from 0 (widths_of p) q.0 q.1 ≡ None
     → AreUnderWay m i threads (widths_of p) ids ((n, q) ∷ left) out → AreUnderWay m i threads (widths_of p) ids left out
 entered_behind m i threads p place ids n q x left out moves here may at way =
     thread_nowhere m i threads (widths_of p) ids n q left out at
@@ -231,7 +225,7 @@ entered_less p ids ids' size size' q k end x here more room fan =
     one_less (end - length ids) (end - length ids') (widest_fan p.states) size size' (omega (arith, longer, room)) (omega (arith, fan, fan_below p.states q x here))
 
 pub skipped : (m : SlotMachine) (i : ℕ) (threads : List Thread) (p : ByteProgram) (place : Place) (ids ids' : List ℕ) (n : Slots) (q : ℕ × ℕ) (x : State) (left out : List Thread) (o : Option ℕ) (is_new : Bool)
-    → index_from 0 (widths_of p) q.0 q.1 ≡ o → is_new ≡ false → IsInserted o is_new ids ids' → MakesMoves m i p.states place → slice_get p.states q.0 ≡ Some x → IsNodeOf p.states q
+    → index_from 0 (widths_of p) q.0 q.1 ≡ o → is_new ≡ false → IsInserted o is_new ids ids' → MakesMoves m i p.states place → slice_get p.states q.0 ≡ Some x → IsNodeIn p.states q
     → AreUnderWay m i threads (widths_of p) ids ((n, q) ∷ left) out → AreUnderWay m i threads (widths_of p) ids' left out
 skipped m i threads p place ids ids' n q x left out None is_new at old is moves here may way = rw is.1 (entered_behind m i threads p place ids n q x left out moves here may at way)
 skipped m i threads p place ids ids' n q x left out (Some k) true at old is moves here may way = absurd (cc old)

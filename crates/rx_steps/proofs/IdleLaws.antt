@@ -8,7 +8,7 @@ use Rattle.std.specs.Option.{is_some}
 use Rattle.std.specs.Str.{IsCharBoundary}
 use Rattle.rx_program.specs.declared.states.State.{State}
 use Rattle.rx_program.specs.declared.states.State.TheVariants as state
-use Rattle.rx_program.specs.Programs.{ByteProgram, characters_of}
+use Rattle.rx_program.specs.Programs.{ByteProgram, character_program}
 use Rattle.rx_program.specs.Code.{place_of}
 use Rattle.rx_utf8.specs.Automata.{step_of}
 use Rattle.rx_walks.specs.Looks as walks
@@ -18,7 +18,7 @@ use Rattle.rx_walks.specs.Programs.{Haystack, is_within, left_from}
 use Rattle.rx_walks.specs.Bytes.{read_on}
 use Rattle.rx_walks.specs.Finds.{Search, IsInside, IsPossible, Anchoring, unanchored, anchored, anchored_pattern, is_anchored}
 use Rattle.rx_walks.specs.ProgramFinds.{start_node, lowest, highest}
-use Rattle.rx_walks.specs.Laws.{Begins}
+use Rattle.rx_walks.specs.Laws.{MayBegin}
 use Rattle.rx_walks.specs.Steps.{Steps, done, passed, met, opened, read}
 use Rattle.rx_input.specs.Cursors.{CursorState, piece_of}
 use Rattle.rx_input.specs.Inputs.{HoldsPlace}
@@ -27,7 +27,7 @@ use Rattle.rx_steps.specs.declared.place.Place.{Place}
 use Rattle.rx_steps.specs.Threads.{Slots, Thread, IsThreadOf, first_node, no_slots}
 use Rattle.rx_steps.specs.Lists.{Asks, is_among, IsPlace, IsNextList, MakesMoves, met_at, move_at, read_next, slot_machine}
 use Rattle.rx_steps.specs.Searching.{haystack_in}
-use Rattle.rx_steps.specs.Coming.{machine_in, HasStarted, IsUnderWay}
+use Rattle.rx_steps.specs.Coming.{course_of, machine_in, HasStarted, IsUnderWay}
 use Rattle.rx_steps.specs.Idle.{Knows, IsPassed, IsPassedAt, IsIdle, AreIdle}
 use Rattle.rx_steps.proofs.PlaceLaws.{moves_at_place}
 use Rattle.rx_steps.proofs.MadeLaws.{step_is_made}
@@ -263,7 +263,7 @@ is_idle p place b threads next ended noted slots list are none unmet byte never 
 -- ---- what is idle may be skipped
 
 -- whether a start begins at a place inside is known
-begins_or_not : (s : Search) (i : ℕ) → s.anchoring ≡ unanchored → IsInside s i → Begins s i ⊎ (Begins s i → ⊥)
+begins_or_not : (s : Search) (i : ℕ) → s.anchoring ≡ unanchored → IsInside s i → MayBegin s i ⊎ (MayBegin s i → ⊥)
 begins_or_not s i free inside = by_flag s.utf8_empty refl
   where
     possible : IsPossible s i
@@ -281,7 +281,7 @@ begins_or_not s i free inside = by_flag s.utf8_empty refl
       ]
     ]
 
-    by_flag : (b : Bool) → s.utf8_empty ≡ b → Begins s i ⊎ (Begins s i → ⊥)
+    by_flag : (b : Bool) → s.utf8_empty ≡ b → MayBegin s i ⊎ (MayBegin s i → ⊥)
     by_flag false e = inl (possible, λ told. absurd (cc (subst (λ x. IsTrue x) e told)))
     by_flag true e = elim by_bytes [
       | inl cut ↦ inl (possible, λ told. cut)
@@ -289,7 +289,7 @@ begins_or_not s i free inside = by_flag s.utf8_empty refl
     ]
 
 -- an unanchored search starts at the program's start
-pub unanchored_start : (p : ByteProgram) (a : Anchoring) (q : ℕ) → is_anchored a ≡ false → start_node (characters_of p) a ≡ Some q → (a ≡ unanchored) × (q ≡ p.start)
+pub unanchored_start : (p : ByteProgram) (a : Anchoring) (q : ℕ) → is_anchored a ≡ false → start_node (character_program p) a ≡ Some q → (a ≡ unanchored) × (q ≡ p.start)
 unanchored_start p unanchored q free starts = (refl, sym (some_is starts))
   where
     some_is : {x y : ℕ} → Some x ≡ Some y → x ≡ y
@@ -353,7 +353,7 @@ skipped_step p s idle i slots free inside lt are (b, is, one) = elim (begins_or_
     before : i < length s.content
     before = omega (arith, lt)
 
-    steps : Begins s i → IsPassed idle s.utf8_empty b → Steps (machine_in p s) i [] ((fresh, (p.start, 0)) ∷ []) [] None
+    steps : MayBegin s i → IsPassed idle s.utf8_empty b → Steps (machine_in p s) i [] ((fresh, (p.start, 0)) ∷ []) [] None
     steps begins (inl known) = idle_step p h i b fresh (are b known) (within_is (lowest s) (highest s) i (omega (arith, inside.0, inside.2)) (omega (arith, lt)))
         (next_byte_is s.content (min s.slice_end s.end) i (omega (arith, lt)) ∙ is)
     steps begins (inr (utf8, high, low)) =
@@ -364,20 +364,20 @@ skipped_step p s idle i slots free inside lt are (b, is, one) = elim (begins_or_
 
 -- one place
 one_skipped : (p : ByteProgram) (s : Search) (idle : List Bool) (i : ℕ) (slots : Slots) → s.anchoring ≡ unanchored → IsInside s i → i < highest s → AreIdle p idle → IsPassedAt idle s.utf8_empty s.content i
-    → IsUnderWay p s p.start i [] None slots → IsUnderWay p s p.start (i + 1) [] None slots
+    → IsUnderWay (course_of p s p.start) i [] None slots → IsUnderWay (course_of p s p.start) (i + 1) [] None slots
 one_skipped p s idle i slots free inside lt are passed_over way =
     let one = skipped_step p s idle i slots free inside lt are passed_over in
     way_passed p s p.start i (record { slot_len = length slots; threads = [] }) one.threads [] None slots None slots inside refl one.started one.steps (All-nil (IsThreadOf p.states)) way
 
 -- so many places
 many_skipped : (p : ByteProgram) (s : Search) (idle : List Bool) (n i : ℕ) (slots : Slots) → s.anchoring ≡ unanchored → AreIdle p idle → lowest s ≤ i → i + n ≤ highest s
-    → ((k : ℕ) → i ≤ k → k < i + n → IsPassedAt idle s.utf8_empty s.content k) → IsUnderWay p s p.start i [] None slots → IsUnderWay p s p.start (i + n) [] None slots
-many_skipped p s idle zero i slots free are low high each way = subst (λ j. IsUnderWay p s p.start j [] None slots) (omega arith) way
+    → ((k : ℕ) → i ≤ k → k < i + n → IsPassedAt idle s.utf8_empty s.content k) → IsUnderWay (course_of p s p.start) i [] None slots → IsUnderWay (course_of p s p.start) (i + n) [] None slots
+many_skipped p s idle zero i slots free are low high each way = subst (λ j. IsUnderWay (course_of p s p.start) j [] None slots) (omega arith) way
 many_skipped p s idle (suc n) i slots free are low high each way =
     let inside : IsInside s i = (omega (arith, low), omega (arith, high), omega (arith, low), omega (arith, high), omega (arith, high)) in
     let on = one_skipped p s idle i slots free inside (omega (arith, high)) are (each i (omega arith) (omega arith)) way in
     let more : i + 1 + n ≡ i + suc n = omega arith in
-    subst (λ j. IsUnderWay p s p.start j [] None slots) more
+    subst (λ j. IsUnderWay (course_of p s p.start) j [] None slots) more
     (many_skipped p s idle n (i + 1) slots free are (omega (arith, low)) (omega (arith, high)) (λ k from to. each k (omega (arith, from)) (omega (arith, to))) on)
 
 -- what a search knows of the places between two, of which it passes over all
@@ -386,19 +386,19 @@ AreSkipped idle utf8_empty content i j live pattern =
     (k : ℕ) → i ≤ k → k < j → (live ≡ []) × (pattern ≡ None) × IsPassedAt idle utf8_empty content k
 
 pub way_skipped : (p : ByteProgram) (s : Search) (q i j : ℕ) (idle : List Bool) (live : List Thread) (pattern : Option ℕ) (slots : Slots) → i ≤ j → lowest s ≤ i → j ≤ highest s → AreIdle p idle
-    → (live ≡ [] → pattern ≡ None → (s.anchoring ≡ unanchored) × (q ≡ p.start)) → AreSkipped idle s.utf8_empty s.content i j live pattern → IsUnderWay p s q i live pattern slots → IsUnderWay p s q j live pattern slots
+    → (live ≡ [] → pattern ≡ None → (s.anchoring ≡ unanchored) × (q ≡ p.start)) → AreSkipped idle s.utf8_empty s.content i j live pattern → IsUnderWay (course_of p s q) i live pattern slots → IsUnderWay (course_of p s q) j live pattern slots
 way_skipped p s q i j idle live pattern slots le low high are free skipped way = elim (below_or_not i j) [
-  | inr past ↦ subst (λ k. IsUnderWay p s q k live pattern slots) (omega (arith, le, past)) way
+  | inr past ↦ subst (λ k. IsUnderWay (course_of p s q) k live pattern slots) (omega (arith, le, past)) way
   | inl lt ↦
       let none : live ≡ [] = no_thread (skipped i (omega arith) lt) in
       let unmet : pattern ≡ None = no_end (skipped i (omega arith) lt) in
       let tied = free none unmet in
-      let at_start : IsUnderWay p s p.start i [] None slots =
-      subst (λ r. IsUnderWay p s r i [] None slots) tied.1 (subst (λ k. IsUnderWay p s q i [] k slots) unmet (subst (λ xs. IsUnderWay p s q i xs pattern slots) none way)) in
+      let at_start : IsUnderWay (course_of p s p.start) i [] None slots =
+      subst (λ r. IsUnderWay (course_of p s r) i [] None slots) tied.1 (subst (λ k. IsUnderWay (course_of p s q) i [] k slots) unmet (subst (λ xs. IsUnderWay (course_of p s q) i xs pattern slots) none way)) in
       let so_many : i + (j - i) ≡ j = omega (arith, le) in
-      let there : IsUnderWay p s p.start j [] None slots = subst (λ k. IsUnderWay p s p.start k [] None slots) so_many
+      let there : IsUnderWay (course_of p s p.start) j [] None slots = subst (λ k. IsUnderWay (course_of p s p.start) k [] None slots) so_many
       (many_skipped p s idle (j - i) i slots tied.0 are low (omega (arith, le, high)) (λ k from to. is_passed k (skipped k from (omega (arith, to, so_many)))) at_start) in
-      subst (λ xs. IsUnderWay p s q j xs pattern slots) (sym none) (subst (λ k. IsUnderWay p s q j [] k slots) (sym unmet) (subst (λ r. IsUnderWay p s r j [] None slots) (sym tied.1) there))
+      subst (λ xs. IsUnderWay (course_of p s q) j xs pattern slots) (sym none) (subst (λ k. IsUnderWay (course_of p s q) j [] k slots) (sym unmet) (subst (λ r. IsUnderWay (course_of p s r) j [] None slots) (sym tied.1) there))
 ]
   where
     no_thread : {A B C : Type 0} → A × B × C → A

@@ -5,22 +5,22 @@ use Rattle.std.proofs.lemmas.Map.Made.{IsDistinct-from_AllPairs}
 use Rattle.std.proofs.lemmas.Map.Steps.{length-le_from_distinct_below}
 use Rattle.std.proofs.lemmas.Map.Views.{Contains-from_any}
 use Rattle.rx_program.specs.declared.states.State.{State}
-use Rattle.rx_steps.specs.Nodes.{width_of, index_from, starts_from, end_from, widths_in, IsInserted}
+use Rattle.rx_steps.specs.Nodes.{width_of, index_from, node_starts, end_from, widths_in, IsInserted}
 
 same_some : {a b : ℕ} → Some a ≡ Some b → a ≡ b
 same_some e = cc e
 
-pub first_start : (first : ℕ) (widths : List ℕ) → slice_get (starts_from first widths) 0 ≡ Some first
+pub first_start : (first : ℕ) (widths : List ℕ) → slice_get (node_starts first widths) 0 ≡ Some first
 first_start first [] = refl
 first_start first (n ∷ widths) = refl
 
-pub widths_back : (first : ℕ) (widths : List ℕ) → widths_in (starts_from first widths) ≡ widths
+pub widths_back : (first : ℕ) (widths : List ℕ) → widths_in (node_starts first widths) ≡ widths
 widths_back first [] = refl
 widths_back first (n ∷ []) = ap (λ x. x ∷ []) (omega arith)
 widths_back first (n ∷ k ∷ widths) = ap₂ (λ x xs. x ∷ xs) (omega arith) (widths_back (first + n) (k ∷ widths))
 
 -- what two starts tell of an index
-pub index_between : (first : ℕ) (widths : List ℕ) (q s x y : ℕ) → slice_get (starts_from first widths) q ≡ Some x → slice_get (starts_from first widths) (suc q) ≡ Some y
+pub index_between : (first : ℕ) (widths : List ℕ) (q s x y : ℕ) → slice_get (node_starts first widths) q ≡ Some x → slice_get (node_starts first widths) (suc q) ≡ Some y
     → index_from first widths q s ≡ cond (nat_lt s (y - x)) (Some (x + s)) None
 index_between first [] q s x y e f = absurd (cc f)
 index_between first (n ∷ widths) zero s x y e f =
@@ -31,17 +31,17 @@ index_between first (n ∷ widths) zero s x y e f =
     (ap (λ w. cond (nat_lt s n) (Some (w + s)) None) start)
 index_between first (n ∷ widths) (suc q) s x y e f = index_between (first + n) widths q s x y e f
 
-pub no_index : (first : ℕ) (widths : List ℕ) (q s : ℕ) → slice_get (starts_from first widths) (suc q) ≡ None → index_from first widths q s ≡ None
+pub no_index : (first : ℕ) (widths : List ℕ) (q s : ℕ) → slice_get (node_starts first widths) (suc q) ≡ None → index_from first widths q s ≡ None
 no_index first [] q s e = refl
 no_index first (n ∷ widths) zero s e = absurd (cc (sym (first_start (first + n) widths) ∙ e))
 no_index first (n ∷ widths) (suc q) s e = no_index (first + n) widths q s e
 
-pub no_start : (first : ℕ) (widths : List ℕ) (q s : ℕ) → slice_get (starts_from first widths) q ≡ None → index_from first widths q s ≡ None
+pub no_start : (first : ℕ) (widths : List ℕ) (q s : ℕ) → slice_get (node_starts first widths) q ≡ None → index_from first widths q s ≡ None
 no_start first [] q s e = refl
 no_start first (n ∷ widths) zero s e = absurd (cc e)
 no_start first (n ∷ widths) (suc q) s e = no_start (first + n) widths q s e
 
-pub starts_rise : (first : ℕ) (widths : List ℕ) (q x y : ℕ) → slice_get (starts_from first widths) q ≡ Some x → slice_get (starts_from first widths) (suc q) ≡ Some y → x ≤ y
+pub starts_rise : (first : ℕ) (widths : List ℕ) (q x y : ℕ) → slice_get (node_starts first widths) q ≡ Some x → slice_get (node_starts first widths) (suc q) ≡ Some y → x ≤ y
 starts_rise first [] q x y e f = absurd (cc f)
 starts_rise first (n ∷ widths) zero x y e f =
     let start : first ≡ x = same_some e in

@@ -7,15 +7,15 @@ use Rattle.rx_walks.specs.Programs.{Node, match, pass, note, look, set, only_if,
 use Rattle.rx_walks.specs.Bytes.{Automaton, read_on, read_byte, by_byte}
 use Rattle.rx_walks.specs.Finds.{Search, up_to_place, IsInside, unanchored}
 use Rattle.rx_walks.specs.ProgramFinds.{start_node, lowest, highest}
-use Rattle.rx_walks.specs.Laws.{Begins}
+use Rattle.rx_walks.specs.Laws.{MayBegin}
 use Rattle.rx_walks.specs.Steps.{Steps, done, passed, met, opened, read}
-use Rattle.rx_program.specs.Programs.{ByteProgram, automata_of, characters_of}
+use Rattle.rx_program.specs.Programs.{ByteProgram, automata_of, character_program}
 use Rattle.rx_steps.specs.Threads.{Slots, Thread, ThreadListView, IsThreadOf, no_slots}
 use Rattle.rx_steps.specs.Lists.{read_next, met_at}
 use Rattle.rx_steps.specs.Searching.{haystack_in}
 use Rattle.rx_steps.specs.Idle.{AreIdle}
 use Rattle.rx_steps.specs.Standing.{IsReached}
-use Rattle.rx_steps.specs.Coming.{machine_in, HasStarted, IsUnderWay, IsUnderWayInParts, IsOver, IsOverAt, IsStopped, HasMetNone, IsFirstMet, KeepsFirst, StandsSince}
+use Rattle.rx_steps.specs.Coming.{course_of, machine_in, HasStarted, IsUnderWay, IsUnderWayInParts, IsOver, IsOverAt, IsStopped, HasMetNone, IsFirstMet, KeepsFirst, StandsSince}
 use Rattle.rx_steps.proofs.ByteLaws.{below_or_not, next_byte_is, within_is}
 use Rattle.rx_steps.proofs.PlaceLaws.{reads_first}
 use Rattle.rx_steps.proofs.StandLaws.{pattern_after, reached_on, started_reached, one_stands, threads_met}
@@ -74,7 +74,7 @@ module _ (p : ByteProgram) (s : Search) where
 
   pub moves_alike : (e i : ℕ) → IsInside s i → i < e → e ≤ highest s → MovesAlike e i
   moves_alike e i inside lt le q =
-      let o = slice_get (characters_of p).nodes q.0 in
+      let o = slice_get (character_program p).nodes q.0 in
       let h = haystack_in p.line_terminator s in
       let h' = haystack_in p.line_terminator (up_to_place s e) in
       let here : is_within (lowest s) (highest s) i ≡ true = within_is (lowest s) (highest s) i (omega (arith, inside.0, inside.2)) (omega (arith, lt, le)) in
@@ -97,7 +97,7 @@ module _ (p : ByteProgram) (s : Search) where
 
   pub moves_stop : (i : ℕ) → IsInside s i → MovesStop i
   moves_stop i inside q =
-      let o = slice_get (characters_of p).nodes q.0 in
+      let o = slice_get (character_program p).nodes q.0 in
       let h = haystack_in p.line_terminator s in
       let h' = haystack_in p.line_terminator (up_to_place s i) in
       let here : is_within (lowest s) (highest s) i ≡ true = within_is (lowest s) (highest s) i (omega (arith, inside.0, inside.2)) (omega (arith, inside.1, inside.3, inside.4)) in
@@ -123,7 +123,7 @@ module _ (p : ByteProgram) (s : Search) where
   steps_cut i stop (opened {q = q} rs new is rest) = opened rs new (stop q ∙ ap stopped is) (steps_cut i stop rest)
   steps_cut i stop (read {q = q} r new is rest) = opened [] new (stop q ∙ ap stopped is) (steps_cut i stop rest)
 
-  pub begins_whole : (e i : ℕ) → i ≤ s.end → Begins (up_to_place s e) i → Begins s i
+  pub begins_whole : (e i : ℕ) → i ≤ s.end → MayBegin (up_to_place s e) i → MayBegin s i
   begins_whole e i le begins = let inside = begins.0.0 in (((inside.0, inside.1, inside.2, le, inside.4), begins.0.1), begins.1)
 
   started_in_part : (q e i : ℕ) (pattern : Option ℕ) (live : ThreadListView) (threads : List Thread) → IsInside s i → i ≤ e → HasStarted s q i pattern live threads → HasStarted (up_to_place s e) q i pattern live threads
@@ -134,7 +134,7 @@ module _ (p : ByteProgram) (s : Search) where
 
   pub parts_passed : (q i : ℕ) (live : ThreadListView) (threads next : List Thread) (pattern : Option ℕ) (slots : Slots) (k : Option ℕ) (noted : Slots)
       → IsInside s i → live.slot_len ≡ length slots → HasStarted s q i pattern live threads → Steps (machine_in p s) i [] threads next (met_at i k noted) → All (IsThreadOf p.states) next
-      → IsUnderWayInParts p s q i live.threads pattern slots → IsUnderWayInParts p s q (i + 1) next (pattern_after k pattern) (slots_after k noted slots)
+      → IsUnderWayInParts (course_of p s q) i live.threads pattern slots → IsUnderWayInParts (course_of p s q) (i + 1) next (pattern_after k pattern) (slots_after k noted slots)
   parts_passed q i live threads next pattern slots k noted inside len started steps nodes parts = λ e from within.
       let lt : i < e = omega (arith, from) in
       way_passed p (up_to_place s e) q i live threads next pattern slots k noted (inside_part s e i inside (omega (arith, from))) len
@@ -143,69 +143,69 @@ module _ (p : ByteProgram) (s : Search) where
 
   pub part_over : (q i : ℕ) (live : ThreadListView) (threads next : List Thread) (pattern : Option ℕ) (slots : Slots) (k : Option ℕ) (noted : Slots)
       → IsInside s i → live.slot_len ≡ length slots → HasStarted s q i pattern live threads → Steps (machine_in p s) i [] threads next (met_at i k noted)
-      → IsUnderWay p (up_to_place s i) q i live.threads pattern slots → IsOver p (up_to_place s i) q (pattern_after k pattern) (slots_after k noted slots)
+      → IsUnderWay (course_of p (up_to_place s i) q) i live.threads pattern slots → IsOver (course_of p (up_to_place s i) q) (pattern_after k pattern) (slots_after k noted slots)
   part_over q i live threads next pattern slots k noted inside len started steps way =
       way_ended p (up_to_place s i) q i [] (pattern_after k pattern) (slots_after k noted slots) (omega arith)
       (way_passed p (up_to_place s i) q i live threads [] pattern slots k noted (inside_part s i i inside (omega arith)) len
       (started_in_part q i i pattern live threads inside (omega arith) started)
       (steps_cut i (moves_stop i inside) steps) (All-nil (IsThreadOf p.states)) way)
 
-  pub parts_begun : (q i : ℕ) (live : List Thread) (slots : Slots) → i ≡ lowest s → live ≡ [] → slots ≡ no_slots (length slots) → IsUnderWayInParts p s q i live None slots
+  pub parts_begun : (q i : ℕ) (live : List Thread) (slots : Slots) → i ≡ lowest s → live ≡ [] → slots ≡ no_slots (length slots) → IsUnderWayInParts (course_of p s q) i live None slots
   parts_begun q i live slots first none empty = λ e from within. way_begun p (up_to_place s e) q i live slots first none empty
 
   -- ---- places are skipped
 
   pub parts_skipped : (q i j : ℕ) (idle : List Bool) (live : List Thread) (pattern : Option ℕ) (slots : Slots) → i ≤ j → lowest s ≤ i → j ≤ highest s → AreIdle p idle
       → (live ≡ [] → pattern ≡ None → (s.anchoring ≡ unanchored) × (q ≡ p.start)) → AreSkipped idle s.utf8_empty s.content i j live pattern
-      → IsUnderWayInParts p s q i live pattern slots → IsUnderWayInParts p s q j live pattern slots
+      → IsUnderWayInParts (course_of p s q) i live pattern slots → IsUnderWayInParts (course_of p s q) j live pattern slots
   parts_skipped q i j idle live pattern slots le low high are free skipped parts = λ e from within.
       way_skipped p (up_to_place s e) q i j idle live pattern slots le low (omega (arith, from, part_highest s e within)) are free skipped (parts e (omega (arith, le, from)) within)
 
   -- at such a place nothing ends in the part that is cut there
   pub none_skipped : (q i j : ℕ) (idle : List Bool) (live : List Thread) (pattern : Option ℕ) (slots : Slots) → lowest s ≤ i → j ≤ highest s → AreIdle p idle
       → (live ≡ [] → pattern ≡ None → (s.anchoring ≡ unanchored) × (q ≡ p.start)) → AreSkipped idle s.utf8_empty s.content i j live pattern
-      → IsUnderWayInParts p s q i live pattern slots → HasMetNone p s q i j
+      → IsUnderWayInParts (course_of p s q) i live pattern slots → HasMetNone (course_of p s q) i j
   none_skipped q i j idle live pattern slots low high are free skipped parts k from to =
       let here = skipped k from to in
       let tied = free here.0 here.1 in
       let inside : IsInside s k = (omega (arith, low, from), omega (arith, high, to), omega (arith, low, from), omega (arith, high, to), omega (arith, high, to)) in
-      let way : IsUnderWay p (up_to_place s k) q k live pattern slots =
+      let way : IsUnderWay (course_of p (up_to_place s k) q) k live pattern slots =
       way_skipped p (up_to_place s k) q i k idle live pattern slots from low (omega (arith, to, high, part_highest s k (omega (arith, to, high)))) are free
       (λ l from' to'. skipped l from' (omega (arith, to, to'))) (parts k from (omega (arith, to, high))) in
-      let alone : IsUnderWay p (up_to_place s k) p.start k [] None slots =
-      subst (λ r. IsUnderWay p (up_to_place s k) r k [] None slots) tied.1 (subst (λ o. IsUnderWay p (up_to_place s k) q k [] o slots) here.1 (subst (λ xs. IsUnderWay p (up_to_place s k) q k xs pattern slots) here.0 way)) in
+      let alone : IsUnderWay (course_of p (up_to_place s k) p.start) k [] None slots =
+      subst (λ r. IsUnderWay (course_of p (up_to_place s k) r) k [] None slots) tied.1 (subst (λ o. IsUnderWay (course_of p (up_to_place s k) q) k [] o slots) here.1 (subst (λ xs. IsUnderWay (course_of p (up_to_place s k) q) k xs pattern slots) here.0 way)) in
       let one : SkippedStep p s k slots = skipped_step p s idle k slots tied.0 inside (omega (arith, high, to)) are here.2 in (
         slots,
-        subst (λ r. IsOver p (up_to_place s k) r None slots) (sym tied.1)
+        subst (λ r. IsOver (course_of p (up_to_place s k) r) None slots) (sym tied.1)
             (part_over p.start k (record { slot_len = length slots; threads = [] }) one.threads [] None slots None slots inside refl one.started one.steps alone),
       )
 
   -- ---- where a search is over
 
-  pub none_more : (q first i j : ℕ) (pattern : Option ℕ) (slots : Slots) → HasMetNone p s q first i → IsOver p (up_to_place s i) q pattern slots → pattern ≡ None → HasMetNone p s q (i + 1) j → HasMetNone p s q first j
+  pub none_more : (q first i j : ℕ) (pattern : Option ℕ) (slots : Slots) → HasMetNone (course_of p s q) first i → IsOver (course_of p (up_to_place s i) q) pattern slots → pattern ≡ None → HasMetNone (course_of p s q) (i + 1) j → HasMetNone (course_of p s q) first j
   none_more q first i j pattern slots before here unmet behind k from to = elim (below_or_not k i) [
     | inl less ↦ before k from less
     | inr le ↦ elim (below_or_not i k) [
       | inl more ↦ behind k (omega (arith, more)) to
       | inr same ↦ (
         slots,
-        subst (λ j. IsOver p (up_to_place s j) q None slots) (omega (arith, le, same)) (subst (λ o. IsOver p (up_to_place s i) q o slots) unmet here),
+        subst (λ j. IsOver (course_of p (up_to_place s j) q) None slots) (omega (arith, le, same)) (subst (λ o. IsOver (course_of p (up_to_place s i) q) o slots) unmet here),
       )
     ]
   ]
 
-  pub over_whole : (earliest : Bool) (q first i : ℕ) (pattern : Option ℕ) (slots : Slots) → (earliest ≡ true → pattern ≡ None) → IsOver p s q pattern slots → IsOverAt earliest p s q first i pattern slots
+  pub over_whole : (earliest : Bool) (q first i : ℕ) (pattern : Option ℕ) (slots : Slots) → (earliest ≡ true → pattern ≡ None) → IsOver (course_of p s q) pattern slots → IsOverAt earliest (course_of p s q) first i pattern slots
   over_whole false q first i pattern slots unmet over = over
   over_whole true q first i None slots unmet over = over
   over_whole true q first i (Some k) slots unmet over = absurd (cc (unmet refl))
 
-  pub over_early : (q first i : ℕ) (pattern : Option ℕ) (slots : Slots) → (pattern ≡ None → ⊥) → i ≤ highest s → IsOver p (up_to_place s i) q pattern slots → HasMetNone p s q first i → IsOverAt true p s q first i pattern slots
+  pub over_early : (q first i : ℕ) (pattern : Option ℕ) (slots : Slots) → (pattern ≡ None → ⊥) → i ≤ highest s → IsOver (course_of p (up_to_place s i) q) pattern slots → HasMetNone (course_of p s q) first i → IsOverAt true (course_of p s q) first i pattern slots
   over_early q first i None slots some le over before = absurd (some refl)
   over_early q first i (Some k) slots some le over before = (le, over, before)
 
   -- ---- the first end that is met
 
-  met_here : (q first i : ℕ) (k : ℕ) (noted : Slots) → IsInside s i → IsOver p (up_to_place s i) q (Some k) noted → HasMetNone p s q first i → IsFirstMet p s q first i
+  met_here : (q first i : ℕ) (k : ℕ) (noted : Slots) → IsInside s i → IsOver (course_of p (up_to_place s i) q) (Some k) noted → HasMetNone (course_of p s q) first i → IsFirstMet (course_of p s q) first i
   met_here q first i k noted inside over before = record { inside = omega (arith, inside.1, inside.3, inside.4); pattern = k; slots = noted; met = over; none_before = before }
 
   -- once an end was met no walk starts
@@ -215,7 +215,7 @@ module _ (p : ByteProgram) (s : Search) where
 
   pub first_kept : (q first i : ℕ) (live : ThreadListView) (threads next : List Thread) (pattern : Option ℕ) (slots : Slots) (k : Option ℕ) (noted : Slots)
       → IsInside s i → HasStarted s q i pattern live threads → Steps (machine_in p s) i [] threads next (met_at i k noted) → All (IsReached (machine_in p s) s q i i) live.threads
-      → IsOver p (up_to_place s i) q (pattern_after k pattern) (slots_after k noted slots) → KeepsFirst p s q first i pattern live.threads → KeepsFirst p s q first (i + 1) (pattern_after k pattern) next
+      → IsOver (course_of p (up_to_place s i) q) (pattern_after k pattern) (slots_after k noted slots) → KeepsFirst (course_of p s q) first i pattern live.threads → KeepsFirst (course_of p s q) first (i + 1) (pattern_after k pattern) next
   first_kept q first i live threads next None slots None noted inside started steps reached over keeps =
       none_more q first i (i + 1) None slots keeps over refl (λ k from to. absurd (omega (arith, from, to)))
   first_kept q first i live threads next None slots (Some e) noted inside started steps reached over keeps =
@@ -227,8 +227,8 @@ module _ (p : ByteProgram) (s : Search) where
 
   pub stands_since : (q first i : ℕ) (live : ThreadListView) (threads next : List Thread) (pattern : Option ℕ) (slots : Slots) (k : Option ℕ) (noted : Slots)
       → IsInside s i → HasStarted s q i pattern live threads → Steps (machine_in p s) i [] threads next (met_at i k noted) → All (IsReached (machine_in p s) s q i i) live.threads
-      → IsOver p (up_to_place s i) q (pattern_after k pattern) (slots_after k noted slots) → start_node (characters_of p) s.anchoring ≡ Some q → KeepsFirst p s q first i pattern live.threads
-      → (pattern ≡ None) ⊎ (live.threads ≡ [] → ⊥) → (pattern_after k pattern ≡ None) ⊎ StandsSince p s q first i pattern
+      → IsOver (course_of p (up_to_place s i) q) (pattern_after k pattern) (slots_after k noted slots) → start_node (character_program p) s.anchoring ≡ Some q → KeepsFirst (course_of p s q) first i pattern live.threads
+      → (pattern ≡ None) ⊎ (live.threads ≡ [] → ⊥) → (pattern_after k pattern ≡ None) ⊎ StandsSince (course_of p s q) first i pattern
   stands_since q first i live threads next None slots None noted inside started steps reached over starts keeps lives = inl refl
   stands_since q first i live threads next None slots (Some e) noted inside started steps reached over starts keeps lives = inr (record {
     end = i;
@@ -242,17 +242,17 @@ module _ (p : ByteProgram) (s : Search) where
 
   pub first_skipped : (q first i j : ℕ) (idle : List Bool) (live : List Thread) (pattern : Option ℕ) (slots : Slots) → i ≤ j → lowest s ≤ i → j ≤ highest s → AreIdle p idle
       → (live ≡ [] → pattern ≡ None → (s.anchoring ≡ unanchored) × (q ≡ p.start)) → AreSkipped idle s.utf8_empty s.content i j live pattern
-      → IsUnderWayInParts p s q i live pattern slots → KeepsFirst p s q first i pattern live → KeepsFirst p s q first j pattern live
+      → IsUnderWayInParts (course_of p s q) i live pattern slots → KeepsFirst (course_of p s q) first i pattern live → KeepsFirst (course_of p s q) first j pattern live
   first_skipped q first i j idle live None slots le low high are free skipped parts keeps = λ k from to. elim (below_or_not k i) [
     | inl less ↦ keeps k from less
     | inr more ↦ none_skipped q i j idle live None slots low high are free skipped parts k more to
   ]
   first_skipped q first i j idle live (Some o) slots le low high are free skipped parts keeps = elim (below_or_not i j) [
     | inl lt ↦ absurd (cc (skipped i (omega arith) lt).1)
-    | inr past ↦ subst (λ k. KeepsFirst p s q first k (Some o) live) (omega (arith, le, past)) keeps
+    | inr past ↦ subst (λ k. KeepsFirst (course_of p s q) first k (Some o) live) (omega (arith, le, past)) keeps
   ]
 
-  pub stops_since : (earliest : Bool) (q first i at : ℕ) (pattern after : Option ℕ) → (earliest ≡ true → pattern ≡ None) → at ≡ i → (after ≡ None) ⊎ StandsSince p s q first i pattern → (after ≡ None) ⊎ IsStopped earliest p s q first at
+  pub stops_since : (earliest : Bool) (q first i at : ℕ) (pattern after : Option ℕ) → (earliest ≡ true → pattern ≡ None) → at ≡ i → (after ≡ None) ⊎ StandsSince (course_of p s q) first i pattern → (after ≡ None) ⊎ IsStopped earliest (course_of p s q) first at
   stops_since earliest q first i at pattern after unmet same (inl none) = inl none
   stops_since earliest q first i at pattern after unmet same (inr since) =
-      inr (subst (λ k. IsStopped earliest p s q first k) (sym same) (record { end = since.end; first_met = since.first_met; stands = since.stands; at_once = λ early. since.now (unmet early) }))
+      inr (subst (λ k. IsStopped earliest (course_of p s q) first k) (sym same) (record { end = since.end; first_met = since.first_met; stands = since.stands; at_once = λ early. since.now (unmet early) }))

@@ -14,7 +14,6 @@ use Rattle.rx_walks.specs.Steps.{Steps, done}
 use Rattle.rx_steps.specs.declared.place.Place.{Place}
 use Rattle.rx_steps.specs.Threads.{Slots, first_node, note_slot}
 use Rattle.rx_steps.specs.Lists.{IsPlace, move_at, noted_at, read_next, slot_machine, MakesMoves, AreUnderWay}
-use Rattle.rx_steps.proofs.FollowLaws.{tells_none}
 
 node_at : (states : List State) (q : ℕ) (x : State) → slice_get states q ≡ Some x → slice_get (map node_of states) q ≡ Some (node_of x)
 node_at [] q x e = absurd (cc e)
@@ -64,9 +63,6 @@ moves_at_place p h i place here = record {
       ∙ ap (λ o. by_byte (automata_of p) h i q.0 q.1 o) (no_node p.states q.0 is);
   notes = λ q x is slots. ap (λ o. note_at note_slot i o slots) (node_at p.states q.0 x is) ∙ noted_so place i x slots here.at;
 }
-
-pub begun : {N : Type 0} (m : Machine (ℕ × ℕ) N) (i : ℕ) (threads : List (N × (ℕ × ℕ))) (widths : List ℕ) → AreUnderWay m i threads widths [] threads []
-begun m i threads widths = record { seen = []; tells = tells_none widths; so_far = λ next met steps. steps }
 
 pub over : {N : Type 0} (m : Machine (ℕ × ℕ) N) (i : ℕ) (widths ids : List ℕ) (threads next : List (N × (ℕ × ℕ))) → AreUnderWay m i threads widths ids [] next → Steps m i [] threads next None
 over m i widths ids threads next way = subst (λ xs. Steps m i [] threads xs None) (append-nil next) (way.so_far [] None done)

@@ -1,9 +1,8 @@
 -- Slots as what is kept of the notes of a walk.
-use Rattle.std.proofs.Common.{◌≡◌, ℕ, zero, suc, ◌+◌, ◌<◌, cond, ◌∷◌, length, replicate, set, Option, Some, None, refl, sym, ap, ap₂, ◌∙◌, arith}
+use Rattle.std.proofs.Common.{◌≡◌, ℕ, zero, suc, ◌+◌, ◌<◌, cond, ◌∷◌, length, replicate, set, Some, None, refl, sym, ap, ap₂, ◌∙◌, arith}
 use Rattle.std.proofs.lemmas.Bool.{eq-eqb, ne_eqb}
-use Rattle.std.proofs.lemmas.List.{length-replicate}
 use Rattle.rx_walks.specs.Programs.{Notes, fresh_notes, put_note, last_noted}
-use Rattle.rx_steps.specs.Threads.{Slots, note_slot}
+use Rattle.rx_steps.specs.Threads.{note_slot}
 use Rattle.rx_steps.specs.Searching.{slots_from}
 
 other_slots : (from len slot i : ℕ) (n : Notes) → slot < from → slots_from from len (put_note slot i n) ≡ slots_from from len n
@@ -39,14 +38,3 @@ slots_of_noted from (suc len) start n = ap (λ xs. last_noted from n.noted ∷ x
 pub empty_slots : (from len : ℕ) → slots_from from len (fresh_notes 0) ≡ replicate len None
 empty_slots from zero = refl
 empty_slots from (suc len) = ap (λ xs. None ∷ xs) (empty_slots (suc from) len)
-
--- slots that were filled with none
-pub are_empty : (slots : Slots) (len : ℕ) → slots ≡ replicate len None → slots ≡ replicate (length slots) None
-are_empty slots len e =
-    let same : len ≡ length slots = sym (ap (λ xs. length xs) e ∙ length-replicate len None) in
-    e ∙ ap (λ n. replicate n None) same
-
--- of a clone of none that can't be some place, as `fill` asks
-pub none_where : (P : Option ℕ → Type 0) → ((x : ℕ) → P (Some x) → ⊥) → (y : Option ℕ) → P y → y ≡ None
-none_where P never None is = refl
-none_where P never (Some x) is = absurd (never x is)

@@ -5,7 +5,7 @@ use Rattle.rx_walks.specs.Machines.{Machine, Outcome}
 use Rattle.rx_walks.specs.Finds.{Search}
 use Rattle.rx_walks.specs.ProgramFinds.{start_node}
 use Rattle.rx_walks.specs.Steps.{Steps, done, passed, met, opened, read}
-use Rattle.rx_program.specs.Programs.{ByteProgram, characters_of}
+use Rattle.rx_program.specs.Programs.{ByteProgram, character_program}
 use Rattle.rx_steps.specs.Threads.{Slots, Thread, ThreadListView, no_slots}
 use Rattle.rx_steps.specs.Lists.{met_at}
 use Rattle.rx_steps.specs.Standing.{at_once, by_edge, by_read, IsReached, WalkStands}
@@ -53,7 +53,7 @@ started_reached m s q i pattern live threads (inl begun) all =
 started_reached m s q i pattern live threads (inr waits) all = subst (All (IsReached m s q i i)) (sym waits.1) all
 
 -- where there is a thread a walk stands
-pub one_stands : (p : ByteProgram) (s : Search) (q last i : ℕ) (threads : List Thread) → start_node (characters_of p) s.anchoring ≡ Some q → (threads ≡ [] → ⊥) → All (IsReached (machine_in p s) s q last i) threads
+pub one_stands : (p : ByteProgram) (s : Search) (q last i : ℕ) (threads : List Thread) → start_node (character_program p) s.anchoring ≡ Some q → (threads ≡ [] → ⊥) → All (IsReached (machine_in p s) s q last i) threads
     → WalkStands p s last i
 one_stands p s q last i [] starts some all = absurd (some refl)
 one_stands p s q last i (x ∷ threads) starts some all = record { start = q; starts = starts; thread = x; reached = first_of (IsReached (machine_in p s) s q last i) x threads all }

@@ -5,10 +5,7 @@ use Rattle.rx_walks.specs.Steps.{Thins, thin_end, kept, left_out}
 use Rattle.rx_steps.specs.Nodes.{index_from, IsInserted, IsMember}
 use Rattle.rx_steps.specs.Threads.{Slots, Thread}
 use Rattle.rx_steps.specs.Lists.{IsThinning, Tells}
-use Rattle.rx_steps.proofs.FollowLaws.{tells_none, tells_more, tells_outside}
-
-pub thin_begun : (threads : List Thread) (widths : List ℕ) → IsThinning threads widths [] threads []
-thin_begun threads widths = record { seen = []; tells = tells_none widths; so_far = λ rest thins. thins }
+use Rattle.rx_steps.proofs.FollowLaws.{tells_more, tells_outside}
 
 -- one stood at its node before
 pub thin_passed : (threads : List Thread) (widths ids : List ℕ) (slots : Slots) (q : ℕ × ℕ) (others out : List Thread) (o : Option ℕ) → index_from 0 widths q.0 q.1 ≡ o → IsMember o true ids

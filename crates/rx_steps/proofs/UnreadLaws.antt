@@ -2,7 +2,7 @@
 use Rattle.std.proofs.Common.{◌≡◌, ℕ, Bool, true, false, List, [], ◌∷◌, ◌++◌, map, Option, Some, None, slice_get, refl, sym, ap, subst, ◌∙◌}
 use Rattle.rx_program.specs.declared.states.State.{State}
 use Rattle.rx_program.specs.declared.states.State.TheVariants as state
-use Rattle.rx_program.specs.Programs.{ByteProgram, characters_of}
+use Rattle.rx_program.specs.Programs.{ByteProgram, character_program}
 use Rattle.rx_program.specs.Code.{place_of}
 use Rattle.rx_utf8.specs.Automata.{step_of}
 use Rattle.rx_walks.specs.Machines.{Move, Outcome, ends, goes, reads}
@@ -57,8 +57,8 @@ record GoStopped (m : SlotMachine) (i : ℕ) (m' : SlotMachine) (j : ℕ) : Type
 go_stopped : (p : ByteProgram) (h h' : Haystack walks.Look) (i j : ℕ) (place : Place) → IsPlace p.states h i place → IsPlace p.states h' j (record place { byte = None }) → GoStopped (slot_machine p h) i (slot_machine p h') j
 go_stopped p h h' i j place here there = record {
   moves = λ q. by_state q (slice_get p.states q.0) refl;
-  notes = λ q. none_noted i (slice_get (characters_of p).nodes q.0);
-  notes' = λ q. none_noted j (slice_get (characters_of p).nodes q.0);
+  notes = λ q. none_noted i (slice_get (character_program p).nodes q.0);
+  notes' = λ q. none_noted j (slice_get (character_program p).nodes q.0);
 }
   where
     by_state : (q : ℕ × ℕ) (o : Option State) → slice_get p.states q.0 ≡ o → Stopped ((slot_machine p h).move i q) ((slot_machine p h').move j q)

@@ -10,11 +10,11 @@ use Rattle.rx_walks.specs.Bytes.{Automaton, by_byte, read_byte}
 use Rattle.rx_walks.specs.Finds.{Search, IsInside}
 use Rattle.rx_walks.specs.ProgramFinds.{highest}
 use Rattle.rx_walks.specs.Steps.{Steps, done, passed, met, opened, read, either}
-use Rattle.rx_program.specs.Programs.{ByteProgram, automata_of, characters_of}
+use Rattle.rx_program.specs.Programs.{ByteProgram, automata_of, character_program}
 use Rattle.rx_steps.specs.Threads.{Slots, Thread, ThreadListView, IsThreadOf, no_slots, note_slot}
 use Rattle.rx_steps.specs.Lists.{slot_machine, met_at}
 use Rattle.rx_steps.specs.Searching.{haystack_in}
-use Rattle.rx_steps.specs.Coming.{HasSlots, machine_in, HasCome, HasStarted, IsUnderWay}
+use Rattle.rx_steps.specs.Coming.{course_of, HasSlots, machine_in, HasCome, HasStarted, IsUnderWay}
 use Rattle.rx_steps.proofs.ComeLaws.{passed_with_start, passed_on, none_read}
 use Rattle.rx_steps.proofs.StandLaws.{first_of, rest_of, pattern_after, reached_later, reached_on, started_reached}
 
@@ -43,8 +43,8 @@ slots_stay p h i len done all = (all, tt)
 slots_stay p h i len (passed {n = n} {q = q} {others = others} c rest) all = slots_stay p h i len rest (rest_of (HasSlots len) (n, q) others all)
 slots_stay p h i len (met {n = n} {q = q} {others = others} new is) all = (All-nil (HasSlots len), first_of (HasSlots len) (n, q) others all)
 slots_stay p h i len (opened {n = n} {q = q} {others = others} rs new is rest) all =
-    let noted = note_at note_slot i (slice_get (characters_of p).nodes q.0) n in
-    let long : length noted ≡ len = note_len i (slice_get (characters_of p).nodes q.0) n ∙ first_of (HasSlots len) (n, q) others all in
+    let noted = note_at note_slot i (slice_get (character_program p).nodes q.0) n in
+    let long : length noted ≡ len = note_len i (slice_get (character_program p).nodes q.0) n ∙ first_of (HasSlots len) (n, q) others all in
     slots_stay p h i len rest (All-append (HasSlots len) (map (λ r. (noted, r)) rs) others (all_noted len noted rs long) (rest_of (HasSlots len) (n, q) others all))
 slots_stay p h i len (read {n = n} {q = q} {others = others} {next = next} r new is rest) all =
     let on = slots_stay p h i len rest (rest_of (HasSlots len) (n, q) others all) in
@@ -80,7 +80,7 @@ ends_there : (p : ByteProgram) (s : Search) (i : ℕ) {threads next : List Threa
 ends_there p s i inside steps past =
     let h = haystack_in p.line_terminator s in
     let le : highest s ≤ i = omega (arith, past) in
-    none_read (λ q r. none_within (is_within h.low h.high i) (automata_of p) h i (i + 1) q r (slice_get (characters_of p).nodes q.0) (nothing_left s.content (highest s) i le)) steps
+    none_read (λ q r. none_within (is_within h.low h.high i) (automata_of p) h i (i + 1) q r (slice_get (character_program p).nodes q.0) (nothing_left s.content (highest s) i le)) steps
 
 -- ---- a place is passed
 
@@ -130,7 +130,7 @@ come_on p s q i live threads next pattern end slots ended e (inr waits) steps co
 
 pub way_passed : (p : ByteProgram) (s : Search) (q i : ℕ) (live : ThreadListView) (threads next : List Thread) (pattern : Option ℕ) (slots : Slots) (k : Option ℕ) (noted : Slots)
     → IsInside s i → live.slot_len ≡ length slots → HasStarted s q i pattern live threads → Steps (machine_in p s) i [] threads next (met_at i k noted) → All (IsThreadOf p.states) next
-    → IsUnderWay p s q i live.threads pattern slots → IsUnderWay p s q (i + 1) next (pattern_after k pattern) (slots_after k noted slots)
+    → IsUnderWay (course_of p s q) i live.threads pattern slots → IsUnderWay (course_of p s q) (i + 1) next (pattern_after k pattern) (slots_after k noted slots)
 way_passed p s q i live threads next pattern slots None noted inside e started steps nodes way =
     let h = haystack_in p.line_terminator s in
     let stay = slots_stay p h i (length slots) steps (all_started s q i (length slots) pattern live threads e started way.slot_lens) in

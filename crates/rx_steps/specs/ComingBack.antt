@@ -1,9 +1,9 @@
 -- How far a search has come that reads backwards.
-use Rattle.std.specs.Prelude.{◌≡◌, ℕ, ◌+◌, ◌-◌, ◌<◌, ◌≤◌, ◌⊎◌, Bool, false, List, [], length, Option, Some, None, option_map, slice_get, cond, nat_lt}
+use Rattle.std.specs.Prelude.{◌≡◌, ℕ, ◌+◌, ◌-◌, ◌<◌, ◌≤◌, ◌⊎◌, Bool, false, List, [], length, Option, None, option_map, slice_get, cond, nat_lt}
 use Rattle.rx_util.specs.Search.{HalfFound}
 use Rattle.rx_walks.specs.Backward.{IsToldBack, mirrored_search}
 use Rattle.rx_walks.specs.Finds.{Search, PatternMatch}
-use Rattle.rx_walks.specs.Laws.{Begins}
+use Rattle.rx_walks.specs.Laws.{MayBegin}
 use Rattle.rx_walks.specs.Machines.{Machine}
 use Rattle.rx_walks.specs.ProgramFinds.{lowest}
 use Rattle.rx_walks.specs.Programs.{Notes}
@@ -14,8 +14,8 @@ use Rattle.rx_program.specs.Programs.{ByteProgram}
 use Rattle.rx_program.specs.Reversed.{ReverseByteProgram}
 use Rattle.rx_steps.specs.Lists.{Asks}
 use Rattle.rx_steps.specs.Nodes.{widths_of}
-use Rattle.rx_steps.specs.Reversed.{bytes_of}
-use Rattle.rx_steps.specs.ListsAll.{IsStepAll, Started, byte_machine, end_of, started_at}
+use Rattle.rx_steps.specs.Reversed.{byte_program_of}
+use Rattle.rx_steps.specs.ListsAll.{IsStepAll, Started, byte_machine, end_met_by, started_at}
 use Rattle.rx_steps.specs.Searching.{haystack_in}
 
 -- the machine of a program turned round, over the content turned round
@@ -38,7 +38,7 @@ HasSteppedBack s i j = ((lowest s < i) × (j + 1 ≡ i)) ⊎ ((i ≤ lowest s) �
 abbrev pub IsStepBack : ByteProgram → Search → ℕ → List (ℕ × ℕ) → List (ℕ × ℕ) → Option ℕ → Type 0
 IsStepBack p s i nodes next met =
     IsStepAll (back_machine_in p s) (mirror_of s i) (started_at (mirror_of s s.end) nodes)
-    (started_at (mirror_of s s.end) next) (end_of (mirror_of s s.end) met)
+    (started_at (mirror_of s s.end) next) (end_met_by (mirror_of s s.end) met)
 
 -- a match that began so, as one of the content turned round
 abbrev pub mirror_match : Search → HalfFound → PatternMatch
@@ -51,7 +51,7 @@ mirror_match s met = record {
 -- a search is over, from a start node: the best match that was met
 abbrev pub IsOverBack : ByteProgram → Search → ℕ → Option HalfFound → Type 0
 IsOverBack p s q best =
-    SearchesAll (back_machine_in p s) (Begins (mirrored_search s)) (q, 0) (mirror_of s s.end) []
+    SearchesAll (back_machine_in p s) (MayBegin (mirrored_search s)) (q, 0) (mirror_of s s.end) []
     None (option_map (mirror_match s) best)
 
 -- a search has come back to a place with walks at these nodes, and this is the best match that was
@@ -62,9 +62,10 @@ HasComeBack p s q i nodes best =
     → StepsAll (back_machine_in p s) (mirror_of s i) [] (started_at (mirror_of s s.end) nodes) next
     ends
     → Latest (mirror_of s i) (option_map (mirror_match s) best) ends after
-    → SearchesAll (back_machine_in p s) (Begins (mirrored_search s)) (q, 0) (mirror_of s i + 1) next
+    → SearchesAll (back_machine_in p s) (MayBegin (mirrored_search s)) (q, 0)
+    (mirror_of s i + 1) next
     after out
-    → SearchesAll (back_machine_in p s) (Begins (mirrored_search s)) (q, 0) (mirror_of s s.end) []
+    → SearchesAll (back_machine_in p s) (MayBegin (mirrored_search s)) (q, 0) (mirror_of s s.end) []
     None out
 
 -- how many nodes each state is of the program turned round that a cache was made for, and whether
@@ -76,8 +77,8 @@ pub record ReverseCacheView : Type 0 where
 -- they are those of this program turned round: where no look is asked for, no state asks for one
 pub record AreOfReverse (turned : ReverseByteProgram) (widths : List ℕ) (asks_looks : Bool)
     : Type 0 where
-  pub widths_are : widths ≡ widths_of (bytes_of turned)
-  pub looks : asks_looks ≡ false → (l : walks.Look) → Asks (bytes_of turned).states l → ⊥
+  pub widths_are : widths ≡ widths_of (byte_program_of turned)
+  pub looks : asks_looks ≡ false → (l : walks.Look) → Asks (byte_program_of turned).states l → ⊥
 
 -- a cache made for a program turned round
 abbrev pub IsReverseCacheOf : ReverseByteProgram → ReverseCacheView → Type 0

@@ -2,12 +2,12 @@
 use Rattle.std.specs.Prelude.{◌≡◌, ℕ, ◌+◌, ◌-◌, ◌*◌, Bool, true, List, [], ◌∷◌, ◌++◌, length, map, max, reverse, Option, Some, None, option_map, slice_get, Contains}
 use Rattle.rx_program.specs.declared.states.State.{State}
 use Rattle.rx_program.specs.declared.states.State.TheVariants as state
-use Rattle.rx_program.specs.Programs.{ByteProgram, characters_of, automata_of}
+use Rattle.rx_program.specs.Programs.{ByteProgram, character_program, automata_of}
 use Rattle.rx_program.specs.Code.{place_of}
 use Rattle.rx_utf8.specs.Automata.{step_of}
 use Rattle.rx_walks.specs.Machines.{Move, ends, goes, reads, Machine, Outcome}
 use Rattle.rx_walks.specs.Looks as walks
-use Rattle.rx_walks.specs.Looks.{Look, start_text, end_text, start_line, end_line, word_boundary, no_word_boundary, holds_between}
+use Rattle.rx_walks.specs.Looks.{start_text, end_text, start_line, end_line, word_boundary, no_word_boundary, holds_between}
 use Rattle.unicode.specs.Perl.{is_word_char}
 use Rattle.rx_walks.specs.Programs.{Haystack, only_if, is_within, left_from}
 use Rattle.rx_walks.specs.Bytes.{read_on, over_bytes}
@@ -52,7 +52,7 @@ pub record IsPlace (states : List State) (h : Haystack walks.Look) (i : ℕ) (pl
 
 -- the machine of a program's bytes, whose walks note places in their slots
 abbrev pub slot_machine : ByteProgram → Haystack walks.Look → Machine (ℕ × ℕ) Slots
-slot_machine p h = over_bytes note_slot (automata_of p) (characters_of p).nodes h
+slot_machine p h = over_bytes note_slot (automata_of p) (character_program p).nodes h
 
 abbrev pub met_at : ℕ → Option ℕ → Slots → Option (Outcome Slots)
 met_at i met slots = option_map (λ k. record { pattern = k; end = i; notes = slots }) met

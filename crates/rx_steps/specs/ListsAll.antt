@@ -2,7 +2,7 @@
 -- walks go on, each with the place at which it began.
 use Rattle.std.specs.Prelude.{◌≡◌, ℕ, ◌≤◌, List, [], ◌++◌, map, Option, Some, None, option_map, slice_get}
 use Rattle.rx_program.specs.declared.states.State.{State}
-use Rattle.rx_program.specs.Programs.{ByteProgram, characters_of, automata_of}
+use Rattle.rx_program.specs.Programs.{ByteProgram, character_program, automata_of}
 use Rattle.rx_walks.specs.Machines.{goes, Machine}
 use Rattle.rx_walks.specs.Looks as walks
 use Rattle.rx_walks.specs.Programs.{Haystack, Notes, put_note}
@@ -10,7 +10,7 @@ use Rattle.rx_walks.specs.Bytes.{over_bytes}
 use Rattle.rx_walks.specs.StepsAll.{StepsAll, Met}
 use Rattle.rx_steps.specs.declared.place.Place.{Place}
 use Rattle.rx_steps.specs.declared.started.MetEnd.{MetEnd}
-use Rattle.rx_steps.specs.Nodes.{widths_of, IsNodeOf}
+use Rattle.rx_steps.specs.Nodes.{widths_of, IsNodeIn}
 use Rattle.rx_steps.specs.Threads.{Thread}
 use Rattle.rx_steps.specs.Lists.{IsPlace, Tells, move_at}
 
@@ -20,7 +20,7 @@ Started = ℕ × (ℕ × ℕ)
 
 -- a walk at a node of a program
 abbrev pub IsStartedOf : List State → Started → Type 0
-IsStartedOf states thread = IsNodeOf states thread.1
+IsStartedOf states thread = IsNodeIn states thread.1
 
 -- walks at these nodes that began at one place, and the ends of these patterns' matches that did
 abbrev pub started_at : ℕ → List (ℕ × ℕ) → List Started
@@ -31,7 +31,7 @@ ended_from s patterns = map (λ k. (s, k)) patterns
 
 -- the machine of a program's bytes
 abbrev pub byte_machine : ByteProgram → Haystack walks.Look → Machine (ℕ × ℕ) Notes
-byte_machine p h = over_bytes put_note (automata_of p) (characters_of p).nodes h
+byte_machine p h = over_bytes put_note (automata_of p) (character_program p).nodes h
 
 -- of two ends at one place the first has the lesser start, or else the lesser pattern; or the same
 pub record IsNoWorse (one other : MetEnd) : Type 0 where
@@ -63,8 +63,8 @@ IsNextListAll p place threads next met =
 -- ---- inside a step
 
 -- the end of this pattern's match that began at a place, if there is one
-abbrev pub end_of : ℕ → Option ℕ → Option MetEnd
-end_of start pattern = option_map (λ k. record { start = start; pattern = k }) pattern
+abbrev pub end_met_by : ℕ → Option ℕ → Option MetEnd
+end_met_by start pattern = option_map (λ k. record { start = start; pattern = k }) pattern
 
 -- the nodes of threads
 abbrev pub nodes_of : List Thread → List (ℕ × ℕ)

@@ -19,9 +19,9 @@ index_from first (n ∷ widths) zero s = cond (nat_lt s n) (Some (first + s)) No
 index_from first (n ∷ widths) (suc q) s = index_from (first + n) widths q s
 
 -- where the nodes of each state start, and where those of the last one end
-abbrev pub starts_from : ℕ → List ℕ → List ℕ
-starts_from first [] = first ∷ []
-starts_from first (n ∷ widths) = first ∷ starts_from (first + n) widths
+abbrev pub node_starts : ℕ → List ℕ → List ℕ
+node_starts first [] = first ∷ []
+node_starts first (n ∷ widths) = first ∷ node_starts (first + n) widths
 
 abbrev pub end_from : ℕ → List ℕ → ℕ
 end_from first [] = first
@@ -32,8 +32,8 @@ abbrev pub MayStand : Option State → ℕ → Type 0
 MayStand (Some (state.Ranges automaton next)) s = Unit {0}
 MayStand _ s = s ≡ 0
 
-abbrev pub IsNodeOf : List State → ℕ × ℕ → Type 0
-IsNodeOf states q = MayStand (slice_get states q.0) q.1
+abbrev pub IsNodeIn : List State → ℕ × ℕ → Type 0
+IsNodeIn states q = MayStand (slice_get states q.0) q.1
 
 -- how many nodes each state is, by where they start
 abbrev pub widths_in : List ℕ → List ℕ

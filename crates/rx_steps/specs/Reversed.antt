@@ -1,6 +1,6 @@
 -- Searches that read backwards: by a program turned round, whose walks are followed from where they
 -- end to where they start.
-use Rattle.std.specs.Prelude.{◌≡◌, ℕ, Bool, false, List, map, Option, Some, None, option_map}
+use Rattle.std.specs.Prelude.{◌≡◌, ℕ, false, List, map, Option, option_map}
 use Rattle.unicode.specs.Perl.{is_word_char}
 use Rattle.rx_util.specs.Search.{HalfFound}
 use Rattle.rx_util.specs.declared.search.Anchored.TheVariants.{No}
@@ -17,10 +17,10 @@ use Rattle.rx_program.specs.declared.reverse_states.ReverseState.{ReverseState}
 use Rattle.rx_program.specs.declared.reverse_states.ReverseState.TheVariants as back
 use Rattle.rx_program.specs.declared.states.State.{State}
 use Rattle.rx_program.specs.declared.states.State.TheVariants as state
-use Rattle.rx_program.specs.Programs.{ByteProgram, characters_of}
+use Rattle.rx_program.specs.Programs.{ByteProgram, character_program}
 use Rattle.rx_program.specs.Reversed.{ReverseByteProgram, back_characters_of}
 use Rattle.rx_steps.specs.declared.place.Place.{Place}
-use Rattle.rx_steps.specs.ListsAll.{IsStepAll, MovesSo, end_of, started_at}
+use Rattle.rx_steps.specs.ListsAll.{IsStepAll, MovesSo, end_met_by, started_at}
 
 -- ---- what is found
 
@@ -28,7 +28,7 @@ use Rattle.rx_steps.specs.ListsAll.{IsStepAll, MovesSo, end_of, started_at}
 -- there the least start, and the least pattern with it
 pub record IsHalfAnswerBack (p : ByteProgram) (s : Search) (met : Option HalfFound) : Type 0 where
   pub found : Option PatternMatch
-  pub finds : ProgramFindsBack is_in is_word_char (characters_of p) s found
+  pub finds : ProgramFindsBack is_in is_word_char (character_program p) s found
   pub met_is : met ≡ option_map (λ a. record { pattern = a.pattern; offset = a.start }) found
 
 -- why it answers nothing: there was no memory, or it isn't anchored
@@ -40,9 +40,9 @@ IsRefusalBack s _ = ⊥
 
 -- this is a program turned round, whose walks stay with their pattern
 pub record IsReverseOf (p : ByteProgram) (turned : ReverseByteProgram) : Type 0 where
-  pub characters : back_characters_of turned ≡ back_program (characters_of p)
-  pub above : IsAbovePatterns (characters_of p)
-  pub keeps : (s : Search) → KeepsPatterns is_in is_word_char (characters_of p) s
+  pub characters : back_characters_of turned ≡ back_program (character_program p)
+  pub above : IsAbovePatterns (character_program p)
+  pub keeps : (s : Search) → KeepsPatterns is_in is_word_char (character_program p) s
 
 -- ---- its steps
 
@@ -57,8 +57,8 @@ state_of (back.Union alternates) = state.Union alternates
 state_of (back.Match pattern) = state.Match pattern
 
 -- the whole program so
-abbrev pub bytes_of : ReverseByteProgram → ByteProgram
-bytes_of turned = record {
+abbrev pub byte_program_of : ReverseByteProgram → ByteProgram
+byte_program_of turned = record {
   states = map state_of turned.states;
   start = turned.start;
   patterns = turned.patterns;
@@ -71,4 +71,4 @@ bytes_of turned = record {
 abbrev pub IsNextListBack : ByteProgram → Place → List (ℕ × ℕ) → List (ℕ × ℕ) → Option ℕ → Type 0
 IsNextListBack p place nodes next met =
     (m : Machine (ℕ × ℕ) Notes) (i start : ℕ) → MovesSo m i p.states place
-    → IsStepAll m i (started_at start nodes) (started_at start next) (end_of start met)
+    → IsStepAll m i (started_at start nodes) (started_at start next) (end_met_by start met)

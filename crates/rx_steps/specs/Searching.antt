@@ -10,7 +10,7 @@ use Rattle.rx_walks.specs.Machines.{Outcome}
 use Rattle.rx_walks.specs.Programs.{Haystack, Notes, slot_of}
 use Rattle.rx_walks.specs.ProgramFinds.{haystack_of, holds_in, ProgramFinds}
 use Rattle.rx_utf8.specs.Automata.{is_in}
-use Rattle.rx_program.specs.Programs.{ByteProgram, characters_of}
+use Rattle.rx_program.specs.Programs.{ByteProgram, character_program}
 use Rattle.rx_steps.specs.Threads.{Slots, no_slots}
 
 abbrev pub anchoring_of : Anchored → Anchoring
@@ -48,7 +48,7 @@ answer_slots len (Some t) = slots_from 0 len t.notes
 pub record IsAnswer (p : ByteProgram) (s : Search) (pattern : Option ℕ) (slots : Slots)
     : Type 0 where
   pub found : Option (Outcome Notes)
-  pub finds : ProgramFinds is_in is_word_char (characters_of p) s found
+  pub finds : ProgramFinds is_in is_word_char (character_program p) s found
   pub pattern_is : pattern ≡ option_map (λ t. t.pattern) found
   pub slots_are : slots ≡ answer_slots (length slots) found
 
@@ -57,9 +57,9 @@ pub record IsAnswer (p : ByteProgram) (s : Search) (pattern : Option ℕ) (slots
 pub record IsFirstEnd (p : ByteProgram) (s : Search) (end : ℕ) : Type 0 where
   pub in_span : end ≤ s.end
   pub found : Outcome Notes
-  pub finds : ProgramFinds is_in is_word_char (characters_of p) (up_to_place s end) (Some found)
+  pub finds : ProgramFinds is_in is_word_char (character_program p) (up_to_place s end) (Some found)
   pub none_before : (i : ℕ) → i < end
-      → ProgramFinds is_in is_word_char (characters_of p) (up_to_place s i) None
+      → ProgramFinds is_in is_word_char (character_program p) (up_to_place s i) None
 
 -- what a search answers that stands at a place then: what the program finds; or, if any match will
 -- do and there is one, what it finds up to this place, which is the first end of a match

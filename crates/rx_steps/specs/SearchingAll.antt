@@ -5,7 +5,7 @@ use Rattle.rx_util.specs.Search.{Found}
 use Rattle.rx_walks.specs.Finds.{Search, up_to_place, PatternMatch}
 use Rattle.rx_walks.specs.ProgramFinds.{ProgramFindsAll}
 use Rattle.rx_utf8.specs.Automata.{is_in}
-use Rattle.rx_program.specs.Programs.{ByteProgram, characters_of}
+use Rattle.rx_program.specs.Programs.{ByteProgram, character_program}
 use Rattle.rx_steps.specs.Searching.{IsFirstEnd}
 
 -- a match as its start, its pattern and its end
@@ -16,7 +16,7 @@ pattern_match found =
 -- what a program finds where all matches are wanted
 abbrev pub IsAnswerAll : ByteProgram → Search → Option Found → Type 0
 IsAnswerAll p s found =
-    ProgramFindsAll is_in is_word_char (characters_of p) s (option_map pattern_match found)
+    ProgramFindsAll is_in is_word_char (character_program p) s (option_map pattern_match found)
 
 -- what a search answers that stands at a place then: what the program finds; or, if any match will
 -- do and there is one, what it finds up to this place, which is the first end of a match

@@ -2,9 +2,9 @@
 use Rattle.std.specs.Prelude.{◌≡◌, ℕ, ◌≤◌, Bool, true, List, Some, slice_get}
 use Rattle.rx_walks.specs.Machines.{Machine, goes, reads}
 use Rattle.rx_walks.specs.Finds.{Search}
-use Rattle.rx_walks.specs.Laws.{Begins}
+use Rattle.rx_walks.specs.Laws.{MayBegin}
 use Rattle.rx_walks.specs.ProgramFinds.{start_node}
-use Rattle.rx_program.specs.Programs.{ByteProgram, characters_of}
+use Rattle.rx_program.specs.Programs.{ByteProgram, character_program}
 use Rattle.rx_steps.specs.Threads.{Slots, Thread}
 use Rattle.rx_steps.specs.Lists.{slot_machine}
 use Rattle.rx_steps.specs.Searching.{haystack_in, IsFirstEnd}
@@ -21,13 +21,13 @@ pub data Leads {Q N : Type 0} (m : Machine Q N) (q : Q) (i : ℕ) : Q → ℕ �
 -- behind this one
 abbrev pub IsReached : Machine (ℕ × ℕ) Slots → Search → ℕ → ℕ → ℕ → Thread → Type 0
 IsReached m s q last i thread =
-    (j : ℕ) × (j ≤ last) × Begins s j × Leads m (q, 0) j thread.1 i
+    (j : ℕ) × (j ≤ last) × MayBegin s j × Leads m (q, 0) j thread.1 i
 
 -- a walk of the program that began where a match may begin, at a place or before it, stands at a
 -- place
 pub record WalkStands (p : ByteProgram) (s : Search) (last i : ℕ) : Type 0 where
   pub start : ℕ
-  pub starts : start_node (characters_of p) s.anchoring ≡ Some start
+  pub starts : start_node (character_program p) s.anchoring ≡ Some start
   pub thread : Thread
   pub reached : IsReached (slot_machine p (haystack_in p.line_terminator s)) s start last i thread
 

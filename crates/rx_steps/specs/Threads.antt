@@ -1,7 +1,7 @@
 -- Threads: walks at a place, each at a node and with what it noted.
 use Rattle.std.specs.Prelude.{ℕ, List, [], ◌∷◌, take, drop, set, replicate, Option, Some, None}
 use Rattle.rx_program.specs.declared.states.State.{State}
-use Rattle.rx_steps.specs.Nodes.{IsNodeOf}
+use Rattle.rx_steps.specs.Nodes.{IsNodeIn}
 
 -- in each slot the place that was noted last, if one was
 abbrev pub Slots : Type 0
@@ -27,7 +27,7 @@ threads_of n (q ∷ nodes) slots = (take n slots, q) ∷ threads_of n nodes (dro
 
 -- a thread at a node of a program
 abbrev pub IsThreadOf : List State → Thread → Type 0
-IsThreadOf states thread = IsNodeOf states thread.1
+IsThreadOf states thread = IsNodeIn states thread.1
 
 -- a place is noted in a slot, if there is that slot
 abbrev pub note_slot : ℕ → ℕ → Slots → Slots

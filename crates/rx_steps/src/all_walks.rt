@@ -1,10 +1,10 @@
 //! The loop over the places of a content where all matches are wanted.
 
-ghost use Rattle.std.specs.Prelude.{ℕ, Bool, List, ◌≡◌, ◌+◌, ◌*◌, ◌<◌, ◌≤◌, ◌⊎◌, ◌↔◌, [], ◌∷◌, Some, None, true, false, All, IsTrue, IfOk, IfErr, IfSome, OnOk, length, max};
+ghost use Rattle.std.specs.Prelude.{ℕ, Bool, ◌≡◌, ◌+◌, ◌*◌, ◌<◌, ◌≤◌, [], ◌∷◌, Some, None, true, false, All, IsTrue, IfOk, IfErr, IfSome, OnOk, max};
 ghost use Rattle.rx_util.specs.declared.search.MatchError.{MatchError};
-ghost use Rattle.rx_walks.specs.Finds.{IsInside, is_anchored, up_to_place};
+ghost use Rattle.rx_walks.specs.Finds.{IsInside, is_anchored};
 ghost use Rattle.rx_walks.specs.ProgramFinds.{start_node, highest};
-ghost use Rattle.rx_program.specs.Programs.{characters_of};
+ghost use Rattle.rx_program.specs.Programs.{character_program};
 ghost use Rattle.rx_input.specs.Cursors.{IsSameContent};
 ghost use Rattle.rx_input.specs.Inputs.{IsMoved};
 ghost use Rattle.rx_steps.specs.Nodes.{node_count};
@@ -13,7 +13,8 @@ ghost use Rattle.rx_steps.specs.Idle.{IsPassedAt};
 ghost use Rattle.rx_steps.specs.Searching.{search_of, anchoring_of};
 ghost use Rattle.rx_steps.specs.Caches.{AreOfProgram, place_count};
 ghost use Rattle.rx_steps.specs.ListsAll.{IsStartedOf, IsStepAll};
-ghost use Rattle.rx_steps.specs.ComingAll.{byte_machine_in, HasMetNoneAll, HasStartedAll, IsOverAll, IsOverAllAt, IsUnderWayAll, IsUnderWayAllInParts};
+ghost use Rattle.rx_steps.specs.Coming.{course_of, up_to};
+ghost use Rattle.rx_steps.specs.ComingAll.{byte_machine_in, HasStartedAll, IsOverAll, IsOverAllAt, IsUnderWayAll, IsUnderWayAllInParts};
 
 use crate::idle::{IdleBytes, skip};
 use crate::node::Node;
@@ -145,17 +146,20 @@ impl AllWalks {
         requires made { AreOfProgram program.now walks.old.stepper.widths walks.old.asks_looks
             walks.old.idle }
         requires inside { IsInside (search_of utf8_empty input.old) input.old.position }
-        requires way { IsUnderWayAll program.now (search_of utf8_empty input.old) start
+        requires way { IsUnderWayAll
+            (course_of program.now (search_of utf8_empty input.old) start)
             input.old.position self.old.live.items self.old.best }
-        requires parts { IsUnderWayAllInParts program.now (search_of utf8_empty input.old) start
+        requires parts { IsUnderWayAllInParts
+            (course_of program.now (search_of utf8_empty input.old) start)
             input.old.position self.old.live.items self.old.best }
-        ensures way { OnOk result (IsUnderWayAll program.now (search_of utf8_empty input.old)
-            start (input.old.position + 1) self.new.live.items self.new.best) }
-        ensures parts { OnOk result (IsUnderWayAllInParts program.now
-            (search_of utf8_empty input.old) start (input.old.position + 1)
-            self.new.live.items self.new.best) }
-        ensures so_far { OnOk result (IsOverAll program.now
-            (up_to_place (search_of utf8_empty input.old) input.old.position) start
+        ensures way { OnOk result (IsUnderWayAll
+            (course_of program.now (search_of utf8_empty input.old) start)
+            (input.old.position + 1) self.new.live.items self.new.best) }
+        ensures parts { OnOk result (IsUnderWayAllInParts
+            (course_of program.now (search_of utf8_empty input.old) start)
+            (input.old.position + 1) self.new.live.items self.new.best) }
+        ensures so_far { OnOk result (IsOverAll (up_to
+            (course_of program.now (search_of utf8_empty input.old) start) input.old.position)
             self.new.best) }
         ensures ends_here { OnOk result (IfSome self.new.best (λ best.
             self.old.best ≡ None → best.span.end ≡ input.old.position)) }
@@ -225,13 +229,14 @@ impl AllWalks {
     ) -> Result<Option<Match>, MatchError>
         requires made { AreOfProgram program.now walks.old.stepper.widths walks.old.asks_looks
             walks.old.idle }
-        requires start { start_node (characters_of program.now)
+        requires start { start_node (character_program program.now)
             (anchoring_of input.old.asked.anchored) ≡ Some start }
         requires inside { IsInside (search_of utf8_empty input.old) input.old.position }
         requires first { input.old.position
             ≡ max input.old.asked.slice.start input.old.asked.span.start }
-        ensures over { IfOk result (λ best. IsOverAllAt earliest program.now
-            (search_of utf8_empty input.old) start input.old.position input.new.position best) }
+        ensures over { IfOk result (λ best. IsOverAllAt earliest
+            (course_of program.now (search_of utf8_empty input.old) start)
+            input.old.position input.new.position best) }
         ensures made { AreOfProgram program.now walks.new.stepper.widths walks.new.asks_looks
             walks.new.idle }
         ensures work { walks.new.stepper.followed ≤ walks.old.stepper.followed

@@ -24,7 +24,9 @@ pub use idle::last_place;
 pub use node::Node;
 pub use place::{Looks, Place};
 pub use reverse_search::{ReverseCache, enter_end, search_rev, start_back, told_back};
-pub use search::{Cache, advance, begins, enter, search_all, search_slots, start_state};
+pub use search::{
+    Cache, advance, begins, clear_slots, enter, search_all, search_slots, start_state,
+};
 pub use started::{MetEnd, StartedNode};
 pub use stepper::Stepper;
 pub use thread_list::ThreadList;

@@ -1,6 +1,6 @@
 //! The loop back over the places of a content, from the end of matches to where they start.
 
-ghost use Rattle.std.specs.Prelude.{ℕ, Bool, List, ◌≡◌, ◌↔◌, ◌-◌, ◌<◌, [], ◌∷◌, Some, None, true, false, All, IsTrue, IfOk, IfErr, IfSome, OnOk};
+ghost use Rattle.std.specs.Prelude.{Bool, List, ◌≡◌, ◌↔◌, ◌-◌, ◌<◌, [], ◌∷◌, Some, None, true, false, All, IsTrue, IfOk, IfErr, IfSome, OnOk};
 ghost use Rattle.std.specs.Str.{IsCharBoundary};
 ghost use Rattle.rx_util.specs.declared.search.MatchError.{MatchError};
 ghost use Rattle.rx_walks.specs.Finds.{IsInside, Search, is_anchored};
@@ -15,7 +15,7 @@ ghost use Rattle.rx_steps.specs.Lists.{Asks, is_among};
 ghost use Rattle.rx_steps.specs.ListsAll.{nodes_of};
 ghost use Rattle.rx_steps.specs.Threads.{IsThreadOf, first_node};
 ghost use Rattle.rx_steps.specs.Searching.{search_of, anchoring_of, haystack_in};
-ghost use Rattle.rx_steps.specs.Reversed.{IsHalfAnswerBack, IsRefusalBack, IsReverseOf, bytes_of};
+ghost use Rattle.rx_steps.specs.Reversed.{IsHalfAnswerBack, IsRefusalBack, IsReverseOf, byte_program_of};
 ghost use Rattle.rx_steps.specs.ComingBack.{AreOfReverse, HasSteppedBack, IsHalfToldBack, IsOverBack, IsReverseCacheOf, IsStepBack, byte_taken_back};
 
 use crate::asked::AskedLooks;
@@ -135,10 +135,11 @@ impl WalksBack {
         input: &mut Input<C>,
     ) -> Result<Option<PatternID>, MatchError>
         requires made { AreOfReverse program.now self.old.stepper.widths self.old.asks_looks }
-        requires threads { All (IsThreadOf (bytes_of program.now).states) self.old.live.threads }
+        requires threads { All (IsThreadOf (byte_program_of program.now).states)
+            self.old.live.threads }
         ensures step { IfOk result (λ met. (utf8_empty : Bool)
             → IsInside (search_of utf8_empty input.old) input.old.position
-            → IsStepBack (bytes_of program.now) (search_of utf8_empty input.old)
+            → IsStepBack (byte_program_of program.now) (search_of utf8_empty input.old)
             input.old.position (nodes_of self.old.live.threads)
             (nodes_of self.new.live.threads) met) }
         ensures moved { (utf8_empty : Bool)
@@ -146,7 +147,7 @@ impl WalksBack {
             → HasSteppedBack (search_of utf8_empty input.old) input.old.position
             input.new.position }
         ensures threads { OnOk result
-            (All (IsThreadOf (bytes_of program.now).states) self.new.live.threads) }
+            (All (IsThreadOf (byte_program_of program.now).states) self.new.live.threads) }
         ensures made { AreOfReverse program.now self.new.stepper.widths self.new.asks_looks }
         ensures same { IsMoved input.old input.new input.new.position input.old.asked }
         ensures refused { IfErr result (λ error. error ≡ MatchError.Memory) }
@@ -177,7 +178,8 @@ impl WalksBack {
             → IsInside (search_of utf8_empty input.old) input.old.position }
         requires end { input.old.position ≡ input.old.asked.span.end }
         ensures over { IfOk result (λ best. (utf8_empty : Bool)
-            → IsOverBack (bytes_of program.now) (search_of utf8_empty input.old) start best) }
+            → IsOverBack (byte_program_of program.now)
+            (search_of utf8_empty input.old) start best) }
         ensures inside { IfOk result (λ best. IfSome best (λ met. (utf8_empty : Bool)
             → IsInside (search_of utf8_empty input.old) met.offset)) }
         ensures made { AreOfReverse program.now self.new.stepper.widths self.new.asks_looks }

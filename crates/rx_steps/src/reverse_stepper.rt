@@ -5,11 +5,11 @@ ghost use Rattle.std.specs.Prelude.{ℕ, ◌≡◌, ◌+◌, ◌≤◌, ◌∷�
 ghost use Rattle.rx_util.specs.declared.search.MatchError.{MatchError};
 ghost use Rattle.rx_program.specs.declared.states.State.{State};
 ghost use Rattle.rx_utf8.specs.Automata.{step_of};
-ghost use Rattle.rx_steps.specs.Nodes.{widths_of, width_of, starts_from, end_from, node_count, IsNodeOf, MayStand, AreCounted};
+ghost use Rattle.rx_steps.specs.Nodes.{widths_of, width_of, node_starts, end_from, node_count, IsNodeIn, MayStand, AreCounted};
 ghost use Rattle.rx_steps.specs.Threads.{Slots, Waiting, IsThreadOf};
 ghost use Rattle.rx_steps.specs.Lists.{IsMade, move_at, noted_at, fan_of, read_next, work_left};
-ghost use Rattle.rx_steps.specs.ListsAll.{FollowsAll, nodes_of, end_of};
-ghost use Rattle.rx_steps.specs.Reversed.{IsNextListBack, bytes_of, state_of};
+ghost use Rattle.rx_steps.specs.ListsAll.{FollowsAll, nodes_of, end_met_by};
+ghost use Rattle.rx_steps.specs.Reversed.{IsNextListBack, byte_program_of, state_of};
 
 use crate::node::Node;
 use crate::pending::Pending;
@@ -110,25 +110,25 @@ impl Closure {
         node: Node,
         next: &mut ThreadList,
     ) -> Result<Option<PatternID>, AllocError>
-        requires made { self.old.visited.widths ≡ widths_of (bytes_of program.now) }
-        requires node { IsNodeOf (bytes_of program.now).states node }
+        requires made { self.old.visited.widths ≡ widths_of (byte_program_of program.now) }
+        requires node { IsNodeIn (byte_program_of program.now).states node }
         requires slots { self.old.pending.slots ≡ [] }
         requires slot_len { next.old.slot_len ≡ 0 }
         ensures all { IfOk result (λ met. (start : ℕ)
-            → FollowsAll (bytes_of program.now) place.now start
+            → FollowsAll (byte_program_of program.now) place.now start
             (node ∷ nodes_of self.old.pending.threads) (nodes_of self.new.pending.threads)
             self.old.visited.ids self.new.visited.ids next.old.threads next.new.threads
-            (end_of start met)) }
+            (end_met_by start met)) }
         ensures threads { OnOk result
-            (All (IsThreadOf (bytes_of program.now).states) next.old.threads
-            → All (IsThreadOf (bytes_of program.now).states) next.new.threads) }
+            (All (IsThreadOf (byte_program_of program.now).states) next.old.threads
+            → All (IsThreadOf (byte_program_of program.now).states) next.new.threads) }
         ensures widths { self.new.visited.widths ≡ self.old.visited.widths }
         ensures less { OnOk result
-            (work_left (bytes_of program.now) self.new.visited.ids self.new.pending.size
-            ≤ work_left (bytes_of program.now) self.old.visited.ids self.old.pending.size) }
+            (work_left (byte_program_of program.now) self.new.visited.ids self.new.pending.size
+            ≤ work_left (byte_program_of program.now) self.old.visited.ids self.old.pending.size) }
         ensures counted { AreCounted self.old.visited self.new.visited }
-        ensures room { length self.old.visited.ids ≤ node_count (bytes_of program.now)
-            → length self.new.visited.ids ≤ node_count (bytes_of program.now) }
+        ensures room { length self.old.visited.ids ≤ node_count (byte_program_of program.now)
+            → length self.new.visited.ids ≤ node_count (byte_program_of program.now) }
         ensures slots { OnOk result (self.new.pending.slots ≡ []) }
         ensures slot_len { next.new.slot_len ≡ next.old.slot_len }
     {
@@ -150,20 +150,20 @@ impl Closure {
         node: Node,
         next: &mut ThreadList,
     ) -> Result<Option<PatternID>, AllocError>
-        requires made { self.old.visited.widths ≡ widths_of (bytes_of program.now) }
-        requires node { IsNodeOf (bytes_of program.now).states node }
+        requires made { self.old.visited.widths ≡ widths_of (byte_program_of program.now) }
+        requires node { IsNodeIn (byte_program_of program.now).states node }
         requires slot_len { next.old.slot_len ≡ 0 }
         ensures followed { IfOk result (λ met. (start : ℕ)
-            → FollowsAll (bytes_of program.now) place.now start (node ∷ []) []
+            → FollowsAll (byte_program_of program.now) place.now start (node ∷ []) []
             self.old.visited.ids self.new.visited.ids next.old.threads next.new.threads
-            (end_of start met)) }
+            (end_met_by start met)) }
         ensures threads { OnOk result
-            (All (IsThreadOf (bytes_of program.now).states) next.old.threads
-            → All (IsThreadOf (bytes_of program.now).states) next.new.threads) }
+            (All (IsThreadOf (byte_program_of program.now).states) next.old.threads
+            → All (IsThreadOf (byte_program_of program.now).states) next.new.threads) }
         ensures widths { self.new.visited.widths ≡ self.old.visited.widths }
         ensures counted { AreCounted self.old.visited self.new.visited }
-        ensures room { length self.old.visited.ids ≤ node_count (bytes_of program.now)
-            → length self.new.visited.ids ≤ node_count (bytes_of program.now) }
+        ensures room { length self.old.visited.ids ≤ node_count (byte_program_of program.now)
+            → length self.new.visited.ids ≤ node_count (byte_program_of program.now) }
         ensures slot_len { next.new.slot_len ≡ next.old.slot_len }
     {
         self.pending.begin(&[])?;
@@ -189,7 +189,7 @@ fn width(state: &ReverseState) -> usize
 /// Where the nodes of each state start and those of the last one end, as a list; and that end.
 fn starts_of(alloc: Global, states: &[ReverseState]) -> Result<(Vec<usize>, usize), AllocError>
     ensures starts { IfOk result (λ made. made.0.items
-        ≡ starts_from 0 (map width_of (map state_of states.now))) }
+        ≡ node_starts 0 (map width_of (map state_of states.now))) }
     ensures end { IfOk result (λ made. made.1
         ≡ end_from 0 (map width_of (map state_of states.now))) }
 {
@@ -211,7 +211,7 @@ impl Stepper {
     /// proportion to the program's states and those of their automata.
     pub fn new_back(alloc: Global, program: &ReverseProgram) -> Result<Stepper, MatchError>
         ensures made { IfOk result
-            (λ stepper. stepper.widths ≡ widths_of (bytes_of program.now)) }
+            (λ stepper. stepper.widths ≡ widths_of (byte_program_of program.now)) }
         ensures refused { IfErr result (λ error. error ≡ MatchError.Memory) }
     {
         let (starts, end) = starts_of(alloc, program.states())?;
@@ -238,16 +238,17 @@ impl Stepper {
         threads: &ThreadList,
         next: &mut ThreadList,
     ) -> Result<Option<PatternID>, MatchError>
-        requires made { self.old.widths ≡ widths_of (bytes_of program.now) }
-        requires threads { All (IsThreadOf (bytes_of program.now).states) threads.now.threads }
-        ensures list { IfOk result (IsNextListBack (bytes_of program.now) place.now
+        requires made { self.old.widths ≡ widths_of (byte_program_of program.now) }
+        requires threads { All (IsThreadOf (byte_program_of program.now).states)
+            threads.now.threads }
+        ensures list { IfOk result (IsNextListBack (byte_program_of program.now) place.now
             (nodes_of threads.now.threads) (nodes_of next.new.threads)) }
         ensures threads { OnOk result
-            (All (IsThreadOf (bytes_of program.now).states) next.new.threads) }
+            (All (IsThreadOf (byte_program_of program.now).states) next.new.threads) }
         ensures slot_len { OnOk result (next.new.slot_len ≡ 0) }
         ensures made { self.new.widths ≡ self.old.widths }
         ensures work { self.new.followed
-            ≤ self.old.followed + node_count (bytes_of program.now) }
+            ≤ self.old.followed + node_count (byte_program_of program.now) }
         ensures refused { IfErr result (λ error. error ≡ MatchError.Memory) }
     {
         self.closure.visited.clear();

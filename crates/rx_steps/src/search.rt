@@ -2,16 +2,16 @@
 
 ghost use Rattle.std.specs.Prelude.{ℕ, Bool, List, ◌≡◌, ◌+◌, ◌*◌, ◌<◌, ◌≤◌, ◌⊎◌, ◌↔◌, [], ◌∷◌, Some, None, true, false, All, IsTrue, IfOk, IfErr, OnOk, OnErr, length, min, max};
 ghost use Rattle.rx_util.specs.declared.search.MatchError.{MatchError};
-ghost use Rattle.rx_walks.specs.Finds.{IsInside, is_anchored, up_to_place};
-ghost use Rattle.rx_walks.specs.Laws.{Begins};
+ghost use Rattle.rx_walks.specs.Finds.{IsInside, is_anchored};
+ghost use Rattle.rx_walks.specs.Laws.{MayBegin};
 ghost use Rattle.rx_walks.specs.Looks as walks;
 ghost use Rattle.rx_walks.specs.ProgramFinds.{start_node, highest};
 ghost use Rattle.rx_walks.specs.Steps.{Steps};
 ghost use Rattle.rx_program.specs.declared.states.State.{State};
-ghost use Rattle.rx_program.specs.Programs.{characters_of};
+ghost use Rattle.rx_program.specs.Programs.{character_program};
 ghost use Rattle.rx_input.specs.Cursors.{IsSameContent};
 ghost use Rattle.rx_input.specs.Inputs.{IsMoved};
-ghost use Rattle.rx_steps.specs.Lists.{Asks, met_at};
+ghost use Rattle.rx_steps.specs.Lists.{met_at};
 ghost use Rattle.rx_steps.specs.Nodes.{node_count};
 ghost use Rattle.rx_steps.specs.Idle.{IsPassedAt};
 ghost use Rattle.rx_steps.specs.Threads.{Slots, IsThreadOf, no_slots, first_node};
@@ -20,7 +20,7 @@ ghost use Rattle.rx_steps.specs.Searching.{search_of, anchoring_of, IsAnswerAt};
 ghost use Rattle.rx_steps.specs.SearchingAll.{IsAnswerAllAt};
 ghost use Rattle.rx_steps.specs.Standing.{StopsAt};
 ghost use Rattle.rx_steps.specs.Caches.{AreOfProgram, IsCacheOf, place_count};
-ghost use Rattle.rx_steps.specs.Coming.{machine_in, HasStarted, IsUnderWay, IsUnderWayInParts, IsOver, IsOverAt, IsStopped, KeepsFirst, StandsSince};
+ghost use Rattle.rx_steps.specs.Coming.{course_of, up_to, machine_in, HasStarted, IsUnderWay, IsUnderWayInParts, IsOver, IsOverAt, IsStopped, KeepsFirst, StandsSince};
 
 use crate::all_walks::AllWalks;
 use crate::asked::AskedLooks;
@@ -43,7 +43,7 @@ use std::mem;
 
 /// The state from which walks of a search start, if there is one: an unknown pattern has none.
 pub fn start_state(program: &Program, anchored: Anchored) -> Option<StateID>
-    ensures { result ≡ start_node (characters_of program.now) (anchoring_of anchored) }
+    ensures { result ≡ start_node (character_program program.now) (anchoring_of anchored) }
 {
     match anchored {
         Anchored::No | Anchored::Yes => Some(program.start()),
@@ -92,7 +92,7 @@ pub fn advance<C: Cursor>(input: &mut Input<C>) -> bool
 /// that cuts one.
 pub fn begins<C: Cursor>(input: &Input<C>, utf8_empty: bool) -> bool
     ensures { IsInside (search_of utf8_empty input.now) input.now.position
-        → IsTrue result ↔ Begins (search_of utf8_empty input.now) input.now.position }
+        → IsTrue result ↔ MayBegin (search_of utf8_empty input.now) input.now.position }
 {
     (!input.get_anchored().is_anchored() || input.position() == input.start())
         && (!utf8_empty || input.is_char_boundary())
@@ -218,29 +218,33 @@ impl Walks {
             self.old.idle }
         requires inside { IsInside (search_of utf8_empty input.old) input.old.position }
         requires slot_len { self.old.live.slot_len ≡ length slots.old }
-        requires way { IsUnderWay program.now (search_of utf8_empty input.old) start
+        requires way { IsUnderWay (course_of program.now (search_of utf8_empty input.old) start)
             input.old.position self.old.live.threads self.old.met slots.old }
-        requires parts { IsUnderWayInParts program.now (search_of utf8_empty input.old) start
+        requires parts { IsUnderWayInParts
+            (course_of program.now (search_of utf8_empty input.old) start)
             input.old.position self.old.live.threads self.old.met slots.old }
-        ensures way { OnOk result (IsUnderWay program.now (search_of utf8_empty input.old) start
+        ensures way { OnOk result (IsUnderWay
+            (course_of program.now (search_of utf8_empty input.old) start)
             (input.old.position + 1) self.new.live.threads self.new.met slots.new) }
-        ensures parts { OnOk result (IsUnderWayInParts program.now
-            (search_of utf8_empty input.old) start (input.old.position + 1)
-            self.new.live.threads self.new.met slots.new) }
-        ensures so_far { OnOk result (IsOver program.now
-            (up_to_place (search_of utf8_empty input.old) input.old.position) start
+        ensures parts { OnOk result (IsUnderWayInParts
+            (course_of program.now (search_of utf8_empty input.old) start)
+            (input.old.position + 1) self.new.live.threads self.new.met slots.new) }
+        ensures so_far { OnOk result (IsOver (up_to
+            (course_of program.now (search_of utf8_empty input.old) start) input.old.position)
             self.new.met slots.new) }
-        ensures first { OnOk result ((first : ℕ) → KeepsFirst program.now
-            (search_of utf8_empty input.old) start first input.old.position self.old.met
-            self.old.live.threads → KeepsFirst program.now (search_of utf8_empty input.old) start
-            first (input.old.position + 1) self.new.met self.new.live.threads) }
-        ensures stands { OnOk result ((first : ℕ) → start_node (characters_of program.now)
+        ensures first { OnOk result ((first : ℕ) → KeepsFirst
+            (course_of program.now (search_of utf8_empty input.old) start) first
+            input.old.position self.old.met self.old.live.threads → KeepsFirst
+            (course_of program.now (search_of utf8_empty input.old) start) first
+            (input.old.position + 1) self.new.met self.new.live.threads) }
+        ensures stands { OnOk result ((first : ℕ) → start_node (character_program program.now)
             (anchoring_of input.old.asked.anchored) ≡ Some start
-            → KeepsFirst program.now (search_of utf8_empty input.old) start first
+            → KeepsFirst (course_of program.now (search_of utf8_empty input.old) start) first
             input.old.position self.old.met self.old.live.threads
             → (self.old.met ≡ None) ⊎ (self.old.live.threads ≡ [] → ⊥)
-            → (self.new.met ≡ None) ⊎ StandsSince program.now
-            (search_of utf8_empty input.old) start first input.old.position self.old.met) }
+            → (self.new.met ≡ None) ⊎ StandsSince
+            (course_of program.now (search_of utf8_empty input.old) start) first
+            input.old.position self.old.met) }
         ensures made { AreOfProgram program.now self.new.stepper.widths self.new.asks_looks
             self.new.idle }
         ensures slot_len { OnOk result (self.new.live.slot_len ≡ length slots.new) }
@@ -312,17 +316,18 @@ impl Walks {
     ) -> Result<Option<PatternID>, MatchError>
         requires made { AreOfProgram program.now self.old.stepper.widths self.old.asks_looks
             self.old.idle }
-        requires start { start_node (characters_of program.now)
+        requires start { start_node (character_program program.now)
             (anchoring_of input.old.asked.anchored) ≡ Some start }
         requires inside { IsInside (search_of utf8_empty input.old) input.old.position }
         requires first { input.old.position
             ≡ max input.old.asked.slice.start input.old.asked.span.start }
         requires empty { slots.old ≡ no_slots (length slots.old) }
-        ensures over { IfOk result (λ pattern. IsOverAt earliest program.now
-            (search_of utf8_empty input.old) start input.old.position input.new.position
-            pattern slots.new) }
-        ensures stands { IfOk result (λ pattern. (pattern ≡ None) ⊎ IsStopped earliest program.now
-            (search_of utf8_empty input.old) start input.old.position input.new.position) }
+        ensures over { IfOk result (λ pattern. IsOverAt earliest
+            (course_of program.now (search_of utf8_empty input.old) start)
+            input.old.position input.new.position pattern slots.new) }
+        ensures stands { IfOk result (λ pattern. (pattern ≡ None) ⊎ IsStopped earliest
+            (course_of program.now (search_of utf8_empty input.old) start)
+            input.old.position input.new.position) }
         ensures made { AreOfProgram program.now self.new.stepper.widths self.new.asks_looks
             self.new.idle }
         ensures work { self.new.stepper.followed ≤ self.old.stepper.followed
@@ -435,8 +440,9 @@ impl Cache {
 }
 
 /// Puts none into each slot.
-fn clear_slots(slots: &mut [Option<NonMaxUsize>])
-    ensures { slots.new ≡ no_slots (length slots.new) }
+pub fn clear_slots(slots: &mut [Option<NonMaxUsize>])
+    ensures all { slots.new ≡ no_slots (length slots.old) }
+    ensures none { slots.new ≡ no_slots (length slots.new) }
 {
     slots.fill(None);
 }

@@ -1,7 +1,7 @@
 //! Walks as a search for all matches follows them, and what they end with.
 
 ghost use Rattle.std.specs.Prelude.{◌≡◌, ℕ, List, ◌++◌, true, false, OnOk};
-ghost use Rattle.rx_steps.specs.ListsAll.{IsBestMet, IsNoWorse, end_of, nodes_of, started_at};
+ghost use Rattle.rx_steps.specs.ListsAll.{IsBestMet, IsNoWorse, end_met_by, nodes_of, started_at};
 
 use crate::node::Node;
 use crate::thread_list::ThreadList;
@@ -72,7 +72,7 @@ impl MetEnd {
 
 /// The end of this pattern's match that began at a place, if there is one.
 pub(crate) fn met_end(start: usize, pattern: Option<PatternID>) -> Option<MetEnd>
-    ensures { result ≡ end_of start pattern }
+    ensures { result ≡ end_met_by start pattern }
 {
     let Some(pattern) = pattern else {
         return None;
@@ -101,8 +101,8 @@ pub(crate) fn better(first: Option<MetEnd>, second: Option<MetEnd>) -> Option<Me
 /// The lesser of two patterns whose matches began at one place.
 pub(crate) fn least(first: Option<PatternID>, second: Option<PatternID>) -> Option<PatternID>
     ensures { (start : ℕ) → (ends : List (ℕ × ℕ)) → (others : List (ℕ × ℕ))
-        → IsBestMet ends (end_of start first) → IsBestMet others (end_of start second)
-        → IsBestMet (ends ++ others) (end_of start result) }
+        → IsBestMet ends (end_met_by start first) → IsBestMet others (end_met_by start second)
+        → IsBestMet (ends ++ others) (end_met_by start result) }
 {
     let Some(other) = second else {
         return first;

@@ -6,10 +6,10 @@ ghost use Rattle.rx_program.specs.declared.states.State.{State};
 ghost use Rattle.rx_walks.specs.Machines.{Machine};
 ghost use Rattle.rx_walks.specs.Steps.{Thins};
 ghost use Rattle.rx_utf8.specs.Automata.{step_of};
-ghost use Rattle.rx_steps.specs.Nodes.{widths_of, node_count, IsNodeOf, MayStand, AreCounted};
+ghost use Rattle.rx_steps.specs.Nodes.{widths_of, node_count, IsNodeIn, MayStand, AreCounted};
 ghost use Rattle.rx_steps.specs.Threads.{Slots, Thread, Waiting, IsThreadOf};
 ghost use Rattle.rx_steps.specs.Lists.{IsNextList, IsMade, move_at, noted_at, fan_of, MakesMoves, AreUnderWay, AreFollowed, IsThinning, read_next, work_left};
-ghost use Rattle.rx_steps.specs.ListsAll.{FollowsAll, IsNextListAll, IsStartedOf, nodes_of, end_of};
+ghost use Rattle.rx_steps.specs.ListsAll.{FollowsAll, IsNextListAll, IsStartedOf, nodes_of, end_met_by};
 
 use crate::node::Node;
 use crate::pending::Pending;
@@ -124,7 +124,7 @@ impl Closure {
         next: &mut ThreadList,
     ) -> Result<Option<PatternID>, AllocError>
         requires made { self.old.visited.widths ≡ widths_of program.now }
-        requires node { IsNodeOf program.now.states node }
+        requires node { IsNodeIn program.now.states node }
         requires slots { length self.old.pending.slots ≡ next.old.slot_len }
         ensures followed { IfOk result (λ met. (m : Machine (ℕ × ℕ) Slots) → (i : ℕ)
             → (threads : List Thread) → (others : List Thread)
@@ -136,7 +136,7 @@ impl Closure {
         ensures all { IfOk result (λ met. (start : ℕ) → FollowsAll program.now place.now start
             (node ∷ nodes_of self.old.pending.threads) (nodes_of self.new.pending.threads)
             self.old.visited.ids self.new.visited.ids next.old.threads next.new.threads
-            (end_of start met)) }
+            (end_met_by start met)) }
         ensures threads { OnOk result (All (IsThreadOf program.now.states) next.old.threads
             → All (IsThreadOf program.now.states) next.new.threads) }
         ensures widths { self.new.visited.widths ≡ self.old.visited.widths }
@@ -170,7 +170,7 @@ impl Closure {
         next: &mut ThreadList,
     ) -> Result<Option<PatternID>, AllocError>
         requires made { self.old.visited.widths ≡ widths_of program.now }
-        requires node { IsNodeOf program.now.states node }
+        requires node { IsNodeIn program.now.states node }
         requires slots { length slots.now ≡ next.old.slot_len }
         ensures followed { IfOk result (λ met. (m : Machine (ℕ × ℕ) Slots) → (i : ℕ)
             → (threads : List Thread) → (others : List Thread)
@@ -211,7 +211,7 @@ impl Closure {
         next: &mut ThreadList,
     ) -> Result<Option<MetEnd>, AllocError>
         requires made { self.old.visited.widths ≡ widths_of program.now }
-        requires node { IsNodeOf program.now.states from.1 }
+        requires node { IsNodeIn program.now.states from.1 }
         requires slots { next.old.slot_len ≡ 0 }
         ensures followed { IfOk result (λ met. FollowsAll program.now place.now from.0
             (from.1 ∷ []) [] self.old.visited.ids self.new.visited.ids next.old.threads
@@ -249,7 +249,7 @@ impl Closure {
             ((slots.now, node) ∷ others) thin.old.threads
             → IsThinning threads self.old.visited.widths self.new.visited.ids others
             thin.new.threads) }
-        ensures threads { OnOk result ((states : List State) → IsNodeOf states node
+        ensures threads { OnOk result ((states : List State) → IsNodeIn states node
             → All (IsThreadOf states) thin.old.threads
             → All (IsThreadOf states) thin.new.threads) }
         ensures widths { self.new.visited.widths ≡ self.old.visited.widths }

@@ -2,7 +2,7 @@
 
 ghost use Rattle.std.specs.Prelude.{◌≡◌, ◌<◌, ◌≤◌, ℕ, List, [], true, map, length, slice_get, IfSome, IfOk, IfErr};
 ghost use Rattle.rx_util.specs.declared.search.MatchError.{MatchError};
-ghost use Rattle.rx_steps.specs.Nodes.{widths_of, width_of, starts_from, end_from, index_from, IsInserted, IsMember, AreCounted};
+ghost use Rattle.rx_steps.specs.Nodes.{widths_of, width_of, node_starts, end_from, index_from, IsInserted, IsMember, AreCounted};
 
 use crate::followed::Followed;
 use crate::node::Node;
@@ -35,7 +35,7 @@ pub struct Visited {
 
 impl Model for Visited {
     ghost use Rattle.std.specs.Prelude.{◌≡◌};
-    ghost use Rattle.rx_steps.specs.Nodes.{SeenNodes, widths_in, starts_from, end_from};
+    ghost use Rattle.rx_steps.specs.Nodes.{SeenNodes, widths_in, node_starts, end_from};
 
     ghost Value = { SeenNodes };
 
@@ -45,14 +45,14 @@ impl Model for Visited {
       followed = v.followed;
     } };
 
-    ghost invariant = { λ v. (v.starts.items ≡ starts_from 0 (widths_in v.starts.items))
+    ghost invariant = { λ v. (v.starts.items ≡ node_starts 0 (widths_in v.starts.items))
         × (v.set.capacity ≡ end_from 0 (widths_in v.starts.items)) };
 }
 
 /// Where the nodes of each state start and those of the last one end, as a list; and that end.
 fn starts_of(alloc: Global, states: &[State]) -> Result<(Vec<usize>, usize), AllocError>
     ensures starts { IfOk result (λ made. made.0.items
-        ≡ starts_from 0 (map width_of states.now)) }
+        ≡ node_starts 0 (map width_of states.now)) }
     ensures end { IfOk result (λ made. made.1 ≡ end_from 0 (map width_of states.now)) }
 {
     let mut starts = Vec::new(alloc);
@@ -94,10 +94,10 @@ impl Visited {
 
     /// The empty set, for nodes of states that start and end there.
     pub(crate) fn over(alloc: Global, starts: Vec<usize>, end: usize) -> Result<Visited, MatchError>
-        requires starts { (widths : List ℕ) × (starts.items ≡ starts_from 0 widths)
+        requires starts { (widths : List ℕ) × (starts.items ≡ node_starts 0 widths)
             × (end ≡ end_from 0 widths) }
         ensures widths { IfOk result (λ v. (widths : List ℕ)
-            → starts.items ≡ starts_from 0 widths → v.widths ≡ widths) }
+            → starts.items ≡ node_starts 0 widths → v.widths ≡ widths) }
         ensures refused { IfErr result (λ error. error ≡ MatchError.Memory) }
     {
         let set = SparseSet::new(alloc, end)?;

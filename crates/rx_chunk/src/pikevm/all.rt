@@ -14,15 +14,8 @@ ghost use Rattle.rx_chunk.specs.Searches.{AsksTheSame, ServesOn, search_by};
 use super::PikeVM;
 use rx_input::{Cursor, Input};
 use rx_steps as search;
+use rx_steps::clear_slots;
 use rx_util::{Match, MatchError, NonMaxUsize, PatternID};
-
-/// Puts none into each slot.
-fn clear_slots(slots: &mut [Option<NonMaxUsize>])
-    ensures all { slots.new ≡ no_slots (length slots.old) }
-    ensures none { slots.new ≡ no_slots (length slots.new) }
-{
-    slots.fill(None);
-}
 
 /// Puts the places of a match into the two slots of its pattern's group 0, as far as there are
 /// slots; all others hold none.

@@ -5,7 +5,7 @@ ghost use Rattle.rx_util.specs.declared.search.Anchored.TheVariants.{No};
 ghost use Rattle.rx_util.specs.declared.search.MatchError.{MatchError};
 ghost use Rattle.rx_input.specs.Cursors.{IsSameContent};
 ghost use Rattle.rx_walks.specs.Backward.{back_from};
-ghost use Rattle.rx_program.specs.Programs.{ByteProgram, characters_of};
+ghost use Rattle.rx_program.specs.Programs.{ByteProgram, character_program};
 ghost use Rattle.rx_literals.specs.Endings.{EndsWithSlice};
 ghost use Rattle.rx_dfa.specs.Alphabets.{IsAlphabetBack};
 ghost use Rattle.rx_dfa.specs.BackCaches.{IsBackCacheOf};
@@ -233,7 +233,7 @@ impl Back {
         requires ordered { input.old.asked.span.start ≤ input.old.asked.span.end }
         requires unanchored { input.old.asked.anchored ≡ No }
         ensures left { IfOk result (λ told. (p : ByteProgram) → IsReverseOf p self.old
-            → EndsWithSlice (characters_of p)
+            → EndsWithSlice (character_program p)
             → IfSome told (IsLeft p (search_of utf8_empty input.old))) }
         ensures program { self.new ≡ self.old }
         ensures same { IsSameContent input.old.cursor input.new.cursor }

@@ -4,7 +4,7 @@ ghost use Rattle.std.specs.Prelude.{◌≡◌, ◌≤◌, IfErr, IfOk, IfSome, O
 ghost use Rattle.rx_util.specs.declared.search.Anchored.TheVariants.{No};
 ghost use Rattle.rx_util.specs.declared.search.MatchError.{MatchError};
 ghost use Rattle.rx_input.specs.Cursors.{IsSameContent};
-ghost use Rattle.rx_program.specs.Programs.{characters_of};
+ghost use Rattle.rx_program.specs.Programs.{character_program};
 ghost use Rattle.rx_literals.specs.Endings.{EndsWithSlice};
 ghost use Rattle.rx_steps.specs.Caches as steps;
 ghost use Rattle.rx_dfa.specs.Searching.{IsHalfAnswer};
@@ -249,7 +249,7 @@ impl Kept {
         requires ordered { input.old.asked.span.start ≤ input.old.asked.span.end }
         requires unanchored { input.old.asked.anchored ≡ No }
         ensures left { IfOk result (λ told.
-            EndsWithSlice (characters_of self.old.core.value.vm.program)
+            EndsWithSlice (character_program self.old.core.value.vm.program)
             → IfSome told (IsLeft self.old.core.value.vm.program
             (search_by self.old.core.value.vm input.old))) }
         ensures serve { AreCachesOf self.new.core.value self.new.vm self.new.automaton

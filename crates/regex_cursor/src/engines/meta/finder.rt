@@ -24,7 +24,7 @@ impl<'r> Finder<'r> {
     ghost use Rattle.std.specs.Iterator.{size};
     ghost use Rattle.rx_input.specs.Inputs.{InputState};
     ghost use Rattle.rx_chunk.specs.Engines.{EngineFinds, match_of};
-    ghost use Rattle.regex_cursor.specs.Iterating.{GivesNext, GoesOn, regex_in, left_in, matches_from, matches_left};
+    ghost use Rattle.regex_cursor.specs.Iterating.{GivesNext, SearchGoesOn, regex_in, left_in, matches_from, matches_left};
     ghost use Rattle.regex_cursor.specs.Regexes.{search_by};
 
     /// No match has come yet.
@@ -59,7 +59,7 @@ impl<'r> Finder<'r> {
         ensures next { GivesNext (EngineFinds (regex_in self.old).engine) match_of
             (left_in self.old input.old) result (left_in self.new input.new) }
         ensures same_regex { regex_in self.new ≡ regex_in self.old }
-        ensures goes_on { GoesOn (left_in self.old input.old).search
+        ensures goes_on { SearchGoesOn (left_in self.old input.old).search
             (left_in self.new input.new).search }
         ensures fewer { OnSome result (size (matches_left (left_in self.new input.new))
             < size (matches_left (left_in self.old input.old))) }

@@ -1,6 +1,6 @@
 //! What one engine tells of a search, and what it leaves of it to the next one.
 
-ghost use Rattle.std.specs.Prelude.{◌≡◌, ◌<◌, ◌≤◌, ◌^◌, ℕ, Bool, IsTrue, None, Some, false, length, option_map, replicate};
+ghost use Rattle.std.specs.Prelude.{◌≡◌, ◌<◌, ◌≤◌, ◌^◌, ℕ, Bool, IsTrue, None, Some, false, length, option_map};
 ghost use Rattle.unicode.specs.Perl.{is_word_char};
 ghost use Rattle.rx_util.specs.declared.search.Span.{Span};
 ghost use Rattle.rx_util.specs.Captured.{nothing_noted};
@@ -9,7 +9,7 @@ ghost use Rattle.rx_input.specs.Inputs.{IsSpan};
 ghost use Rattle.rx_walks.specs.Finds.{Search};
 ghost use Rattle.rx_steps.specs.Searching.{answer_slots, search_of};
 ghost use Rattle.rx_steps.specs.Threads.{no_slots};
-ghost use Rattle.rx_program.specs.Programs.{ByteProgram, characters_of};
+ghost use Rattle.rx_program.specs.Programs.{ByteProgram, character_program};
 ghost use Rattle.rx_literals.specs.Needles.{AreNeedles, FoundInSpan};
 ghost use Rattle.rx_literals.specs.Literals.{FindsLiteral, IsLiteralOf, literal_match};
 ghost use Rattle.rx_chunk.specs.Engines.{Finds};
@@ -18,6 +18,7 @@ ghost use Rattle.regex_cursor.specs.Strategies.{HoldsNext, IsLeft, IsPart, IsPar
 
 use rx_input::{Cursor, Input};
 use rx_literals::{Prefilter, literal};
+use rx_steps::clear_slots;
 use rx_util::{Anchored, Captures, HalfMatch, Match, NonMaxUsize, PatternID, Span};
 
 /// What a literal tells of a search whose span isn't done.
@@ -195,7 +196,7 @@ fn start_at<C: Cursor>(found: Option<Span>, input: &Input<C>) -> Start
         → (found ≡ None → Finds p s None)
         → ((span : Span) → found ≡ Some span → input.now.asked.slice.start ≤ span.start
         → span.end ≤ input.now.asked.slice.end
-        → FindsLiteral (characters_of p) is_word_char s span)
+        → FindsLiteral (character_program p) is_word_char s span)
         → IsStart p s result }
 {
     match found {
@@ -221,7 +222,7 @@ pub(super) fn find_literal<C: Cursor>(prefilter: &Prefilter, input: &mut Input<C
 pub(super) fn start_of_literal<C: Cursor>(needle: &Prefilter, input: &mut Input<C>) -> Start
     requires { input.old.asked.span.start ≤ input.old.asked.span.end }
     ensures start { (p : ByteProgram) (utf8_empty : Bool)
-        → IsLiteralOf needle.now (characters_of p)
+        → IsLiteralOf needle.now (character_program p)
         → IsStart p (search_of utf8_empty input.old) result }
     ensures asked { input.new.asked ≡ input.old.asked }
     ensures same { IsSameContent input.old.cursor input.new.cursor }
@@ -238,14 +239,6 @@ pub(super) fn start_of_literal<C: Cursor>(needle: &Prefilter, input: &mut Input<
         }
         Anchored::Pattern(_) => Start::From(input.start()),
     }
-}
-
-/// Puts none into each slot.
-pub(super) fn clear_slots(slots: &mut [Option<NonMaxUsize>])
-    ensures all { slots.new ≡ replicate (length slots.old) None }
-    ensures none { slots.new ≡ no_slots (length slots.new) }
-{
-    slots.fill(None);
 }
 
 /// Puts the places of a match that takes a span, and has no groups besides, into the slots.

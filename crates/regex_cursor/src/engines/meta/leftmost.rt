@@ -16,11 +16,12 @@ ghost use Rattle.regex_cursor.specs.Regexes.{HoldsMatches, IsCacheOf, TellsHalf,
 ghost use Rattle.regex_cursor.specs.Strategies.{IsPart, regex_of};
 
 use super::cache::Cache;
-use super::left::{Left, Part, clear_slots, half_of, note_nothing, put_back, put_match};
+use super::left::{Left, Part, half_of, note_nothing, put_back, put_match};
 use super::strategy::Strategy;
 use rx_chunk::pikevm;
 use rx_input::{Cursor, Input};
 use rx_matches::halves::is_empty_at_last;
+use rx_steps::clear_slots;
 use rx_util::{Captures, HalfMatch, Match, MatchError, NonMaxUsize, PatternID};
 
 /// Whether there is a match, as `Strategy::is_match` answers it.

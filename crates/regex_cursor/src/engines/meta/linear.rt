@@ -3,7 +3,6 @@
 //! passes over the rest make, however far finds would read.
 
 ghost use Rattle.std.specs.Prelude.{◌≡◌, ◌↔◌, ◌+◌, ◌-◌, ◌*◌, ◌<◌, ◌≤◌, ℕ, [], ◌∷◌, All, IfErr, IfOk, IfSome, IsSome, IsTrue, OnErr, None, Some, false, true, length, max, option_map, take};
-ghost use Rattle.std.specs.Iterator.{size};
 ghost use Rattle.std.specs.Option.{ForSome};
 ghost use Rattle.rx_util.specs.declared.search.MatchError.{MatchError};
 ghost use Rattle.rx_util.specs.declared.search.MatchKind.{MatchKind};
@@ -13,22 +12,21 @@ ghost use Rattle.rx_walks.specs.ProgramFinds.{highest, lowest};
 ghost use Rattle.rx_steps.specs.Searching.{search_of};
 ghost use Rattle.rx_steps.specs.Threads.{no_slots};
 ghost use Rattle.rx_chunk.specs.Engines.{EngineFinds, whole_span};
-ghost use Rattle.rx_chunk.specs.Iterating.{StartsFrom, matches_left};
+ghost use Rattle.rx_chunk.specs.Iterating.{StartsFrom};
 ghost use Rattle.rx_lists.specs.Lists.{Listed, places_in};
 ghost use Rattle.regex_cursor.specs.Linear.{AreBehind, FindAlike, GivesSlots, HasListed};
 ghost use Rattle.regex_cursor.specs.Linear.{IsListedFor, IsRestOf};
-ghost use Rattle.regex_cursor.specs.Linear.{TellsNext, all_places, left_of, linear_from};
+ghost use Rattle.regex_cursor.specs.Linear.{TellsWhatComes, all_places, left_of, linear_from};
 ghost use Rattle.regex_cursor.specs.Linear.{passed_over, places_read};
 ghost use Rattle.regex_cursor.specs.Regexes.{IsCacheOf, search_by};
 
 use super::cache::Cache;
-use super::left::clear_slots;
 use super::regex::Regex;
 use counters::Counter;
 use rx_chunk::pikevm::match_in;
 use rx_input::{Cursor, Input};
 use rx_lists::{ListedMatch, list_matches};
-use rx_steps::last_place;
+use rx_steps::{clear_slots, last_place};
 use rx_util::{HalfMatch, MatchError, MatchKind, NonMaxUsize, PatternID};
 use std::marker::Model;
 use std::snapshot::Snapshot;
@@ -51,9 +49,9 @@ struct ListedRest {
 
 impl Model for ListedRest {
     ghost use Rattle.std.specs.Prelude.{◌≡◌, All, drop, length};
-    ghost use Rattle.regex_cursor.specs.Linear.{Rest};
+    ghost use Rattle.regex_cursor.specs.Linear.{FurtherMatches};
 
-    ghost Value = { Rest };
+    ghost Value = { FurtherMatches };
 
     ghost view = { λ r. record {
       engine = r.regex.value.engine;
@@ -222,7 +220,7 @@ fn find_on<C: Cursor>(
 ) -> Result<Option<HalfMatch>, MatchError>
     requires made { IsCacheOf re.now cache.old }
     requires slots { 2 * length re.now.engine.groups ≤ length slots.old }
-    ensures answer { IfOk result (λ half. TellsNext (EngineFinds re.now.engine)
+    ensures answer { IfOk result (λ half. TellsWhatComes (EngineFinds re.now.engine)
         (search_by re.now.engine input.old) last_end half slots.new) }
     ensures none { OnErr result (slots.new ≡ no_slots (length slots.new)) }
     ensures made { IsCacheOf re.now cache.new }

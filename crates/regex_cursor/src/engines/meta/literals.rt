@@ -1,8 +1,8 @@
 //! The literals that a program's matches begin with, or are.
 
 ghost use Rattle.std.specs.Prelude.{◌≡◌, IfOk, IfSome, None, false};
-ghost use Rattle.rx_program.specs.Programs.{characters_of};
-ghost use Rattle.rx_literals.specs.Beginnings.{BeginsWith};
+ghost use Rattle.rx_program.specs.Programs.{character_program};
+ghost use Rattle.rx_literals.specs.Beginnings.{MatchesBeginWith};
 ghost use Rattle.rx_literals.specs.Literals.{IsLiteralOf};
 ghost use Rattle.regex_cursor.specs.Configs.{WantsNoLiterals, auto_prefilter_of, prefilter_of};
 ghost use Rattle.regex_cursor.specs.Literals.{AreLiteralsOf, no_literals};
@@ -43,7 +43,7 @@ impl Literals {
 /// The literals of the caller's own, if they were set, and each match begins with one of them.
 fn given(alloc: Global, program: &Program, config: &Config) -> Result<Option<Prefilter>, AllocError>
     ensures begins { IfOk result (λ given. IfSome given
-        (λ needles. BeginsWith needles (characters_of program.now))) }
+        (λ needles. MatchesBeginWith needles (character_program program.now))) }
     ensures unwanted { IfOk result (λ given. prefilter_of config.now ≡ None → given ≡ None) }
 {
     let Some(prefilter) = config.get_prefilter() else {
@@ -66,7 +66,7 @@ fn beginnings_of(
     config: &Config,
 ) -> Result<Option<Prefilter>, AllocError>
     ensures begins { IfOk result (λ beginnings. IfSome beginnings
-        (λ needles. BeginsWith needles (characters_of program.now))) }
+        (λ needles. MatchesBeginWith needles (character_program program.now))) }
     ensures unwanted { IfOk result
         (λ beginnings. WantsNoLiterals config.now → beginnings ≡ None) }
 {
@@ -86,7 +86,7 @@ fn literal_of(
     config: &Config,
 ) -> Result<Option<Prefilter>, AllocError>
     ensures is_literal { IfOk result (λ literal. IfSome literal
-        (λ needles. IsLiteralOf needles (characters_of program.now))) }
+        (λ needles. IsLiteralOf needles (character_program program.now))) }
     ensures unwanted { IfOk result
         (λ literal. auto_prefilter_of config.now ≡ false → literal ≡ None) }
 {

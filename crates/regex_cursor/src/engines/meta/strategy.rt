@@ -10,8 +10,8 @@ ghost use Rattle.rx_util.specs.Captured.{group_span, match_found};
 ghost use Rattle.rx_input.specs.Cursors.{IsSameContent};
 ghost use Rattle.rx_input.specs.Searchers.{EndsInside};
 ghost use Rattle.rx_walks.specs.Finds.{from_place_on};
-ghost use Rattle.rx_program.specs.Programs.{characters_of};
-ghost use Rattle.rx_literals.specs.Beginnings.{BeginsWith};
+ghost use Rattle.rx_program.specs.Programs.{character_program};
+ghost use Rattle.rx_literals.specs.Beginnings.{MatchesBeginWith};
 ghost use Rattle.rx_dfa.specs.Searching.{IsHalfAnswer};
 ghost use Rattle.rx_steps.specs.Threads.{no_slots};
 ghost use Rattle.rx_engine.specs.Engines.{IsEngine};
@@ -19,7 +19,7 @@ ghost use Rattle.rx_chunk.specs.Engines.{EngineFinds, TellsWhether};
 ghost use Rattle.rx_chunk.specs.Iterating.{EndsAhead, HasNotedNext, IsFoundNext, IsNextAnswer, StartsFrom};
 ghost use Rattle.regex_cursor.specs.Backs.{EndsLast, IsWhole};
 ghost use Rattle.regex_cursor.specs.Regexes.{HoldsMatches, IsCacheOf, TellsHalf, TellsMatch, TellsSlots, TellsWhole, search_by};
-ghost use Rattle.regex_cursor.specs.Configs.{WantsNoLiterals, capacity_of};
+ghost use Rattle.regex_cursor.specs.Configs.{WantsNoLiterals};
 ghost use Rattle.regex_cursor.specs.Cores.{IsCore};
 ghost use Rattle.regex_cursor.specs.Literals.{AreLiteralsOf, no_literals};
 ghost use Rattle.regex_cursor.specs.Strategies.{AreKeptFor, IsLeft, IsNextLeft, IsPart, IsPartLeft, IsStart, IsTold, regex_of};
@@ -270,7 +270,7 @@ impl Strategy {
     /// The prefilter of what each match begins with, if one is known.
     pub(super) fn prefilter(&self) -> Option<&Prefilter>
         ensures begins { IfSome result
-            (λ needles. BeginsWith needles.now (characters_of self.now.vm.program)) }
+            (λ needles. MatchesBeginWith needles.now (character_program self.now.vm.program)) }
     {
         self.literals.beginnings.as_ref()
     }

@@ -1,4 +1,4 @@
-use Rattle.std.proofs.Common.{◌≡◌, ◌+◌, ◌-◌, subst, ◌∙◌, arith}
+use Rattle.std.proofs.Common.{◌≡◌, ◌-◌, subst, ◌∙◌, arith}
 use Rattle.rx_input.specs.Inputs.{HoldsPlace}
 use Rattle.rx_steps.specs.Searching.{search_of}
 use Rattle.rx_dfa.proofs.BackInputLaws.{IsTurned, ShowsBefore, stand_before}

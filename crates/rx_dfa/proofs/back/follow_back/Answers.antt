@@ -1,4 +1,4 @@
-use Rattle.std.proofs.Common.{◌≡◌, ◌<◌, true, length, sym, ap, subst, ◌∙◌, arith}
+use Rattle.std.proofs.Common.{◌<◌, true, length, sym, ap, subst, ◌∙◌, arith}
 use Rattle.std.proofs.lemmas.Result.{err_from_is_err_and}
 use Rattle.rx_walks.specs.Finds.{IsInside}
 use Rattle.rx_walks.specs.ProgramFinds.{lowest}
@@ -9,7 +9,7 @@ use Rattle.rx_dfa.specs.declared.states.AutomatonState.{AutomatonState}
 use Rattle.rx_dfa.specs.Automata.{directed}
 use Rattle.rx_dfa.specs.Back.{HasEndedBack, IsRefusalBackBy, StandsBack, best_from}
 use Rattle.rx_dfa.specs.Caches.{CacheView}
-use Rattle.rx_dfa.specs.Passing.{IsOverAt}
+use Rattle.rx_dfa.specs.Passing.{IsDeadState}
 use Rattle.rx_dfa.proofs.BackLaws.{err_each, over_ends}
 use Rattle.rx_dfa.proofs.TableLaws.{the_same}
 use Rattle.rx_dfa.proofs.back.follow_back.Goals as goal
@@ -22,7 +22,7 @@ returns-then-is_over-clause-ended g c = λ b q at.
     let p = (directed c.args.automaton.now).bytes in
     let s = search_of b c.args.input.now in
     let now = c.loop-met.invariant.stands b q at in
-    let over = subst (λ (v : CacheView). IsOverAt v.states c.loop-met.number) c.known.ensures (c.is_over.ensures c.if-is_over.true) in
+    let over = subst (λ (v : CacheView). IsDeadState v.states c.loop-met.number) c.known.ensures (c.is_over.ensures c.if-is_over.true) in
     let same = the_same now.stands over.stands in
     let whole = over_ends p s q c.loop-met.input.position now.state c.loop-met.met (c.loop-met.invariant.inside b)
     (ap (λ (x : AutomatonState). x.threads.threads) same ∙ over.threads) (ap (λ (x : AutomatonState). x.starting) same ∙ over.starting) now.reached in

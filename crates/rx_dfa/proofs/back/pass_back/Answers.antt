@@ -1,8 +1,6 @@
 use Rattle.std.proofs.Common.{ℕ, ◌≡◌, ◌-◌, ◌<◌, true, List, length, take, sym, ap, subst, ◌∙◌, arith}
 use Rattle.std.proofs.lemmas.List.{length-take}
 use Rattle.std.proofs.lemmas.Option.{slice_get_within}
-use Rattle.rx_walks.specs.Finds.{IsInside}
-use Rattle.rx_walks.specs.ProgramFinds.{lowest}
 use Rattle.rx_steps.specs.Searching.{search_of}
 use Rattle.rx_dfa.specs.Back.{IsRefusalBackBy, StandsBack, placed_error}
 use Rattle.rx_dfa.proofs.BackLaws.{refused_before, stands_on_back}

@@ -4,9 +4,9 @@ use Rattle.std.specs.Prelude.{◌↔◌}
 use Rattle.std.specs.Str.{IsCharBoundary}
 use Rattle.rx_walks.specs.Finds.{IsInside}
 use Rattle.rx_walks.specs.ProgramFinds.{start_node}
-use Rattle.rx_program.specs.Programs.{characters_of}
+use Rattle.rx_program.specs.Programs.{character_program}
 use Rattle.rx_program.specs.Reversed.{back_characters_of}
-use Rattle.rx_steps.specs.Reversed.{bytes_of}
+use Rattle.rx_steps.specs.Reversed.{byte_program_of}
 use Rattle.rx_steps.specs.Searching.{anchoring_of, search_of}
 use Rattle.rx_steps.specs.ComingBack.{IsHalfToldBack}
 use Rattle.rx_steps.proofs.BackAnswerLaws.{Tells, outside_answers, over_answers_back, unknown_answers}
@@ -39,7 +39,7 @@ begin_back-requires-clause-start g c =
     let new = c.enter_end.new.input in
     let starts : start_node (back_characters_of turned) (anchoring_of new.asked.anchored) ≡ Some c.in-Some.start =
     subst (λ a. start_node (back_characters_of turned) (anchoring_of a) ≡ Some c.in-Some.start) (c.get_anchored-mode.ensures ∙ sym (ap (λ x. x.anchored) c.enter_end.ensures.same.asked_is)) (sym c.start_back.ensures ∙ c.in-Some.is) in
-    subst (λ (d : Directed). start_node (characters_of d.bytes) (anchoring_of new.asked.anchored) ≡ Some c.in-Some.start) (sym c.requires.reverse) starts
+    subst (λ (d : Directed). start_node (character_program d.bytes) (anchoring_of new.asked.anchored) ≡ Some c.in-Some.start) (sym c.requires.reverse) starts
 
 pub begin_back-requires-clause-inside : goal.begin_back-requires-clause-inside
 begin_back-requires-clause-inside g c = λ b.
@@ -63,7 +63,7 @@ returns-clause-answer g c = λ p is.
     subst (λ a. start_node (back_characters_of turned) (anchoring_of a) ≡ Some q) c.get_anchored-mode.ensures (sym c.start_back.ensures ∙ c.in-Some.is) in
     let place : new.position ≡ s.end = c.enter_end.ensures.end c.if-not-enter_end.false in
     let last : IsInside s s.end = subst (λ k. IsInside s k) place (c.enter_end.ensures.inside c.if-not-enter_end.false b) in
-    let ended : HasEndedBack (bytes_of turned) s q best = subst (λ x. HasEndedBack (bytes_of turned) x q best) same (subst (λ (d : Directed). HasEndedBack d.bytes (search_of b new) q best) c.requires.reverse (c.in_ok-best.ensures.ended b)) in
+    let ended : HasEndedBack (byte_program_of turned) s q best = subst (λ x. HasEndedBack (byte_program_of turned) x q best) same (subst (λ (d : Directed). HasEndedBack d.bytes (search_of b new) q best) c.requires.reverse (c.in_ok-best.ensures.ended b)) in
     let tells : Tells s c.may_begin-may.result = subst (λ k. IsTrue c.may_begin-may.result ↔ (IsTrue b → IsCharBoundary s.content k)) place
     (subst (λ xs. IsTrue c.may_begin-may.result ↔ (IsTrue b → IsCharBoundary xs new.position)) c.enter_end.ensures.same.same.content c.may_begin-may.ensures) in
     let told : IsHalfToldBack s best answer = c.told_back.ensures s (sym place ∙ sym c.position-end.ensures.position) last ended.inside tells in

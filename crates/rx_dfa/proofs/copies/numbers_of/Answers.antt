@@ -1,4 +1,4 @@
-use Rattle.std.proofs.Common.{◌≡◌, ◌<◌, ◌==◌, ◌∷◌, ◌++◌, [], Some, length, take, ap, subst, ◌∙◌, arith}
+use Rattle.std.proofs.Common.{◌<◌, ◌==◌, ◌∷◌, ◌++◌, [], Some, length, take, ap, subst, ◌∙◌, arith}
 use Rattle.std.specs.HashMap.{Updates}
 use Rattle.rx_dfa.specs.Caches.{AreNumbered}
 use Rattle.rx_dfa.proofs.ClassLaws.{take_all}

@@ -1,14 +1,14 @@
 use Rattle.std.proofs.Common.{◌≡◌, ◌-◌, ◌<◌, Some, length, sym, ap, subst, ◌∙◌, arith}
 use Rattle.rx_walks.specs.Finds.{IsInside}
 use Rattle.rx_walks.specs.ProgramFinds.{start_node}
-use Rattle.rx_program.specs.Programs.{characters_of}
+use Rattle.rx_program.specs.Programs.{character_program}
 use Rattle.rx_steps.specs.Searching.{anchoring_of}
 use Rattle.rx_steps.proofs.FollowLaws.{if_ok}
 use Rattle.rx_steps.proofs.OverLaws.{same_search}
 use Rattle.rx_dfa.specs.Automata.{directed}
 use Rattle.rx_dfa.specs.declared.states.AutomatonState.{AutomatonState}
 use Rattle.rx_dfa.specs.Caches.{CacheView}
-use Rattle.rx_dfa.specs.Passing.{IsOverAt, StandsAt, search_by}
+use Rattle.rx_dfa.specs.Passing.{IsDeadState, SearchStandsAt, search_by}
 use Rattle.rx_dfa.specs.Searching.{IsHalfAnswer}
 use Rattle.rx_dfa.proofs.TableLaws.{the_same}
 use Rattle.rx_dfa.proofs.LoopLaws.{over_answers}
@@ -23,7 +23,7 @@ returns-then-is_over-clause-answer g c = λ q starts at.
     let a = c.args.automaton.now in
     let s = search_by a c.args.input.now in
     let now = c.loop-met.invariant.stands q at in
-    let over = subst (λ (v : CacheView). IsOverAt v.states c.loop-met.number) c.known.ensures (c.is_over.ensures c.if-is_over.true) in
+    let over = subst (λ (v : CacheView). IsDeadState v.states c.loop-met.number) c.known.ensures (c.is_over.ensures c.if-is_over.true) in
     let same = the_same now.stands over.stands in
     over_answers (directed a).bytes s q c.loop-met.input.position now.state c.loop-met.met c.requires.forward.reads keeping_law starts
     (ap (λ (x : AutomatonState). x.threads.threads) same ∙ over.threads) (ap (λ (x : AutomatonState). x.starting) same ∙ over.starting) now.reached
@@ -43,8 +43,8 @@ returns-then-is_at_last-clause-answer g c =
     let states = (g.T.Table.shown c.loop-met.table).states in
     let same = same_search a.alphabet.now.utf8_empty here c.args.input.now c.loop-met.invariant.same.content c.loop-met.invariant.asked in
     if_ok c.finish.result (λ found told q starts at. subst (λ x. IsHalfAnswer p x found) same
-    (told q (subst (λ z. start_node (characters_of p) (anchoring_of z) ≡ Some q) (sym (ap (λ x. x.anchored) c.loop-met.invariant.asked)) starts)
-    (subst (λ x. StandsAt a x q here.position states c.loop-met.number c.loop-met.met) (sym same) (c.loop-met.invariant.stands q at)))) c.finish.ensures.answer
+    (told q (subst (λ z. start_node (character_program p) (anchoring_of z) ≡ Some q) (sym (ap (λ x. x.anchored) c.loop-met.invariant.asked)) starts)
+    (subst (λ x. SearchStandsAt a x q here.position states c.loop-met.number c.loop-met.met) (sym same) (c.loop-met.invariant.stands q at)))) c.finish.ensures.answer
 
 pub loop-met-smaller : goal.loop-met-smaller
 loop-met-smaller g c =

@@ -1,7 +1,7 @@
 use Rattle.std.proofs.Common.{◌≡◌, ◌+◌, take, Some, slice_get, refl, subst, arith}
 use Rattle.std.proofs.lemmas.Option.{slice_get_within}
 use Rattle.rx_dfa.specs.declared.states.AutomatonState.{AutomatonState}
-use Rattle.rx_dfa.specs.Passing.{HasPassed, StandsAt, search_by}
+use Rattle.rx_dfa.specs.Passing.{HasPassed, SearchStandsAt, search_by}
 use Rattle.rx_dfa.specs.Tables.{IsRefusalAmong}
 use Rattle.rx_dfa.proofs.TableLaws.{there_is}
 use Rattle.rx_dfa.proofs.LoopLaws.{Laws}
@@ -42,7 +42,7 @@ returns-in-Ok-clause-stands g c = λ q at.
     let far : input.position + n ≡ c.move_to.new.self.position = omega (arith, c.move_to.ensures.position_is, c.position-at.ensures.position, long, c.in-Ok.ensures.within) in
     let passed : (x : AutomatonState) → slice_get old c.args.number ≡ Some x → HasPassed a new x (take n bytes) input.position c.args.met.now c.in-Ok.next c.scan.new.met =
     λ x stands. subst (λ i. HasPassed a new x (take n bytes) i c.args.met.now c.in-Ok.next c.scan.new.met) c.position-at.ensures.position (c.in-Ok.ensures.passed x stands) in
-    subst (λ i. StandsAt a s q i new c.in-Ok.next c.scan.new.met) far
+    subst (λ i. SearchStandsAt a s q i new c.in-Ok.next c.scan.new.met) far
     (stands_on laws a s q input.position n bytes old new c.args.number c.in-Ok.next c.args.met.now c.scan.new.met c.requires.forward.way c.requires.is.asked refl there c.in-Ok.ensures.within passed at)
 
 pub returns-in-Ok-clause-inside : goal.returns-in-Ok-clause-inside

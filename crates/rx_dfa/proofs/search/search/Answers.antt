@@ -1,7 +1,7 @@
 use Rattle.std.proofs.Common.{◌≡◌, [], Some, None, refl, sym, ap, subst, ◌∙◌}
 use Rattle.rx_walks.specs.Finds.{IsInside}
 use Rattle.rx_walks.specs.ProgramFinds.{start_node, lowest}
-use Rattle.rx_program.specs.Programs.{IsByteProgram, characters_of}
+use Rattle.rx_program.specs.Programs.{IsByteProgram, character_program}
 use Rattle.rx_steps.specs.Searching.{anchoring_of}
 use Rattle.rx_steps.proofs.AnswerLaws.{none_known, none_inside}
 use Rattle.rx_steps.proofs.OverLaws.{same_search}
@@ -20,8 +20,8 @@ pub returns-in_default-clause-answer : goal.returns-in_default-clause-answer
 returns-in_default-clause-answer g c =
     let p = c.args.program.now in
     let s = search_by c.args.automaton.now c.args.input.now in
-    let starts : start_node (characters_of p) (anchoring_of c.args.input.now.asked.anchored) ≡ None =
-    subst (λ z. start_node (characters_of p) (anchoring_of z) ≡ None) c.get_anchored.ensures (sym c.start_state.ensures ∙ c.in_default.is) in
+    let starts : start_node (character_program p) (anchoring_of c.args.input.now.asked.anchored) ≡ None =
+    subst (λ z. start_node (character_program p) (anchoring_of z) ≡ None) c.get_anchored.ensures (sym c.start_state.ensures ∙ c.in_default.is) in
     half_of_none p s [] (none_known p s [] starts refl)
 
 pub returns-then-not-enter-clause-answer : goal.returns-then-not-enter-clause-answer
@@ -29,17 +29,17 @@ returns-then-not-enter-clause-answer g c =
     let a = c.args.automaton.now in
     let p = c.args.program.now in
     let s = search_by a c.args.input.now in
-    let starts : start_node (characters_of p) (anchoring_of c.args.input.now.asked.anchored) ≡ Some c.in-Some.first =
-    subst (λ z. start_node (characters_of p) (anchoring_of z) ≡ Some c.in-Some.first) c.get_anchored.ensures (sym c.start_state.ensures ∙ c.in-Some.is) in
+    let starts : start_node (character_program p) (anchoring_of c.args.input.now.asked.anchored) ≡ Some c.in-Some.first =
+    subst (λ z. start_node (character_program p) (anchoring_of z) ≡ Some c.in-Some.first) c.get_anchored.ensures (sym c.start_state.ensures ∙ c.in-Some.is) in
     half_of_none p s [] (none_inside p s c.in-Some.first [] c.requires.reads keeping_law starts (λ j inside. c.enter.ensures.none c.if-not-enter.true a.alphabet.now.utf8_empty j inside) refl)
 
 pub start-requires-clause-start : goal.start-requires-clause-start
 start-requires-clause-start g c =
     let p = c.args.program.now in
-    let starts : start_node (characters_of p) (anchoring_of c.args.input.now.asked.anchored) ≡ Some c.in-Some.first =
-    subst (λ z. start_node (characters_of p) (anchoring_of z) ≡ Some c.in-Some.first) c.get_anchored.ensures (sym c.start_state.ensures ∙ c.in-Some.is) in
-    subst (λ (d : Directed). start_node (characters_of d.bytes) (anchoring_of c.enter.new.input.asked.anchored) ≡ Some c.in-Some.first) (sym c.requires.forward)
-    (subst (λ x. start_node (characters_of p) (anchoring_of x) ≡ Some c.in-Some.first) (sym (ap (λ x. x.anchored) c.enter.ensures.same.asked_is)) starts)
+    let starts : start_node (character_program p) (anchoring_of c.args.input.now.asked.anchored) ≡ Some c.in-Some.first =
+    subst (λ z. start_node (character_program p) (anchoring_of z) ≡ Some c.in-Some.first) c.get_anchored.ensures (sym c.start_state.ensures ∙ c.in-Some.is) in
+    subst (λ (d : Directed). start_node (character_program d.bytes) (anchoring_of c.enter.new.input.asked.anchored) ≡ Some c.in-Some.first) (sym c.requires.forward)
+    (subst (λ x. start_node (character_program p) (anchoring_of x) ≡ Some c.in-Some.first) (sym (ap (λ x. x.anchored) c.enter.ensures.same.asked_is)) starts)
 
 pub start-requires-clause-forward : goal.start-requires-clause-forward
 start-requires-clause-forward g c = record {

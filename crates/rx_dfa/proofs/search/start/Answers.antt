@@ -1,12 +1,12 @@
 use Rattle.std.proofs.Common.{◌≡◌, ◌-◌, None, Some, slice_get, sym, ap, ap₂, subst, ◌∙◌, arith}
 use Rattle.std.proofs.lemmas.Option.{slice_get_within}
 use Rattle.rx_walks.specs.ProgramFinds.{start_node, lowest}
-use Rattle.rx_program.specs.Programs.{characters_of}
+use Rattle.rx_program.specs.Programs.{character_program}
 use Rattle.rx_steps.specs.Searching.{anchoring_of}
 use Rattle.rx_steps.proofs.FollowLaws.{if_ok}
 use Rattle.rx_steps.proofs.OverLaws.{same_search}
 use Rattle.rx_dfa.specs.Automata.{directed}
-use Rattle.rx_dfa.specs.Passing.{StandsAt, search_by}
+use Rattle.rx_dfa.specs.Passing.{SearchStandsAt, search_by}
 use Rattle.rx_dfa.specs.Searching.{StartsSo, IsHalfAnswer, byte_before}
 use Rattle.rx_dfa.proofs.DenseLaws.{starts_from}
 use Rattle.rx_dfa.proofs.InputLaws.{known_behind, before_there}
@@ -87,13 +87,13 @@ returns-in-Ok-clause-answer g c =
     let states = (g.T.Table.shown c.first.new.self).states in
     let same : s ≡ search_by a old = same_search b new old moved.same.content moved.asked_is in
     let first : i ≡ lowest s = moved.position_is ∙ c.requires.first ∙ ap (λ x. lowest x) (sym same) in
-    let starts : start_node (characters_of p) (anchoring_of new.asked.anchored) ≡ Some q =
-    subst (λ z. start_node (characters_of p) (anchoring_of z) ≡ Some q) (sym (ap (λ x. x.anchored) moved.asked_is)) c.requires.start in
+    let starts : start_node (character_program p) (anchoring_of new.asked.anchored) ≡ Some q =
+    subst (λ z. start_node (character_program p) (anchoring_of z) ≡ Some q) (sym (ap (λ x. x.anchored) moved.asked_is)) c.requires.start in
     let byte = c.byte_behind-behind.result in
     let any = ap (λ z. z.any) c.asked.ensures in
     let found = c.in-Ok.ensures.first in
     let x = found.state in
-    let stands : StandsAt a s q i states c.in-Ok.first None = record {
+    let stands : SearchStandsAt a s q i states c.in-Ok.first None = record {
       state = x;
       stands = found.stands;
       reached = reached_first p s q i x first found.first.threads (subst (λ z. StartsSo s q i z None) (sym found.first.starting_is) (c.first_starting-starting.ensures b first));

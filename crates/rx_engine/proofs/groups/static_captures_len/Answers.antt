@@ -1,7 +1,7 @@
-use Rattle.std.proofs.Common.{◌≡◌, ◌+◌, ◌<◌, length, map, take, Some, None, sym, ap, subst, ◌∙◌, arith}
+use Rattle.std.proofs.Common.{map, take, sym, subst, ◌∙◌, arith}
 use Rattle.rx_grammar.specs.Postorder.{tree_of}
 use Rattle.rx_engine.proofs.GroupLaws.{taken_all, taken_more}
-use Rattle.rx_engine.proofs.StaticLaws.{Each, HasCaptures, all_have, each-push, first_differs, one_differs, told_other, told_same}
+use Rattle.rx_engine.proofs.StaticLaws.{Each, all_have, each-push, one_differs, told_other, told_same}
 use Rattle.rx_engine.proofs.groups.static_captures_len.Goals as goal
 
 pub returns-then-ne : goal.returns-then-ne

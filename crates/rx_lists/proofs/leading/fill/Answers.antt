@@ -2,7 +2,7 @@ use Rattle.std.proofs.Common.{◌≡◌, ℕ, Some, length, slice_get, Contains,
 use Rattle.std.proofs.lemmas.Bool.{cases_eq}
 use Rattle.std.proofs.lemmas.Option.{slice_get_within}
 use Rattle.rx_steps.specs.Lists.{move_at}
-use Rattle.rx_lists.specs.Arrivals.{IsTold}
+use Rattle.rx_lists.specs.Arrivals.{IsInList}
 use Rattle.rx_lists.specs.Leading.{LeadsOn, AreSound, IsRound}
 use Rattle.rx_lists.proofs.FillLaws.{sound_none}
 use Rattle.rx_lists.proofs.SetLaws.{none_in, there_at}
@@ -47,7 +47,7 @@ loop-done-preserved c =
       back = λ j r below e. elim (cases_eq j n) [
         | inl same ↦
             let was : slice_get old n ≡ Some r = still_there old new n r round.kept (slice_get_within old n node here) (ap (λ k. slice_get new k) (sym same) ∙ e) in
-            back_now p place lists c.args.beyond.now.nodes old new r (subst (λ q. IsRound p place (λ y. (q.1 ≡ 0) × IsTold lists q.0 y) c.args.beyond.now.nodes old new) (the_node (sym here ∙ was)) round) (there_at old n r was)
+            back_now p place lists c.args.beyond.now.nodes old new r (subst (λ q. IsRound p place (λ y. (q.1 ≡ 0) × IsInList lists q.0 y) c.args.beyond.now.nodes old new) (the_node (sym here ∙ was)) round) (there_at old n r was)
         | inr other ↦ back_still p place lists old new r round.kept (inv.back j r (omega (arith, below, other)) (still_there old new j r round.kept (omega (arith, below, other, slice_get_within old n node here)) e))
       ];
       widths = c.in_ok-go_back.ensures.widths ∙ inv.widths;

@@ -10,7 +10,7 @@ use Rattle.rx_steps.proofs.FollowLaws.{if_ok, on_ok}
 use Rattle.rx_steps.proofs.OverLaws.{same_search}
 use Rattle.rx_lists.specs.declared.walk.Ending.{Ending}
 use Rattle.rx_lists.specs.Bits.{HasNode}
-use Rattle.rx_lists.specs.Blocks.{AreBlocks, Reaches}
+use Rattle.rx_lists.specs.Blocks.{AreBlocks, BlockReaches}
 use Rattle.rx_lists.specs.LeadingSets.{IsLeadingSet}
 use Rattle.rx_lists.specs.Passes.{outcome_of}
 use Rattle.rx_lists.proofs.NodeLaws.{first_may}
@@ -106,7 +106,7 @@ pub set-set-requires-clause-there : goal.set-set-requires-clause-there
 set-set-requires-clause-there g c = omega (arith, c.position.ensures.position, c.in_ok-come_to.ensures.position, c.in_ok-come_to.ensures.there)
 
 pub set-set-requires-clause-reaches : goal.set-set-requires-clause-reaches
-set-set-requires-clause-reaches g c = subst (λ j. Reaches c.come_to.new.self.block j) (sym (c.position.ensures.position ∙ c.in_ok-come_to.ensures.position))
+set-set-requires-clause-reaches g c = subst (λ j. BlockReaches c.come_to.new.self.block j) (sym (c.position.ensures.position ∙ c.in_ok-come_to.ensures.position))
     (c.in_ok-come_to.ensures.reaches c.args.input.now.position (below_inside c.args.program.now (search_of true c.args.input.now) c.args.blocks.now c.args.input.now.position (c.requires.blocks true) (c.requires.inside true)) (omega arith) c.requires.reaches)
 
 pub follow-requires-clause-inside : goal.follow-requires-clause-inside
@@ -121,7 +121,7 @@ follow-requires-clause-blocks g c = λ b.
     subst (λ x. AreBlocks c.args.program.now x c.come_to.new.self) (sym (same_search b c.come_to.new.input c.args.input.now come.same.content come.asked)) (come.blocks b)
 
 pub follow-requires-clause-reaches : goal.follow-requires-clause-reaches
-follow-requires-clause-reaches g c = subst (λ j. Reaches c.come_to.new.self.block j) (sym c.in_ok-come_to.ensures.position)
+follow-requires-clause-reaches g c = subst (λ j. BlockReaches c.come_to.new.self.block j) (sym c.in_ok-come_to.ensures.position)
     (c.in_ok-come_to.ensures.reaches c.args.input.now.position (below_inside c.args.program.now (search_of true c.args.input.now) c.args.blocks.now c.args.input.now.position (c.requires.blocks true) (c.requires.inside true)) (omega arith) c.requires.reaches)
 
 pub returns-then-not-may_begin-clause-bound : goal.returns-then-not-may_begin-clause-bound

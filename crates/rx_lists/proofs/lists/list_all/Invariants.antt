@@ -2,7 +2,7 @@ use Rattle.std.proofs.Common.{◌≡◌, ◌+◌, ◌≤◌, Bool, true}
 use Rattle.rx_walks.specs.Finds.{IsInside}
 use Rattle.rx_input.specs.Cursors.{IsSameContent}
 use Rattle.rx_steps.specs.Searching.{search_of}
-use Rattle.rx_lists.specs.Blocks.{AreBlocks, Reaches}
+use Rattle.rx_lists.specs.Blocks.{AreBlocks, BlockReaches}
 use Rattle.rx_lists.specs.Passes.{IsWalking}
 use Rattle.rx_lists.specs.Lists.{AreListedTo, places_left, read_before}
 use Rattle.rx_lists.proofs.lists.list_all.Given as goal
@@ -13,7 +13,7 @@ invariant-loop-progress g l = record {
   ready : IsWalking l.program l.walk.stepper.widths l.walk.asks_looks;
   inside : (utf8_empty : Bool) → IsInside (search_of utf8_empty l.fn.input) l.input.position;
   blocks : (utf8_empty : Bool) → AreBlocks l.program (search_of utf8_empty l.fn.input) l.blocks;
-  reaches : Reaches l.blocks.block l.input.position;
+  reaches : BlockReaches l.blocks.block l.input.position;
   from : l.progress.from ≤ l.input.position;
   after : l.progress.after ≡ true → l.progress.from ≡ l.input.position;
   listed : AreListedTo l.program (search_of l.of.utf8_empty l.fn.input) l.of.start l.of.slot_len l.progress.found.items l.progress.after l.progress.from l.input.position;

@@ -1,7 +1,7 @@
 use Rattle.std.proofs.Common.{◌≡◌, ◌+◌, ◌*◌, ◌≤◌, None, Some, false, max, map, sym, ap, subst, ◌∙◌, arith}
 use Rattle.rx_walks.specs.Finds.{IsInside}
 use Rattle.rx_walks.specs.ProgramFinds.{lowest, highest, start_node}
-use Rattle.rx_program.specs.Programs.{characters_of}
+use Rattle.rx_program.specs.Programs.{character_program}
 use Rattle.rx_steps.specs.Searching.{search_of, anchoring_of}
 use Rattle.rx_steps.proofs.FollowLaws.{if_ok}
 use Rattle.rx_steps.proofs.OverLaws.{same_search}
@@ -15,7 +15,7 @@ pub returns-in_default-clause-listed : goal.returns-in_default-clause-listed
 returns-in_default-clause-listed g c =
     let p = c.args.program.now in
     no_walks p (search_of c.args.utf8_empty c.args.input.now) c.args.slot_len c.new.result.items c.new.ensures.items
-    (subst (λ a. start_node (characters_of p) (anchoring_of a) ≡ None) c.get_anchored.ensures (sym c.start_state.ensures ∙ c.in_default.is))
+    (subst (λ a. start_node (character_program p) (anchoring_of a) ≡ None) c.get_anchored.ensures (sym c.start_state.ensures ∙ c.in_default.is))
 
 pub returns-then-not-enter_last-clause-listed : goal.returns-then-not-enter_last-clause-listed
 returns-then-not-enter_last-clause-listed g c =
@@ -23,7 +23,7 @@ returns-then-not-enter_last-clause-listed g c =
     let q = c.in-Some.start in
     let len = c.args.slot_len in
     let s = search_of c.args.utf8_empty c.args.input.now in
-    let starts : start_node (characters_of p) s.anchoring ≡ Some q = subst (λ a. start_node (characters_of p) (anchoring_of a) ≡ Some q) c.get_anchored.ensures (sym c.start_state.ensures ∙ c.in-Some.is) in
+    let starts : start_node (character_program p) s.anchoring ≡ Some q = subst (λ a. start_node (character_program p) (anchoring_of a) ≡ Some q) c.get_anchored.ensures (sym c.start_state.ensures ∙ c.in-Some.is) in
     are_all p s q len c.new-then-not-enter_last.result.items c.walks_are_those_of_characters.ensures.reads c.byte_listings_are_matches.ensures starts
     (subst (λ xs. Lists p s q len false s.start s.start (map outcome_of_listed xs)) (sym c.new-then-not-enter_last.ensures.items)
     (none_inside p s q len (c.enter_last.ensures.none c.if-not-enter_last.true c.args.utf8_empty)))
@@ -65,7 +65,7 @@ returns-clause-listed g c =
     let enter = c.enter_last.ensures in
     let made = c.new-2.ensures in
     let same = same_search u c.new-2.new.input c.args.input.now (made.same.content ∙ enter.same.same.content) (made.asked ∙ enter.same.asked_is) in
-    let starts : start_node (characters_of p) s.anchoring ≡ Some q = subst (λ a. start_node (characters_of p) (anchoring_of a) ≡ Some q) c.get_anchored.ensures (sym c.start_state.ensures ∙ c.in-Some.is) in
+    let starts : start_node (character_program p) s.anchoring ≡ Some q = subst (λ a. start_node (character_program p) (anchoring_of a) ≡ Some q) c.get_anchored.ensures (sym c.start_state.ensures ∙ c.in-Some.is) in
     if_ok c.list_all.result (λ found listed. are_all p s q len found.items c.walks_are_those_of_characters.ensures.reads c.byte_listings_are_matches.ensures starts
     (subst (λ x. Lists p x q len false x.start x.start (map outcome_of_listed found.items)) same listed)) c.list_all.ensures.listed
 

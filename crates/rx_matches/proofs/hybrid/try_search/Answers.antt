@@ -4,7 +4,7 @@ use Rattle.rx_steps.specs.Reversed.{IsHalfAnswerBack}
 use Rattle.rx_steps.specs.Searching.{search_of}
 use Rattle.rx_dfa.specs.Searching.{IsHalfAnswer}
 use Rattle.rx_chunk.specs.Engines.{Finds, IsFound}
-use Rattle.rx_matches.specs.Halves.{StartsFirst, whole_of}
+use Rattle.rx_matches.specs.Halves.{StartsAtSpan, whole_of}
 use Rattle.rx_matches.proofs.HalfLaws.{back_answer, back_there, back_whole, first_whole, half_lies, same_search, whole_inside, whole_ordered}
 use Rattle.rx_matches.proofs.hybrid.try_search.Goals as goal
 
@@ -27,7 +27,7 @@ returns-then-starts_first-clause-answer g c =
     let answer = subst (λ o. IsHalfAnswer p s o) c.in-Some.is c.in_ok-half.ensures.answer in
     let same = same_search u c.args.input.now c.try_search_fwd.new.input c.in_ok-half.ensures.same c.in_ok-half.ensures.asked in
     let start : c.start.result ≡ s.start = c.start.ensures ∙ ap (λ a. a.span.start) c.in_ok-half.ensures.asked in
-    let first : StartsFirst s half.offset = subst (λ k. StartsFirst s k) c.offset-end.ensures (subst (λ x. StartsFirst x c.offset-end.result) same (c.starts_first.ensures.yes c.if-starts_first.true u)) in
+    let first : StartsAtSpan s half.offset = subst (λ k. StartsAtSpan s k) c.offset-end.ensures (subst (λ x. StartsAtSpan x c.offset-end.result) same (c.starts_first.ensures.yes c.if-starts_first.true u)) in
     subst (λ m. IsFound (Finds p) s (Some m)) (sym (c.whole.ensures ∙ ap (λ k. whole_of half k) start)) (first_whole p s half answer first)
 
 pub returns-then-starts_first-clause-inside : goal.returns-then-starts_first-clause-inside

@@ -1,5 +1,3 @@
-use Rattle.std.proofs.Common.{ap, ◌∙◌}
-use Rattle.rx_steps.specs.Lists.{is_among}
 use Rattle.rx_steps.proofs.reverse_search.looks_at.Goals as goal
 
 pub returns-clause-looks : goal.returns-clause-looks

@@ -1,11 +1,11 @@
-use Rattle.std.proofs.Common.{◌≡◌, Bool, Option, Some, None, IsTrue, sym, ap, subst, ◌∙◌}
+use Rattle.std.proofs.Common.{◌≡◌, Option, Some, None, IsTrue, sym, subst, ◌∙◌}
 use Rattle.std.specs.Prelude.{◌↔◌, IfSome}
 use Rattle.std.specs.Str.{IsCharBoundary}
 use Rattle.rx_util.specs.Search.{HalfFound}
-use Rattle.rx_walks.specs.Finds.{Search, IsInside}
+use Rattle.rx_walks.specs.Finds.{IsInside}
 use Rattle.rx_walks.specs.ProgramFinds.{start_node}
-use Rattle.rx_program.specs.Reversed.{IsReverseByteProgram, back_characters_of}
-use Rattle.rx_steps.specs.Reversed.{bytes_of}
+use Rattle.rx_program.specs.Reversed.{back_characters_of}
+use Rattle.rx_steps.specs.Reversed.{byte_program_of}
 use Rattle.rx_steps.specs.Searching.{anchoring_of, search_of}
 use Rattle.rx_steps.specs.ComingBack.{IsHalfToldBack, IsOverBack}
 use Rattle.rx_steps.proofs.BackAnswerLaws.{Tells, outside_answers, over_answers_back, unknown_answers}
@@ -54,7 +54,7 @@ returns-clause-answer g c = λ p is.
     subst (λ a. start_node (back_characters_of turned) (anchoring_of a) ≡ Some q) c.get_anchored-mode.ensures (sym c.start_back.ensures ∙ c.in-Some.is) in
     let place : new.position ≡ s.end = c.enter_end.ensures.end c.if-not-enter_end.false in
     let last : IsInside s s.end = subst (λ k. IsInside s k) place (c.enter_end.ensures.inside c.if-not-enter_end.false b) in
-    let way : IsOverBack (bytes_of turned) s q best = subst (λ x. IsOverBack (bytes_of turned) x q best) same (c.in_ok-best.ensures.over b) in
+    let way : IsOverBack (byte_program_of turned) s q best = subst (λ x. IsOverBack (byte_program_of turned) x q best) same (c.in_ok-best.ensures.over b) in
     let met : IfSome best (λ f. IsInside s f.offset) = each best (λ f inside. subst (λ x. IsInside x f.offset) same (inside b)) c.in_ok-best.ensures.inside in
     let tells : Tells s c.may_be_empty-may.result = subst (λ k. IsTrue c.may_be_empty-may.result ↔ (IsTrue b → IsCharBoundary s.content k)) place
     (subst (λ xs. IsTrue c.may_be_empty-may.result ↔ (IsTrue b → IsCharBoundary xs new.position)) c.enter_end.ensures.same.same.content c.may_be_empty-may.ensures) in

@@ -1,8 +1,9 @@
 use Rattle.std.proofs.Common.{◌≡◌, Some, None, sym, ap, subst, ◌∙◌}
 use Rattle.rx_walks.specs.Finds.{IsInside}
 use Rattle.rx_walks.specs.ProgramFinds.{start_node}
-use Rattle.rx_program.specs.Programs.{characters_of}
+use Rattle.rx_program.specs.Programs.{character_program}
 use Rattle.rx_steps.specs.Searching.{search_of, anchoring_of}
+use Rattle.rx_steps.specs.Coming.{course_of}
 use Rattle.rx_steps.specs.ComingAll.{IsOverAllAt}
 use Rattle.rx_steps.proofs.OverLaws.{same_search}
 use Rattle.rx_steps.proofs.AllAnswerLaws.{FoundLaws, none_at_all, none_known_all, none_inside_all, over_at_answers_all}
@@ -11,8 +12,8 @@ use Rattle.rx_steps.proofs.search.search_all.Goals as goal
 pub returns-in_default-clause-answer : goal.returns-in_default-clause-answer
 returns-in_default-clause-answer g c =
     let p = c.args.program.now in
-    let starts : start_node (characters_of p) (anchoring_of c.args.input.now.asked.anchored) ≡ None =
-    subst (λ a. start_node (characters_of p) (anchoring_of a) ≡ None) c.get_anchored.ensures (sym c.start_state.ensures ∙ c.in_default.is) in
+    let starts : start_node (character_program p) (anchoring_of c.args.input.now.asked.anchored) ≡ None =
+    subst (λ a. start_node (character_program p) (anchoring_of a) ≡ None) c.get_anchored.ensures (sym c.start_state.ensures ∙ c.in_default.is) in
     let s = search_of c.args.utf8_empty c.args.input.now in
     none_at_all c.args.earliest p s c.args.input.now.position (none_known_all p s starts)
 
@@ -20,8 +21,8 @@ pub returns-then-not-enter-clause-answer : goal.returns-then-not-enter-clause-an
 returns-then-not-enter-clause-answer g c =
     let p = c.args.program.now in
     let b = c.args.utf8_empty in
-    let starts : start_node (characters_of p) (anchoring_of c.args.input.now.asked.anchored) ≡ Some c.in-Some.start =
-    subst (λ a. start_node (characters_of p) (anchoring_of a) ≡ Some c.in-Some.start) c.get_anchored.ensures (sym c.start_state.ensures ∙ c.in-Some.is) in
+    let starts : start_node (character_program p) (anchoring_of c.args.input.now.asked.anchored) ≡ Some c.in-Some.start =
+    subst (λ a. start_node (character_program p) (anchoring_of a) ≡ Some c.in-Some.start) c.get_anchored.ensures (sym c.start_state.ensures ∙ c.in-Some.is) in
     let s = search_of b c.args.input.now in
     none_at_all c.args.earliest p s c.enter.new.input.position
     (none_inside_all p s c.in-Some.start c.walks_are_those_of_characters.ensures.reads c.program_is_searched_for_all.ensures starts (λ j inside. c.enter.ensures.none c.if-not-enter.true b j inside))
@@ -37,9 +38,9 @@ follow-requires-clause-inside g c =
 pub follow-requires-clause-start : goal.follow-requires-clause-start
 follow-requires-clause-start g c =
     let p = c.args.program.now in
-    let starts : start_node (characters_of p) (anchoring_of c.args.input.now.asked.anchored) ≡ Some c.in-Some.start =
-    subst (λ a. start_node (characters_of p) (anchoring_of a) ≡ Some c.in-Some.start) c.get_anchored.ensures (sym c.start_state.ensures ∙ c.in-Some.is) in
-    subst (λ x. start_node (characters_of p) (anchoring_of x) ≡ Some c.in-Some.start) (sym (ap (λ x. x.anchored) c.enter.ensures.same.asked_is)) starts
+    let starts : start_node (character_program p) (anchoring_of c.args.input.now.asked.anchored) ≡ Some c.in-Some.start =
+    subst (λ a. start_node (character_program p) (anchoring_of a) ≡ Some c.in-Some.start) c.get_anchored.ensures (sym c.start_state.ensures ∙ c.in-Some.is) in
+    subst (λ x. start_node (character_program p) (anchoring_of x) ≡ Some c.in-Some.start) (sym (ap (λ x. x.anchored) c.enter.ensures.same.asked_is)) starts
 
 pub returns-clause-answer : goal.returns-clause-answer
 returns-clause-answer g c =
@@ -51,9 +52,9 @@ returns-clause-answer g c =
     let q = c.in-Some.start in
     let at = c.follow.new.input.position in
     let same : search_of b new ≡ s = same_search b new old c.enter.ensures.same.same.content c.enter.ensures.same.asked_is in
-    let starts : start_node (characters_of p) (anchoring_of old.asked.anchored) ≡ Some q =
-    subst (λ a. start_node (characters_of p) (anchoring_of a) ≡ Some q) c.get_anchored.ensures (sym c.start_state.ensures ∙ c.in-Some.is) in
+    let starts : start_node (character_program p) (anchoring_of old.asked.anchored) ≡ Some q =
+    subst (λ a. start_node (character_program p) (anchoring_of a) ≡ Some q) c.get_anchored.ensures (sym c.start_state.ensures ∙ c.in-Some.is) in
     let laws : FoundLaws = record { agree = c.finds_agree.ensures; exist = c.finds_exist.ensures; one = c.finds_all_at_most_one.ensures } in
     over_at_answers_all p s q c.walks_are_those_of_characters.ensures.reads c.program_is_searched_for_all.ensures starts laws c.args.earliest new.position at c.in_ok-found.found
     (c.enter.ensures.first c.if-not-enter.false)
-    (subst (λ x. IsOverAllAt c.args.earliest p x q new.position at c.in_ok-found.found) same c.in_ok-found.ensures.over)
+    (subst (λ x. IsOverAllAt c.args.earliest (course_of p x q) new.position at c.in_ok-found.found) same c.in_ok-found.ensures.over)

@@ -1,7 +1,7 @@
 use Rattle.std.proofs.Common.{◌++◌, List, ap, subst, ◌∙◌}
 use Rattle.rx_dfa.specs.Automata.{directed}
 use Rattle.rx_dfa.specs.Directions.{IsList}
-use Rattle.rx_dfa.specs.States.{started, start_at, place_of_step}
+use Rattle.rx_dfa.specs.States.{started, start_at}
 use Rattle.rx_steps.specs.Threads.{Thread}
 use Rattle.rx_dfa.proofs.maker.Maker.next_state.Goals as goal
 

@@ -3,7 +3,7 @@ use Rattle.std.proofs.lemmas.Result.{err_from_is_err_and}
 use Rattle.rx_grammar.specs.Postorder.{tree_of}
 use Rattle.rx_program.specs.declared.error.BuildError.TheVariants as build
 use Rattle.rx_program.specs.Sizes.{IsTooLarge, told_limit, weight_of_all}
-use Rattle.rx_program.specs.Programs.{characters_of}
+use Rattle.rx_program.specs.Programs.{character_program}
 use Rattle.rx_engine.specs.Engines.{AreRefused, IsBuiltOfTrees, no_memory}
 use Rattle.rx_engine.proofs.BuildLaws.{AreOfTrees, Beside, IsAsSet, built, engine_of, not_refused, of_trees, refused_trees}
 use Rattle.rx_engine.proofs.builder.Builder.build_many_from_hir.Goals as goal
@@ -32,7 +32,7 @@ pub invariant_of-result : goal.invariant_of-result
 invariant_of-result c =
     let trees = map (λ hir. tree_of hir.now) c.args.hirs.now in
     let p = c.in_ok-shared.field-0.value in
-    let is = ap characters_of c.in_ok-shared.ensures ∙ c.in_ok-program.ensures.program in
+    let is = ap character_program c.in_ok-shared.ensures ∙ c.in_ok-program.ensures.program in
     let beside : Beside = record {
       match_kind = c.get_match_kind.result;
       groups = c.in_ok-groups.groups;
@@ -48,7 +48,7 @@ pub returns-clause-built : goal.returns-clause-built
 returns-clause-built c =
     let trees = map (λ hir. tree_of hir.now) c.args.hirs.now in
     let p = c.in_ok-shared.field-0.value in
-    let is = ap characters_of c.in_ok-shared.ensures ∙ c.in_ok-program.ensures.program in
+    let is = ap character_program c.in_ok-shared.ensures ∙ c.in_ok-program.ensures.program in
     let beside : Beside = record {
       match_kind = c.get_match_kind.result;
       groups = c.in_ok-groups.groups;

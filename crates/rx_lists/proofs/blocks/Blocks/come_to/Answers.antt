@@ -3,7 +3,7 @@ use Rattle.rx_walks.specs.Finds.{IsInside}
 use Rattle.rx_walks.specs.ProgramFinds.{lowest}
 use Rattle.rx_steps.specs.Searching.{search_of}
 use Rattle.rx_steps.proofs.OverLaws.{same_search}
-use Rattle.rx_lists.specs.LeadingSets.{AreKnown, AreLeadingSets, IsLeadingSet}
+use Rattle.rx_lists.specs.LeadingSets.{HasLeadingSets, AreLeadingSets, IsLeadingSet}
 use Rattle.rx_lists.proofs.NumberLaws.{further_top}
 use Rattle.rx_lists.proofs.PassLaws.{inside_up}
 use Rattle.rx_lists.proofs.WayLaws.{inside_is}
@@ -128,7 +128,7 @@ pass_block-requires-clause-known g c =
     let inside : (b : Bool) → IsInside (search_of b c.args.input.now) top = λ b. inside_up (search_of b c.args.input.now) i top (c.requires.inside b) (omega (arith, far.2, there)) (omega (arith, (blocks b).last_is)) in
     let to : moved.position ≡ top = let deep = inside true in omega (arith, c.move_to.ensures.position_is, deep.4) in
     let same : (b : Bool) → search_of b moved ≡ search_of b c.args.input.now = λ b. same_search b moved c.args.input.now c.move_to.ensures.same.content c.move_to.ensures.asked_is in
-    λ b. subst (λ x. AreKnown p x moved.position) (sym (same b)) (λ j above below. (blocks b).known j (omega (arith, above, to, (inside_is (search_of b c.args.input.now) top (inside b)).0)) below)
+    λ b. subst (λ x. HasLeadingSets p x moved.position) (sym (same b)) (λ j above below. (blocks b).known j (omega (arith, above, to, (inside_is (search_of b c.args.input.now) top (inside b)).0)) below)
 
 pub returns-in_err-pass_block-clause-counted : goal.returns-in_err-pass_block-clause-counted
 returns-in_err-pass_block-clause-counted g c =

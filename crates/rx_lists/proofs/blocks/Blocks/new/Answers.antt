@@ -4,7 +4,7 @@ use Rattle.rx_walks.specs.ProgramFinds.{highest}
 use Rattle.rx_steps.specs.Searching.{search_of}
 use Rattle.rx_steps.proofs.OverLaws.{same_search}
 use Rattle.rx_lists.specs.Blocks.{AreBlocks}
-use Rattle.rx_lists.specs.LeadingSets.{AreKnown, IsLeadingSet}
+use Rattle.rx_lists.specs.LeadingSets.{HasLeadingSets, IsLeadingSet}
 use Rattle.rx_lists.proofs.PassLaws.{none_leads_past, known_more, known_none}
 use Rattle.rx_lists.proofs.WayLaws.{inside_is}
 use Rattle.rx_lists.proofs.blocks.Blocks.new.Goals as goal
@@ -58,7 +58,7 @@ pass_all-requires-clause-known g c =
     let past : (b : Bool) → highest (search_of b c.args.input.now) < at + 1 = λ b. omega (arith, c.requires.last b) in
     let leading : (b : Bool) → IsLeadingSet p (search_of b c.args.input.now) at set = λ b. pass.leading b (c.requires.inside b)
     (none_leads_past p (search_of b c.args.input.now) (at + 1) c.in_ok-new.field-0.set.value (past b) c.in_ok-new.ensures.empty) in
-    λ b. subst (λ x. AreKnown p x moved.position) (sym (same b)) (subst (λ j. AreKnown p (search_of b c.args.input.now) j) (sym stays)
+    λ b. subst (λ x. HasLeadingSets p x moved.position) (sym (same b)) (subst (λ j. HasLeadingSets p (search_of b c.args.input.now) j) (sym stays)
     (known_more p (search_of b c.args.input.now) at set (known_none p (search_of b c.args.input.now) (at + 1) (past b)) (leading b)))
 
 pub pass_all-requires-clause-last : goal.pass_all-requires-clause-last

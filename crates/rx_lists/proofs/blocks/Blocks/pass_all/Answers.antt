@@ -3,7 +3,7 @@ use Rattle.rx_walks.specs.Finds.{IsInside}
 use Rattle.rx_walks.specs.ProgramFinds.{lowest, highest}
 use Rattle.rx_steps.specs.Searching.{search_of}
 use Rattle.rx_steps.proofs.OverLaws.{same_search}
-use Rattle.rx_lists.specs.LeadingSets.{AreKnown, AreLeadingSets, IsLeadingSet}
+use Rattle.rx_lists.specs.LeadingSets.{HasLeadingSets, AreLeadingSets, IsLeadingSet}
 use Rattle.rx_lists.proofs.NumberLaws.{one_more_times}
 use Rattle.rx_lists.proofs.PassLaws.{count_more, inside_down, kept_more}
 use Rattle.rx_lists.proofs.WayLaws.{inside_is}
@@ -67,7 +67,7 @@ pass_block-requires-clause-known g c =
     let same : (b : Bool) → search_of b input ≡ search_of b c.args.input.now = λ b. same_search b input c.args.input.now inv.same.content inv.asked in
     let first : (b : Bool) → self.first ≡ lowest (search_of b c.args.input.now) = λ b. inv.first ∙ c.requires.first b in
     let bounds : (b : Bool) → (lowest (search_of b c.args.input.now) ≤ at) × (at ≤ highest (search_of b c.args.input.now)) = λ b. inside_is (search_of b c.args.input.now) at (inv.inside b) in
-    λ b. subst (λ x. AreKnown p x at) (sym (same b)) (inv.known b)
+    λ b. subst (λ x. HasLeadingSets p x at) (sym (same b)) (inv.known b)
 
 pub returns-then-bottom-self-clause-blocks : goal.returns-then-bottom-self-clause-blocks
 returns-then-bottom-self-clause-blocks g c =
@@ -94,7 +94,7 @@ returns-then-bottom-self-clause-blocks g c =
       sets = subst (λ j. AreLeadingSets p (search_of b c.args.input.now) j 1 sets) (sym pass.top) (subst (λ x. AreLeadingSets p x at 1 sets) (same b) (pass.sets b));
       numbered = (length self.kept, omega (arith, count), omega (arith, pass.top, inv.numbered));
       above = omega (arith, pass.top, (bounds b).0);
-      known = subst (λ j. AreKnown p (search_of b c.args.input.now) j) (omega (arith, c.if-bottom-self.true, c.bottom-bottom.ensures, first b)) (subst (λ x. AreKnown p x c.bottom-bottom.result) (same b) (pass.known b));
+      known = subst (λ j. HasLeadingSets p (search_of b c.args.input.now) j) (omega (arith, c.if-bottom-self.true, c.bottom-bottom.ensures, first b)) (subst (λ x. HasLeadingSets p x c.bottom-bottom.result) (same b) (pass.known b));
     }
 
 pub loop-self-preserved : goal.loop-self-preserved
@@ -119,7 +119,7 @@ loop-self-preserved g c =
       ready = pass.ready;
       inside = λ b. subst (λ j. IsInside (search_of b c.args.input.now) j) (sym there) (inside_down (search_of b c.args.input.now) at c.bottom-bottom.result (inv.inside b) below (omega (arith, c.bottom-bottom.ensures, first b)));
       leading = λ b. subst (λ j. IsLeadingSet p (search_of b c.args.input.now) j c.pass_block.new.self.set.value) (sym there) (subst (λ x. IsLeadingSet p x c.bottom-bottom.result c.pass_block.new.self.set.value) (same b) (pass.leading b));
-      known = λ b. subst (λ j. AreKnown p (search_of b c.args.input.now) j) (sym there) (subst (λ x. AreKnown p x c.bottom-bottom.result) (same b) (pass.known b));
+      known = λ b. subst (λ j. HasLeadingSets p (search_of b c.args.input.now) j) (sym there) (subst (λ x. HasLeadingSets p x c.bottom-bottom.result) (same b) (pass.known b));
       kept = kept;
       numbered = omega (arith, inv.numbered, c.if-bottom-self.false, c.bottom-bottom.ensures, c.position.ensures.position, there, times);
       first = inv.first;

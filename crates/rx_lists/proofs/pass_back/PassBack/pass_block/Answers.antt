@@ -2,7 +2,7 @@ use Rattle.std.proofs.Common.{◌≡◌, ◌+◌, ◌≤◌, Bool, true, length,
 use Rattle.rx_walks.specs.Finds.{IsInside}
 use Rattle.rx_steps.specs.Searching.{search_of}
 use Rattle.rx_steps.proofs.OverLaws.{same_search}
-use Rattle.rx_lists.specs.LeadingSets.{AreKnown, IsLeadingSet}
+use Rattle.rx_lists.specs.LeadingSets.{HasLeadingSets, IsLeadingSet}
 use Rattle.rx_lists.proofs.PassLaws.{count_more, kept_more, no_sets, known_more, inside_down}
 use Rattle.rx_lists.proofs.pass_back.PassBack.pass_block.Goals as goal
 
@@ -54,8 +54,8 @@ loop-input-preserved g c =
       inside = λ b. subst (λ j. IsInside (search_of b c.args.input.now) j) (sym stays) (inside b);
       above = omega (arith, above, stays);
       leading = λ b. subst (λ j. IsLeadingSet p (search_of b c.args.input.now) j set) (sym stays) (here b);
-      known = λ b. subst (λ j. AreKnown p (search_of b c.args.input.now) j) (sym stays)
-          (known_more p (search_of b c.args.input.now) new.position set (subst (λ j. AreKnown p (search_of b c.args.input.now) j) (sym down) (inv.known b)) (here b));
+      known = λ b. subst (λ j. HasLeadingSets p (search_of b c.args.input.now) j) (sym stays)
+          (known_more p (search_of b c.args.input.now) new.position set (subst (λ j. HasLeadingSets p (search_of b c.args.input.now) j) (sym down) (inv.known b)) (here b));
       count = omega (arith, count_more old_sets sets set c.in_ok-keep-2.ensures, inv.count, down, stays);
       sets = λ b. kept_more p (search_of b c.args.input.now) last 1 new.position old_sets sets set c.in_ok-keep-2.ensures (here b) (omega (arith, inv.count, down)) (inv.sets b);
       top = inv.top;

@@ -2,7 +2,7 @@ use Rattle.std.proofs.Common.{◌≡◌, ◌+◌, ◌≤◌, Bool, length}
 use Rattle.rx_walks.specs.Finds.{IsInside}
 use Rattle.rx_input.specs.Cursors.{IsSameContent}
 use Rattle.rx_steps.specs.Searching.{search_of}
-use Rattle.rx_lists.specs.LeadingSets.{AreKnown, AreLeadingSets, IsLeadingSet}
+use Rattle.rx_lists.specs.LeadingSets.{HasLeadingSets, AreLeadingSets, IsLeadingSet}
 use Rattle.rx_lists.specs.Passes.{IsReady}
 use Rattle.rx_lists.proofs.pass_back.PassBack.pass_block.Given as goal
 
@@ -13,7 +13,7 @@ invariant-loop-input g l = record {
   inside : (utf8_empty : Bool) → IsInside (search_of utf8_empty l.fn.input) l.input.position;
   above : l.bottom ≤ l.input.position;
   leading : (utf8_empty : Bool) → IsLeadingSet l.program (search_of utf8_empty l.fn.input) l.input.position l.self.set.value;
-  known : (utf8_empty : Bool) → AreKnown l.program (search_of utf8_empty l.fn.input) l.input.position;
+  known : (utf8_empty : Bool) → HasLeadingSets l.program (search_of utf8_empty l.fn.input) l.input.position;
   count : length l.block.sets + l.input.position ≡ l.fn.input.position + 1;
   sets : (utf8_empty : Bool) → AreLeadingSets l.program (search_of utf8_empty l.fn.input) l.fn.input.position 1 l.block.sets;
   top : l.block.top ≡ l.fn.input.position;

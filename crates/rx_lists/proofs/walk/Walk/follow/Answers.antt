@@ -11,7 +11,7 @@ use Rattle.rx_steps.specs.Coming.{machine_in}
 use Rattle.rx_steps.proofs.OverLaws.{same_search}
 use Rattle.rx_steps.specs.Nodes.{widths_of}
 use Rattle.rx_lists.specs.Bits.{HasNode}
-use Rattle.rx_lists.specs.Blocks.{AreBlocks, Reaches}
+use Rattle.rx_lists.specs.Blocks.{AreBlocks, BlockReaches}
 use Rattle.rx_lists.specs.LeadingSets.{IsLeadingSet}
 use Rattle.rx_lists.specs.Passes.{IsFirstAmong}
 use Rattle.rx_lists.proofs.NodeLaws.{first_may}
@@ -66,7 +66,7 @@ loop-met-preserved g c =
       };
       inside = λ b. subst (λ j. IsInside (search_of b c.args.input.now) j) (sym come.position) (inside b);
       blocks = blocks;
-      reaches = subst (λ j. Reaches c.come_to.new.self.block j) (sym come.position)
+      reaches = subst (λ j. BlockReaches c.come_to.new.self.block j) (sym come.position)
           (reached p (search_of true c.args.input.now) c.loop-met.blocks c.come_to.new.self.block at after.position (inv.blocks true) pos come.reaches (inside_is (search_of true c.args.input.now) at (inv.inside true)).0 inv.reaches).1;
       live = (went.0.0, went.0.1, went.2, thread_at p.states next k went.0 met.threads went.1);
       come = λ b out follows.
@@ -209,14 +209,14 @@ set-set-requires-clause-reaches g c =
     let same'' : (b : Bool) → search_of b after ≡ search_of b c.args.input.now = λ b. same_search b after c.args.input.now (c.advance.ensures.same.same.content ∙ met.same.same.content ∙ inv.same.content) (c.advance.ensures.same.asked_is ∙ met.same.asked_is ∙ inv.asked) in
     let pos : after.position ≡ at + 1 = c.advance.ensures.next c.if-not-advance.false ∙ ap (λ n. n + 1) met.same.position_is in
     let come = c.in_ok-come_to.ensures in
-    subst (λ j. Reaches c.come_to.new.self.block j) (sym (c.position.ensures.position ∙ come.position))
+    subst (λ j. BlockReaches c.come_to.new.self.block j) (sym (c.position.ensures.position ∙ come.position))
     (reached c.args.program.now (search_of true c.args.input.now) c.loop-met.blocks c.come_to.new.self.block at after.position (inv.blocks true) pos come.reaches (inside_is (search_of true c.args.input.now) at (inv.inside true)).0 inv.reaches).1
 
 pub returns-then-not-advance-clause-reaches : goal.returns-then-not-advance-clause-reaches
 returns-then-not-advance-clause-reaches g c =
     ends_there c.ending_at.result c.in_ok-met.met c.position-at.result c.step.new.self.stepper.slots
-    (λ j. Reaches c.loop-met.blocks.block j) (c.ending_at.ensures c.step.new.self.stepper.slots)
-    (subst (λ j. Reaches c.loop-met.blocks.block j) (sym c.position-at.ensures.position) c.loop-met.invariant.reaches)
+    (λ j. BlockReaches c.loop-met.blocks.block j) (c.ending_at.ensures c.step.new.self.stepper.slots)
+    (subst (λ j. BlockReaches c.loop-met.blocks.block j) (sym c.position-at.ensures.position) c.loop-met.invariant.reaches)
 
 pub returns-in_default-clause-reaches : goal.returns-in_default-clause-reaches
 returns-in_default-clause-reaches g c =
@@ -229,8 +229,8 @@ returns-in_default-clause-reaches g c =
     let pos : after.position ≡ at + 1 = c.advance.ensures.next c.if-not-advance.false ∙ ap (λ n. n + 1) met.same.position_is in
     let come = c.in_ok-come_to.ensures in
     ends_there c.ending_at-in_default.result c.in_ok-met.met c.position-at.result c.step.new.self.stepper.slots
-    (λ j. Reaches c.come_to.new.self.block j) (c.ending_at-in_default.ensures c.step.new.self.stepper.slots)
-    (subst (λ j. Reaches c.come_to.new.self.block j) (sym c.position-at.ensures.position)
+    (λ j. BlockReaches c.come_to.new.self.block j) (c.ending_at-in_default.ensures c.step.new.self.stepper.slots)
+    (subst (λ j. BlockReaches c.come_to.new.self.block j) (sym c.position-at.ensures.position)
     (reached c.args.program.now (search_of true c.args.input.now) c.loop-met.blocks c.come_to.new.self.block at after.position (inv.blocks true) pos come.reaches (inside_is (search_of true c.args.input.now) at (inv.inside true)).0 inv.reaches).0)
 
 pub returns-in_default-clause-blocks : goal.returns-in_default-clause-blocks

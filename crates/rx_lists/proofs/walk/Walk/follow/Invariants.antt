@@ -3,11 +3,11 @@ use Rattle.rx_walks.specs.Machines.{Outcome}
 use Rattle.rx_walks.specs.Finds.{IsInside}
 use Rattle.rx_walks.specs.Leading.{Follows}
 use Rattle.rx_input.specs.Cursors.{IsSameContent}
-use Rattle.rx_steps.specs.Nodes.{IsNodeOf}
+use Rattle.rx_steps.specs.Nodes.{IsNodeIn}
 use Rattle.rx_steps.specs.Threads.{Slots, no_slots, first_node}
 use Rattle.rx_steps.specs.Searching.{search_of}
 use Rattle.rx_steps.specs.Coming.{machine_in}
-use Rattle.rx_lists.specs.Blocks.{AreBlocks, Reaches}
+use Rattle.rx_lists.specs.Blocks.{AreBlocks, BlockReaches}
 use Rattle.rx_lists.specs.Passes.{IsWalking}
 use Rattle.rx_lists.proofs.walk.Walk.follow.Given as goal
 
@@ -17,8 +17,8 @@ invariant-loop-met g l = record {
   ready : IsWalking l.program l.self.stepper.widths l.self.asks_looks;
   inside : (utf8_empty : Bool) → IsInside (search_of utf8_empty l.fn.input) l.input.position;
   blocks : (utf8_empty : Bool) → AreBlocks l.program (search_of utf8_empty l.fn.input) l.blocks;
-  reaches : Reaches l.blocks.block l.input.position;
-  live : (n : Slots) × (q : ℕ × ℕ) × (l.self.live.threads ≡ (n, q) ∷ []) × IsNodeOf l.program.states q;
+  reaches : BlockReaches l.blocks.block l.input.position;
+  live : (n : Slots) × (q : ℕ × ℕ) × (l.self.live.threads ≡ (n, q) ∷ []) × IsNodeIn l.program.states q;
   come : (utf8_empty : Bool) (out : Option (Outcome Slots))
       → Follows (machine_in l.program (search_of utf8_empty l.fn.input)) l.input.position [] l.self.live.threads out
       → Follows (machine_in l.program (search_of utf8_empty l.fn.input)) l.fn.input.position [] ((no_slots l.slot_len, first_node l.fn.start) ∷ []) out;

@@ -5,6 +5,7 @@ use Rattle.rx_walks.specs.ProgramFinds.{lowest, highest}
 use Rattle.rx_steps.specs.Nodes.{node_count}
 use Rattle.rx_steps.specs.Searching.{search_of, anchoring_of}
 use Rattle.rx_steps.specs.Caches.{place_count}
+use Rattle.rx_steps.specs.Coming.{course_of}
 use Rattle.rx_steps.specs.ComingAll.{IsOverAll, IsOverAllAt, IsUnderWayAll, IsUnderWayAllInParts}
 use Rattle.rx_steps.proofs.WorkLaws.{none_done, one_more, is_among_places, next_done, come_so_far}
 use Rattle.rx_steps.proofs.OverLaws.{same_search}
@@ -65,7 +66,7 @@ returns-then-are_over-clause-over g c =
     let same : search_of b before ≡ s = same_search b before c.args.input.now c.loop-self.invariant.same.content c.loop-self.invariant.asked in
     let asked : after.asked ≡ c.args.input.now.asked = c.in_ok-visit.ensures.same.asked_is ∙ c.loop-self.invariant.asked in
     let same' : search_of b after ≡ s = same_search b after c.args.input.now (c.in_ok-visit.ensures.same.same.content ∙ c.loop-self.invariant.same.content) asked in
-    let way : IsUnderWayAll p s q (i + 1) self.live.items self.best = subst (λ x. IsUnderWayAll p x q (i + 1) self.live.items self.best) same c.in_ok-visit.ensures.way in
+    let way : IsUnderWayAll (course_of p s q) (i + 1) self.live.items self.best = subst (λ x. IsUnderWayAll (course_of p x q) (i + 1) self.live.items self.best) same c.in_ok-visit.ensures.way in
     let unmet : c.args.earliest ≡ true → self.best ≡ None = λ early. elim c.else-earliest.branch [
       | else-earliest-via-then-earliest+else-is_some w ↦ no_match self.best (sym w.is_some.ensures ∙ w.if-is_some.false)
       | else-earliest-via-else-earliest w ↦ absurd (cc (sym early ∙ w.if-earliest.false))
@@ -91,13 +92,13 @@ returns-then-is_some-clause-over g c =
     let before = c.loop-self.input in
     let best = c.visit.new.self.best in
     let same : search_of b before ≡ s = same_search b before c.args.input.now c.loop-self.invariant.same.content c.loop-self.invariant.asked in
-    let so_far : IsOverAll p (up_to_place s i) q best = subst (λ x. IsOverAll p (up_to_place x i) q best) same c.in_ok-visit.ensures.so_far in
+    let so_far : IsOverAll (course_of p (up_to_place s i) q) best = subst (λ x. IsOverAll (course_of p (up_to_place x i) q) best) same c.in_ok-visit.ensures.so_far in
     let inside = c.loop-self.invariant.inside in
     let unmet = c.loop-self.invariant.unmet c.if-earliest.true in
-    let early : IsOverAllAt true p s q first i best =
+    let early : IsOverAllAt true (course_of p s q) first i best =
     early_all p s q first i c.loop-self.self.best best (λ none. absurd (cc (sym c.if-is_some.true ∙ c.is_some.ensures ∙ ap (λ o. is_some o) none))) unmet c.in_ok-visit.ensures.ends_here (omega (arith, inside.1, inside.3, inside.4)) so_far
     (c.loop-self.invariant.before unmet) in
-    subst (λ e. IsOverAllAt e p s q first c.visit.new.input.position best) (sym c.if-earliest.true) (subst (λ j. IsOverAllAt true p s q first j best) (sym c.in_ok-visit.ensures.same.position_is) early)
+    subst (λ e. IsOverAllAt e (course_of p s q) first c.visit.new.input.position best) (sym c.if-earliest.true) (subst (λ j. IsOverAllAt true (course_of p s q) first j best) (sym c.in_ok-visit.ensures.same.position_is) early)
 
 pub loop-self-smaller : goal.loop-self-smaller
 loop-self-smaller g c =
@@ -144,10 +145,10 @@ loop-self-preserved g c =
     let low : lowest s ≤ i + 1 = omega (arith, inside.0, inside.2) in
     let high : last.position ≤ highest s = omega (arith, there.1, there.3, there.4) in
     let are = c.in_ok-visit.ensures.made.are_idle in
-    let way : IsUnderWayAll p s q (i + 1) self.live.items self.best = subst (λ x. IsUnderWayAll p x q (i + 1) self.live.items self.best) same c.in_ok-visit.ensures.way in
-    let parts : IsUnderWayAllInParts p s q (i + 1) self.live.items self.best =
-    subst (λ x. IsUnderWayAllInParts p x q (i + 1) self.live.items self.best) same c.in_ok-visit.ensures.parts in
-    let so_far : IsOverAll p (up_to_place s i) q self.best = subst (λ x. IsOverAll p (up_to_place x i) q self.best) same c.in_ok-visit.ensures.so_far in
+    let way : IsUnderWayAll (course_of p s q) (i + 1) self.live.items self.best = subst (λ x. IsUnderWayAll (course_of p x q) (i + 1) self.live.items self.best) same c.in_ok-visit.ensures.way in
+    let parts : IsUnderWayAllInParts (course_of p s q) (i + 1) self.live.items self.best =
+    subst (λ x. IsUnderWayAllInParts (course_of p x q) (i + 1) self.live.items self.best) same c.in_ok-visit.ensures.parts in
+    let so_far : IsOverAll (course_of p (up_to_place s i) q) self.best = subst (λ x. IsOverAll (course_of p (up_to_place x i) q) self.best) same c.in_ok-visit.ensures.so_far in
     let unmet : c.args.earliest ≡ true → self.best ≡ None = λ early. elim c.else-earliest.branch [
       | else-earliest-via-then-earliest+else-is_some w ↦ no_match self.best (sym w.is_some.ensures ∙ w.if-is_some.false)
       | else-earliest-via-else-earliest w ↦ absurd (cc (sym early ∙ w.if-earliest.false))
@@ -158,7 +159,7 @@ loop-self-preserved g c =
       way = way_skipped_all p s q (i + 1) last.position c.visit.new.walks.idle self.live.items self.best next low high are free skipped way;
       parts = parts_skipped_all p s q (i + 1) last.position c.visit.new.walks.idle self.live.items self.best next low high are free skipped parts;
       unmet = unmet;
-      before = λ none. none_skipped_all p s q first (i + 1) last.position c.visit.new.walks.idle self.live.items low high are free skipped (subst (λ o. IsUnderWayAllInParts p s q (i + 1) self.live.items o) none parts)
+      before = λ none. none_skipped_all p s q first (i + 1) last.position c.visit.new.walks.idle self.live.items low high are free skipped (subst (λ o. IsUnderWayAllInParts (course_of p s q) (i + 1) self.live.items o) none parts)
           (none_more_all p s q first i self.best none (c.loop-self.invariant.before (c.in_ok-visit.ensures.none_before none)) so_far);
       same = record {
         content = c.go_on.ensures.same.same.content ∙ content;

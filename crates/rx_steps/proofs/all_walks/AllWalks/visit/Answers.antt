@@ -3,6 +3,7 @@ use Rattle.rx_util.specs.Search.{Found}
 use Rattle.rx_walks.specs.Finds.{up_to_place}
 use Rattle.rx_steps.specs.Searching.{search_of}
 use Rattle.rx_steps.specs.ListsAll.{Started, IsStepAll}
+use Rattle.rx_steps.specs.Coming.{course_of}
 use Rattle.rx_steps.specs.ComingAll.{byte_machine_in, IsOverAll, IsUnderWayAll, IsUnderWayAllInParts}
 use Rattle.rx_steps.proofs.AllComeLaws.{best_after, found_is, met_began, way_passed_all}
 use Rattle.rx_steps.proofs.AllPartLaws.{parts_passed_all, part_over_all}
@@ -48,7 +49,7 @@ returns-clause-way g c =
         best_is = ap (λ x. x.best) w.self-is ∙ c.in_ok-met.ensures.best ∙ c.in_ok-start_walk.ensures.best ∙ sym (ap (λ o. best_after i o before) w.in_default.is);
       }
     ] in
-    arrive (λ xs o. IsUnderWayAll p s q (i + 1) xs o) next c.match-branch-3.self.live.items (best_after i met before) c.match-branch-3.self.best came
+    arrive (λ xs o. IsUnderWayAll (course_of p s q) (i + 1) xs o) next c.match-branch-3.self.live.items (best_after i met before) c.match-branch-3.self.best came
     (way_passed_all p s q i c.args.self.now.live.items c.start_walk.new.self.live.items next met before c.in_ok-start_walk.ensures.started (c.in_ok-met.ensures.step c.args.utf8_empty c.requires.inside) c.in_ok-met.ensures.threads c.requires.way)
 
 pub returns-clause-parts : goal.returns-clause-parts
@@ -71,7 +72,7 @@ returns-clause-parts g c =
         best_is = ap (λ x. x.best) w.self-is ∙ c.in_ok-met.ensures.best ∙ c.in_ok-start_walk.ensures.best ∙ sym (ap (λ o. best_after i o before) w.in_default.is);
       }
     ] in
-    arrive (λ xs o. IsUnderWayAllInParts p s q (i + 1) xs o) next c.match-branch-3.self.live.items (best_after i met before) c.match-branch-3.self.best came
+    arrive (λ xs o. IsUnderWayAllInParts (course_of p s q) (i + 1) xs o) next c.match-branch-3.self.live.items (best_after i met before) c.match-branch-3.self.best came
     (parts_passed_all p s q i c.args.self.now.live.items c.start_walk.new.self.live.items next met before c.requires.inside c.in_ok-start_walk.ensures.started (c.in_ok-met.ensures.step c.args.utf8_empty c.requires.inside) c.in_ok-met.ensures.threads c.requires.parts)
 
 pub returns-clause-so_far : goal.returns-clause-so_far
@@ -88,5 +89,5 @@ returns-clause-so_far g c =
           ∙ sym (ap (λ o. best_after i o before) w.in-Some.is)
       | in_default w ↦ ap (λ x. x.best) w.self-is ∙ c.in_ok-met.ensures.best ∙ c.in_ok-start_walk.ensures.best ∙ sym (ap (λ o. best_after i o before) w.in_default.is)
     ] in
-    subst (λ o. IsOverAll p (up_to_place s i) q o) (sym came)
+    subst (λ o. IsOverAll (course_of p (up_to_place s i) q) o) (sym came)
     (part_over_all p s q i c.args.self.now.live.items c.start_walk.new.self.live.items next met before c.requires.inside c.in_ok-start_walk.ensures.started (c.in_ok-met.ensures.step c.args.utf8_empty c.requires.inside) c.requires.parts)

@@ -1,11 +1,9 @@
-use Rattle.std.proofs.Common.{inl, inr, ◌≡◌, ℕ, ◌+◌, ◌-◌, ◌<◌, ◌≤◌, Bool, true, All, List, [], ◌∷◌, map, length, Option, Some, None, refl, sym, ap, subst, ◌∙◌, arith}
+use Rattle.std.proofs.Common.{inl, inr, ◌≡◌, ◌+◌, ◌-◌, ◌<◌, Bool, true, [], ◌∷◌, None, refl, sym, ap, subst, ◌∙◌, arith}
 use Rattle.std.specs.Prelude.{IfSome}
-use Rattle.rx_util.specs.Search.{HalfFound}
-use Rattle.rx_walks.specs.Finds.{Search, IsInside}
+use Rattle.rx_walks.specs.Finds.{IsInside}
 use Rattle.rx_walks.specs.ProgramFinds.{lowest}
-use Rattle.rx_steps.specs.Threads.{Thread, IsThreadOf}
 use Rattle.rx_steps.specs.ListsAll.{nodes_of}
-use Rattle.rx_steps.specs.Reversed.{bytes_of, state_of}
+use Rattle.rx_steps.specs.Reversed.{byte_program_of}
 use Rattle.rx_steps.specs.Searching.{search_of}
 use Rattle.rx_steps.specs.ComingBack.{HasComeBack, HasSteppedBack, IsStepBack}
 use Rattle.rx_steps.proofs.BackComeLaws.{Stepped, best_back, come_first, ended_back, first_thread, found_back, no_nodes, passed_back, was_first, went_back}
@@ -15,7 +13,7 @@ use Rattle.rx_steps.proofs.reverse_search.WalksBack.follow.Goals.{in-Some, in_de
 
 pub loop-pattern-init : goal.loop-pattern-init
 loop-pattern-init g c =
-    let p = bytes_of c.args.program.now in
+    let p = byte_program_of c.args.program.now in
     let q = c.args.start in
     let live = c.begin.new.self.live.threads in
     let begun : live ≡ ([], (q, 0)) ∷ [] = c.in_ok-begin.ensures.live in
@@ -45,7 +43,7 @@ returns-then-len-eq0-clause-inside g c =
 
 pub returns-then-len-eq0-clause-over : goal.returns-then-len-eq0-clause-over
 returns-then-len-eq0-clause-over g c = λ b.
-    let p = bytes_of c.args.program.now in
+    let p = byte_program_of c.args.program.now in
     let s = search_of b c.args.input.now in
     let q = c.args.start in
     let before = c.loop-pattern.input in
@@ -89,7 +87,7 @@ loop-pattern-smaller g c =
 
 pub loop-pattern-preserved : goal.loop-pattern-preserved
 loop-pattern-preserved g c =
-    let p = bytes_of c.args.program.now in
+    let p = byte_program_of c.args.program.now in
     let q = c.args.start in
     let before = c.loop-pattern.input in
     let i = before.position in

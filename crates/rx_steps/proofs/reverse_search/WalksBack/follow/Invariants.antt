@@ -5,7 +5,7 @@ use Rattle.rx_input.specs.Cursors.{IsSameContent}
 use Rattle.rx_steps.specs.Threads.{IsThreadOf}
 use Rattle.rx_steps.specs.ListsAll.{nodes_of}
 use Rattle.rx_steps.specs.Searching.{search_of}
-use Rattle.rx_steps.specs.Reversed.{bytes_of}
+use Rattle.rx_steps.specs.Reversed.{byte_program_of}
 use Rattle.rx_steps.specs.ComingBack.{AreOfReverse, HasComeBack}
 use Rattle.rx_steps.proofs.reverse_search.WalksBack.follow.Given as goal
 
@@ -13,9 +13,9 @@ use Rattle.rx_steps.proofs.reverse_search.WalksBack.follow.Given as goal
 abbrev pub invariant-loop-pattern : goal.invariant-loop-pattern
 invariant-loop-pattern g l = record {
   made : AreOfReverse l.program l.self.stepper.widths l.self.asks_looks;
-  threads : All (IsThreadOf (bytes_of l.program).states) l.self.live.threads;
+  threads : All (IsThreadOf (byte_program_of l.program).states) l.self.live.threads;
   inside : (utf8_empty : Bool) → IsInside (search_of utf8_empty l.fn.input) l.input.position;
-  come : (utf8_empty : Bool) → HasComeBack (bytes_of l.program) (search_of utf8_empty l.fn.input) l.fn.start l.input.position (nodes_of l.self.live.threads) l.best;
+  come : (utf8_empty : Bool) → HasComeBack (byte_program_of l.program) (search_of utf8_empty l.fn.input) l.fn.start l.input.position (nodes_of l.self.live.threads) l.best;
   met_inside : IfSome l.best (λ met. (utf8_empty : Bool) → IsInside (search_of utf8_empty l.fn.input) met.offset);
   same : IsSameContent l.fn.input.cursor l.input.cursor;
   asked : l.input.asked ≡ l.fn.input.asked;

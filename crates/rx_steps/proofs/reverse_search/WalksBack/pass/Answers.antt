@@ -1,4 +1,4 @@
-use Rattle.std.proofs.Common.{◌≡◌, ℕ, Bool, sym, ap, ap₂, subst, ◌∙◌}
+use Rattle.std.proofs.Common.{◌≡◌, ℕ, Bool, sym, ap, subst}
 use Rattle.rx_walks.specs.Finds.{Search, IsInside}
 use Rattle.rx_walks.specs.Looks as walks
 use Rattle.rx_input.specs.Inputs.{InputState, IsMoved}
@@ -6,7 +6,7 @@ use Rattle.rx_steps.specs.declared.place.Place.{Place}
 use Rattle.rx_steps.specs.Lists.{Asks, is_among}
 use Rattle.rx_steps.specs.declared.place.Place.{Place}
 use Rattle.rx_steps.specs.ListsAll.{nodes_of}
-use Rattle.rx_steps.specs.Reversed.{bytes_of}
+use Rattle.rx_steps.specs.Reversed.{byte_program_of}
 use Rattle.rx_steps.specs.Searching.{haystack_in, search_of}
 use Rattle.rx_steps.specs.ComingBack.{HasSteppedBack, IsStepBack, byte_taken_back, mirror_of, back_machine_in}
 use Rattle.rx_steps.proofs.BackComeLaws.{moves_back}
@@ -40,7 +40,7 @@ returns-clause-moved g c = λ b inside.
 
 pub returns-clause-step : goal.returns-clause-step
 returns-clause-step g c = λ b inside.
-    let p = bytes_of c.args.program.now in
+    let p = byte_program_of c.args.program.now in
     let old = c.args.input.now in
     let new = c.looks_at-looks.new.input in
     let s = search_of b old in

@@ -1,12 +1,12 @@
 use Rattle.std.proofs.Common.{List, inl, ◌≡◌, ◌⊎◌, ℕ, ◌+◌, ◌-◌, length, ◌<◌, ◌≤◌, [], Option, Some, None, false, true, IsTrue, refl, sym, ap, subst, ◌∙◌, arith}
 use Rattle.std.specs.Option.{is_some}
-use Rattle.rx_program.specs.Programs.{ByteProgram, characters_of}
+use Rattle.rx_program.specs.Programs.{ByteProgram, character_program}
 use Rattle.rx_walks.specs.Finds.{Search, IsInside, up_to_place, unanchored, is_anchored}
 use Rattle.rx_walks.specs.ProgramFinds.{start_node, lowest, highest}
 use Rattle.rx_steps.specs.Threads.{Thread}
 use Rattle.rx_steps.specs.Searching.{search_of, anchoring_of}
 use Rattle.rx_steps.specs.Caches.{place_count}
-use Rattle.rx_steps.specs.Coming.{IsUnderWay, IsUnderWayInParts, IsOver, IsOverAt, KeepsFirst, StandsSince}
+use Rattle.rx_steps.specs.Coming.{course_of, IsUnderWay, IsUnderWayInParts, IsOver, IsOverAt, KeepsFirst, StandsSince}
 use Rattle.rx_steps.specs.Nodes.{node_count}
 use Rattle.rx_steps.proofs.WorkLaws.{none_done, one_more, is_among_places, next_done, come_so_far}
 use Rattle.rx_steps.proofs.IdleLaws.{AreSkipped, no_value, unanchored_start, way_skipped}
@@ -61,7 +61,7 @@ returns-then-are_over-clause-over g c =
     let same : search_of b before ≡ s = same_search b before c.args.input.now c.loop-self.invariant.same.content c.loop-self.invariant.asked in
     let asked : after.asked ≡ c.args.input.now.asked = c.in_ok-visit.ensures.same.asked_is ∙ c.loop-self.invariant.asked in
     let same' : search_of b after ≡ s = same_search b after c.args.input.now (c.in_ok-visit.ensures.same.same.content ∙ c.loop-self.invariant.same.content) asked in
-    let way : IsUnderWay p s q (i + 1) self.live.threads self.met c.visit.new.slots = subst (λ x. IsUnderWay p x q (i + 1) self.live.threads self.met c.visit.new.slots) same c.in_ok-visit.ensures.way in
+    let way : IsUnderWay (course_of p s q) (i + 1) self.live.threads self.met c.visit.new.slots = subst (λ x. IsUnderWay (course_of p x q) (i + 1) self.live.threads self.met c.visit.new.slots) same c.in_ok-visit.ensures.way in
     let unmet : c.args.earliest ≡ true → self.met ≡ None = λ early. elim c.else-earliest.branch [
       | else-earliest-via-then-earliest+else-is_some w ↦ no_value self.met (sym w.is_some.ensures ∙ w.if-is_some.false)
       | else-earliest-via-else-earliest w ↦ absurd (cc (sym early ∙ w.if-earliest.false))
@@ -77,11 +77,11 @@ returns-then-are_over-clause-over g c =
     ])
 
 -- a walk stands at the place that was visited, if an end was met
-visit_stands : (p : ByteProgram) (s t : Search) (q first i : ℕ) (before met : Option ℕ) (live : List Thread) → t ≡ s → start_node (characters_of p) s.anchoring ≡ Some q
-    → (start_node (characters_of p) t.anchoring ≡ Some q → KeepsFirst p t q first i before live → (met ≡ None) ⊎ StandsSince p t q first i before) → KeepsFirst p s q first i before live
-    → (met ≡ None) ⊎ StandsSince p s q first i before
+visit_stands : (p : ByteProgram) (s t : Search) (q first i : ℕ) (before met : Option ℕ) (live : List Thread) → t ≡ s → start_node (character_program p) s.anchoring ≡ Some q
+    → (start_node (character_program p) t.anchoring ≡ Some q → KeepsFirst (course_of p t q) first i before live → (met ≡ None) ⊎ StandsSince (course_of p t q) first i before) → KeepsFirst (course_of p s q) first i before live
+    → (met ≡ None) ⊎ StandsSince (course_of p s q) first i before
 visit_stands p s t q first i before met live same starts is keeps =
-    subst (λ x. (met ≡ None) ⊎ StandsSince p x q first i before) same (is (subst (λ x. start_node (characters_of p) x.anchoring ≡ Some q) (sym same) starts) (subst (λ x. KeepsFirst p x q first i before live) (sym same) keeps))
+    subst (λ x. (met ≡ None) ⊎ StandsSince (course_of p x q) first i before) same (is (subst (λ x. start_node (character_program p) x.anchoring ≡ Some q) (sym same) starts) (subst (λ x. KeepsFirst (course_of p x q) first i before live) (sym same) keeps))
 
 pub returns-then-are_over-clause-stands : goal.returns-then-are_over-clause-stands
 returns-then-are_over-clause-stands g c =
@@ -125,12 +125,12 @@ returns-then-is_some-clause-over g c =
     let met = c.visit.new.self.met in
     let slots = c.visit.new.slots in
     let same : search_of b before ≡ s = same_search b before c.args.input.now c.loop-self.invariant.same.content c.loop-self.invariant.asked in
-    let so_far : IsOver p (up_to_place s i) q met slots = subst (λ x. IsOver p (up_to_place x i) q met slots) same c.in_ok-visit.ensures.so_far in
+    let so_far : IsOver (course_of p (up_to_place s i) q) met slots = subst (λ x. IsOver (course_of p (up_to_place x i) q) met slots) same c.in_ok-visit.ensures.so_far in
     let inside = c.loop-self.invariant.inside in
-    let early : IsOverAt true p s q first i met slots =
+    let early : IsOverAt true (course_of p s q) first i met slots =
     over_early p s q first i met slots (λ none. absurd (cc (sym c.if-is_some.true ∙ c.is_some.ensures ∙ ap (λ o. is_some o) none))) (omega (arith, inside.1, inside.3, inside.4)) so_far
-    (subst (λ o. KeepsFirst p s q first i o c.loop-self.self.live.threads) (c.loop-self.invariant.unmet c.if-earliest.true) c.loop-self.invariant.first) in
-    subst (λ e. IsOverAt e p s q first c.visit.new.input.position met slots) (sym c.if-earliest.true) (subst (λ j. IsOverAt true p s q first j met slots) (sym c.in_ok-visit.ensures.same.position_is) early)
+    (subst (λ o. KeepsFirst (course_of p s q) first i o c.loop-self.self.live.threads) (c.loop-self.invariant.unmet c.if-earliest.true) c.loop-self.invariant.first) in
+    subst (λ e. IsOverAt e (course_of p s q) first c.visit.new.input.position met slots) (sym c.if-earliest.true) (subst (λ j. IsOverAt true (course_of p s q) first j met slots) (sym c.in_ok-visit.ensures.same.position_is) early)
 
 pub returns-then-is_some-clause-work : goal.returns-then-is_some-clause-work
 returns-then-is_some-clause-work g c =
@@ -176,18 +176,18 @@ loop-self-preserved g c =
     let there : IsInside s last.position = subst (λ x. IsInside x last.position) same' (c.go_on.ensures.inside c.if-not-go_on.false here) in
     let inside = c.loop-self.invariant.inside in
     let next : i + 1 ≤ last.position = omega (arith, c.go_on.ensures.above c.if-not-go_on.false, c.in_ok-visit.ensures.same.position_is) in
-    let way : IsUnderWay p s q (i + 1) self.live.threads self.met c.visit.new.slots = subst (λ x. IsUnderWay p x q (i + 1) self.live.threads self.met c.visit.new.slots) same c.in_ok-visit.ensures.way in
+    let way : IsUnderWay (course_of p s q) (i + 1) self.live.threads self.met c.visit.new.slots = subst (λ x. IsUnderWay (course_of p x q) (i + 1) self.live.threads self.met c.visit.new.slots) same c.in_ok-visit.ensures.way in
     let skipped : AreSkipped self.idle b s.content (i + 1) last.position self.live.threads self.met =
     subst (λ xs. AreSkipped self.idle b xs (i + 1) last.position self.live.threads self.met) content
     (λ k from to. c.go_on.ensures.skipped c.if-not-go_on.false k (omega (arith, from, c.in_ok-visit.ensures.same.position_is)) to) in
     let free : self.live.threads ≡ [] → self.met ≡ None → (s.anchoring ≡ unanchored) × (q ≡ p.start) =
     λ none unmet. unanchored_start p s.anchoring q
     (subst (λ x. is_anchored (anchoring_of x) ≡ false) (c.get_anchored.ensures ∙ ap (λ x. x.anchored) asked) (c.are_over.ensures.goes_on c.if-are_over.false none unmet)) c.requires.start in
-    let parts : IsUnderWayInParts p s q (i + 1) self.live.threads self.met c.visit.new.slots =
-    subst (λ x. IsUnderWayInParts p x q (i + 1) self.live.threads self.met c.visit.new.slots) same c.in_ok-visit.ensures.parts in
-    let first : KeepsFirst p s q c.args.input.now.position (i + 1) self.met self.live.threads =
-    subst (λ x. KeepsFirst p x q c.args.input.now.position (i + 1) self.met self.live.threads) same
-    (c.in_ok-visit.ensures.first c.args.input.now.position (subst (λ x. KeepsFirst p x q c.args.input.now.position i c.loop-self.self.met c.loop-self.self.live.threads) (sym same) c.loop-self.invariant.first)) in
+    let parts : IsUnderWayInParts (course_of p s q) (i + 1) self.live.threads self.met c.visit.new.slots =
+    subst (λ x. IsUnderWayInParts (course_of p x q) (i + 1) self.live.threads self.met c.visit.new.slots) same c.in_ok-visit.ensures.parts in
+    let first : KeepsFirst (course_of p s q) c.args.input.now.position (i + 1) self.met self.live.threads =
+    subst (λ x. KeepsFirst (course_of p x q) c.args.input.now.position (i + 1) self.met self.live.threads) same
+    (c.in_ok-visit.ensures.first c.args.input.now.position (subst (λ x. KeepsFirst (course_of p x q) c.args.input.now.position i c.loop-self.self.met c.loop-self.self.live.threads) (sym same) c.loop-self.invariant.first)) in
     let unmet : c.args.earliest ≡ true → self.met ≡ None = λ early. elim c.else-earliest.branch [
       | else-earliest-via-then-earliest+else-is_some w ↦ no_value self.met (sym w.is_some.ensures ∙ w.if-is_some.false)
       | else-earliest-via-else-earliest w ↦ absurd (cc (sym early ∙ w.if-earliest.false))

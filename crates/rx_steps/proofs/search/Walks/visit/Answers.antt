@@ -4,7 +4,7 @@ use Rattle.rx_walks.specs.Steps.{Steps}
 use Rattle.rx_steps.specs.Threads.{Slots, Thread}
 use Rattle.rx_steps.specs.Lists.{met_at}
 use Rattle.rx_steps.specs.Searching.{search_of}
-use Rattle.rx_steps.specs.Coming.{machine_in, IsUnderWay, IsUnderWayInParts, IsOver, KeepsFirst, StandsSince}
+use Rattle.rx_steps.specs.Coming.{course_of, machine_in, IsUnderWay, IsUnderWayInParts, IsOver, KeepsFirst, StandsSince}
 use Rattle.rx_steps.proofs.StandLaws.{pattern_after}
 use Rattle.rx_steps.proofs.WayLaws.{way_passed, noted_len, slots_after}
 use Rattle.rx_steps.proofs.PartLaws.{parts_passed, part_over, first_kept, stands_since}
@@ -57,7 +57,7 @@ returns-clause-way g c =
       }
     ] in
     let steps = c.in_ok-pattern.ensures.steps c.args.utf8_empty c.requires.inside in
-    arrive (λ xs o n. IsUnderWay p s q (i + 1) xs o n) next c.match-branch-3.self.live.threads (pattern_after k before) c.match-branch-3.self.met (slots_after k noted slots) c.match-branch-3.slots came
+    arrive (λ xs o n. IsUnderWay (course_of p s q) (i + 1) xs o n) next c.match-branch-3.self.live.threads (pattern_after k before) c.match-branch-3.self.met (slots_after k noted slots) c.match-branch-3.slots came
     (way_passed p s q i c.args.self.now.live c.start_walk.new.self.live.threads next before slots k noted c.requires.inside c.requires.slot_len c.in_ok-start_walk.ensures.started steps
     c.in_ok-pattern.ensures.threads c.requires.way)
 
@@ -85,7 +85,7 @@ returns-clause-parts g c =
       }
     ] in
     let steps = c.in_ok-pattern.ensures.steps c.args.utf8_empty c.requires.inside in
-    arrive (λ xs o n. IsUnderWayInParts p s q (i + 1) xs o n) next c.match-branch-3.self.live.threads (pattern_after k before) c.match-branch-3.self.met (slots_after k noted slots) c.match-branch-3.slots came
+    arrive (λ xs o n. IsUnderWayInParts (course_of p s q) (i + 1) xs o n) next c.match-branch-3.self.live.threads (pattern_after k before) c.match-branch-3.self.met (slots_after k noted slots) c.match-branch-3.slots came
     (parts_passed p s q i c.args.self.now.live c.start_walk.new.self.live.threads next before slots k noted c.requires.inside c.requires.slot_len c.in_ok-start_walk.ensures.started steps
     c.in_ok-pattern.ensures.threads c.requires.parts)
 
@@ -114,7 +114,7 @@ returns-clause-so_far g c =
     ] in
     let steps = c.in_ok-pattern.ensures.steps c.args.utf8_empty c.requires.inside in
     let inside = c.requires.inside in
-    arrive (λ xs o n. IsOver p (up_to_place s i) q o n) next c.match-branch-3.self.live.threads (pattern_after k before) c.match-branch-3.self.met (slots_after k noted slots) c.match-branch-3.slots came
+    arrive (λ xs o n. IsOver (course_of p (up_to_place s i) q) o n) next c.match-branch-3.self.live.threads (pattern_after k before) c.match-branch-3.self.met (slots_after k noted slots) c.match-branch-3.slots came
     (part_over p s q i c.args.self.now.live c.start_walk.new.self.live.threads next before slots k noted inside c.requires.slot_len c.in_ok-start_walk.ensures.started steps
     (c.requires.parts i (omega arith) (omega (arith, inside.1, inside.3, inside.4))))
 
@@ -145,7 +145,7 @@ returns-clause-first g c = λ first keeps.
     let inside = c.requires.inside in
     let over = part_over p s q i c.args.self.now.live c.start_walk.new.self.live.threads next before slots k noted inside c.requires.slot_len c.in_ok-start_walk.ensures.started steps
     (c.requires.parts i (omega arith) (omega (arith, inside.1, inside.3, inside.4))) in
-    arrive (λ xs o n. KeepsFirst p s q first (i + 1) o xs) next c.match-branch-3.self.live.threads (pattern_after k before) c.match-branch-3.self.met (slots_after k noted slots) c.match-branch-3.slots came
+    arrive (λ xs o n. KeepsFirst (course_of p s q) first (i + 1) o xs) next c.match-branch-3.self.live.threads (pattern_after k before) c.match-branch-3.self.met (slots_after k noted slots) c.match-branch-3.slots came
     (first_kept p s q first i c.args.self.now.live c.start_walk.new.self.live.threads next before slots k noted inside c.in_ok-start_walk.ensures.started steps c.requires.way.reached over keeps)
 
 pub returns-clause-stands : goal.returns-clause-stands
@@ -175,5 +175,5 @@ returns-clause-stands g c = λ first starts keeps lives.
     let inside = c.requires.inside in
     let over = part_over p s q i c.args.self.now.live c.start_walk.new.self.live.threads next before slots k noted inside c.requires.slot_len c.in_ok-start_walk.ensures.started steps
     (c.requires.parts i (omega arith) (omega (arith, inside.1, inside.3, inside.4))) in
-    arrive (λ xs o n. (o ≡ None) ⊎ StandsSince p s q first i before) next c.match-branch-3.self.live.threads (pattern_after k before) c.match-branch-3.self.met (slots_after k noted slots) c.match-branch-3.slots came
+    arrive (λ xs o n. (o ≡ None) ⊎ StandsSince (course_of p s q) first i before) next c.match-branch-3.self.live.threads (pattern_after k before) c.match-branch-3.self.met (slots_after k noted slots) c.match-branch-3.slots came
     (stands_since p s q first i c.args.self.now.live c.start_walk.new.self.live.threads next before slots k noted inside c.in_ok-start_walk.ensures.started steps c.requires.way.reached over starts keeps lives)

@@ -2,7 +2,7 @@ use Rattle.std.proofs.Common.{◌≡◌, ℕ, ◌≤◌, ◌++◌, ◌∷◌, Li
 use Rattle.rx_program.specs.declared.states.State.{State}
 use Rattle.rx_steps.specs.Nodes.{widths_of, index_from, end_from, IsInserted}
 use Rattle.rx_steps.specs.Lists.{AreFollowed, noted_at}
-use Rattle.rx_steps.specs.ListsAll.{FollowsAll, end_of, nodes_of}
+use Rattle.rx_steps.specs.ListsAll.{FollowsAll, end_met_by, nodes_of}
 use Rattle.rx_steps.proofs.IndexLaws.{new_index}
 use Rattle.rx_steps.proofs.FollowLaws.{entered_nowhere, entered_new, entered_less, skipped, if_ok, on_ok}
 use Rattle.rx_steps.proofs.AllFollowLaws.{all_entered_nowhere, all_entered_new, all_skipped}
@@ -74,5 +74,5 @@ returns-clause-all c =
     let new = new_index (index_from 0 (widths_of p) c.args.node.0 c.args.node.1) c.insert.result ids c.insert.new.self.ids c.if-not-insert.false
     (subst (λ w. IsInserted (index_from 0 w c.args.node.0 c.args.node.1) c.insert.result ids c.insert.new.self.ids) c.requires.made c.insert.ensures.inserted) in
     if_ok c.make_move.result (λ met made start.
-    subst (λ xs. FollowsAll p c.args.place.now start (c.args.node ∷ nodes_of c.args.self.now.pending.threads) (nodes_of c.make_move.new.pending.threads) ids xs c.args.next.now.threads c.make_move.new.next.threads (end_of start met)) (sym new.3)
+    subst (λ xs. FollowsAll p c.args.place.now start (c.args.node ∷ nodes_of c.args.self.now.pending.threads) (nodes_of c.make_move.new.pending.threads) ids xs c.args.next.now.threads c.make_move.new.next.threads (end_met_by start met)) (sym new.3)
     (all_entered_new p c.args.place.now start c.args.node new.0 c.in-Some.state.now (noted_at c.args.place.now c.in-Some.state.now c.args.self.now.pending.slots) met c.args.self.now.pending c.make_move.new.pending ids c.args.next.now.threads c.make_move.new.next.threads new.1 new.2 here made)) c.make_move.ensures.made

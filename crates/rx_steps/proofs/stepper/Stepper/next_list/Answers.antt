@@ -1,5 +1,5 @@
 use Rattle.std.proofs.Common.{◌+◌, ◌<◌, ◌≤◌, length, drop, sym, subst, ◌∙◌, arith}
-use Rattle.rx_steps.specs.Nodes.{widths_of, IsNodeOf}
+use Rattle.rx_steps.specs.Nodes.{widths_of, IsNodeIn}
 use Rattle.rx_steps.specs.Threads.{Thread}
 use Rattle.rx_steps.specs.Lists.{slot_machine, AreUnderWay, AreFollowed}
 use Rattle.rx_steps.proofs.PlaceLaws.{moves_at_place, over}
@@ -10,7 +10,7 @@ pub follow-requires-clause-node : goal.follow-requires-clause-node
 follow-requires-clause-node c =
     let d : Thread = (c.slots-slots.result.now, c.node-node.result) in
     let within : c.loop-index.index < length c.args.threads.now.threads = omega (arith, c.loop-index-test.true, c.len-index-end.ensures) in
-    subst (λ q. IsNodeOf c.args.program.now.states q) (sym (node_of c.args.threads.now.threads c.loop-index.index c.node-node.result within c.node-node.ensures d)) (c.requires.threads c.loop-index.index d within)
+    subst (λ q. IsNodeIn c.args.program.now.states q) (sym (node_of c.args.threads.now.threads c.loop-index.index c.node-node.result within c.node-node.ensures d)) (c.requires.threads c.loop-index.index d within)
 
 pub follow-requires-clause-slots : goal.follow-requires-clause-slots
 follow-requires-clause-slots c = c.slots-slots.ensures.len ∙ sym c.loop-index.invariant.slot_len

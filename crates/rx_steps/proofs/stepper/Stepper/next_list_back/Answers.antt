@@ -1,14 +1,11 @@
-use Rattle.std.proofs.Common.{◌+◌, ◌<◌, ◌≤◌, length, sym, ap, subst, ◌∙◌, arith}
-use Rattle.rx_steps.specs.Nodes.{IsNodeOf}
-use Rattle.rx_steps.specs.Threads.{Thread}
-use Rattle.rx_steps.specs.Reversed.{bytes_of}
-use Rattle.rx_steps.proofs.ThreadLaws.{node_of}
-use Rattle.rx_steps.proofs.BackStepLaws.{back_begun, back_next, back_over}
+use Rattle.std.proofs.Common.{◌≤◌, length, ◌∙◌, arith}
+use Rattle.rx_steps.specs.Reversed.{byte_program_of}
+use Rattle.rx_steps.proofs.BackStepLaws.{back_next, back_over}
 use Rattle.rx_steps.proofs.stepper.Stepper.next_list_back.Goals as goal
 
 pub loop-index-preserved : goal.loop-index-preserved
 loop-index-preserved c =
-    let p = bytes_of c.args.program.now in
+    let p = byte_program_of c.args.program.now in
     let threads = c.args.threads.now.threads in
     let index = c.loop-index.index in
     record {
@@ -25,4 +22,4 @@ pub returns-clause-list : goal.returns-clause-list
 returns-clause-list c =
     let threads = c.args.threads.now.threads in
     let past : length threads ≤ c.loop-index.index = omega (arith, c.loop-index-test.false, c.len-index-end.ensures) in
-    back_over (bytes_of c.args.program.now) c.args.place.now threads c.loop-index.next.threads c.loop-index.index c.loop-index.self-inside.closure.visited.ids c.loop-index.best past c.loop-index.invariant.way
+    back_over (byte_program_of c.args.program.now) c.args.place.now threads c.loop-index.next.threads c.loop-index.index c.loop-index.self-inside.closure.visited.ids c.loop-index.best past c.loop-index.invariant.way

@@ -1,18 +1,18 @@
-use Rattle.std.proofs.Common.{◌≡◌, ◌+◌, ◌≤◌, All, List, [], length, drop}
+use Rattle.std.proofs.Common.{◌≡◌, ◌+◌, ◌≤◌, All, length, drop}
 use Rattle.rx_steps.specs.Nodes.{widths_of, node_count}
 use Rattle.rx_steps.specs.Threads.{IsThreadOf}
 use Rattle.rx_steps.specs.ListsAll.{nodes_of}
-use Rattle.rx_steps.specs.Reversed.{bytes_of}
+use Rattle.rx_steps.specs.Reversed.{byte_program_of}
 use Rattle.rx_steps.proofs.BackStepLaws.{BackWay}
 use Rattle.rx_steps.proofs.stepper.Stepper.next_list_back.Given as goal
 
 -- the step is under way with the walks that are left
 abbrev pub invariant-loop-index : goal.invariant-loop-index
 invariant-loop-index l = record {
-  way : BackWay (bytes_of l.program) l.place (nodes_of l.threads.threads) l.self-inside.closure.visited.ids (drop l.index (nodes_of l.threads.threads)) l.next.threads l.best;
-  threads : All (IsThreadOf (bytes_of l.program).states) l.next.threads;
-  widths : l.self-inside.closure.visited.widths ≡ widths_of (bytes_of l.program);
+  way : BackWay (byte_program_of l.program) l.place (nodes_of l.threads.threads) l.self-inside.closure.visited.ids (drop l.index (nodes_of l.threads.threads)) l.next.threads l.best;
+  threads : All (IsThreadOf (byte_program_of l.program).states) l.next.threads;
+  widths : l.self-inside.closure.visited.widths ≡ widths_of (byte_program_of l.program);
   slot_len : l.next.slot_len ≡ 0;
   counted : l.self-inside.closure.visited.followed ≡ l.fn.self.followed + length l.self-inside.closure.visited.ids;
-  room : length l.self-inside.closure.visited.ids ≤ node_count (bytes_of l.program);
+  room : length l.self-inside.closure.visited.ids ≤ node_count (byte_program_of l.program);
 }

@@ -1,5 +1,5 @@
 use Rattle.std.proofs.Common.{◌+◌, ◌<◌, ◌≤◌, length, drop, sym, subst, ◌∙◌, arith}
-use Rattle.rx_steps.specs.Nodes.{IsNodeOf}
+use Rattle.rx_steps.specs.Nodes.{IsNodeIn}
 use Rattle.rx_steps.specs.Threads.{Thread}
 use Rattle.rx_steps.specs.Lists.{IsThinning}
 use Rattle.rx_steps.proofs.ThreadLaws.{node_of, none_after, first_after}
@@ -21,7 +21,7 @@ loop-index-preserved c =
       way = subst (λ w. IsThinning threads w c.put_first.new.self.visited.ids (drop (index + 1) threads) c.put_first.new.thin.threads) (sym c.in_ok-put_first.ensures.widths)
           (c.in_ok-put_first.ensures.thinned threads (drop (index + 1) threads)
           (subst (λ xs. IsThinning threads seen.widths seen.ids xs c.loop-index.thin.threads) (first_after threads index c.slots.result.now c.node.result within c.slots.ensures.slots c.node.ensures) c.loop-index.invariant.way));
-      threads = λ states all. c.in_ok-put_first.ensures.threads states (subst (λ q. IsNodeOf states q) (sym (node_of threads index c.node.result within c.node.ensures x)) (all index x within)) (c.loop-index.invariant.threads states all);
+      threads = λ states all. c.in_ok-put_first.ensures.threads states (subst (λ q. IsNodeIn states q) (sym (node_of threads index c.node.result within c.node.ensures x)) (all index x within)) (c.loop-index.invariant.threads states all);
       widths = c.in_ok-put_first.ensures.widths ∙ c.loop-index.invariant.widths;
       slot_len = c.in_ok-put_first.ensures.slot_len ∙ c.loop-index.invariant.slot_len;
       counted = omega (arith, c.in_ok-put_first.ensures.counted, c.loop-index.invariant.counted);

@@ -3,7 +3,7 @@ use Rattle.unicode.specs.Perl.{is_word_char}
 use Rattle.rx_input.specs.Inputs.{Asked}
 use Rattle.rx_walks.specs.Finds.{unanchored, anchored}
 use Rattle.rx_steps.specs.Searching.{anchoring_of, search_of}
-use Rattle.rx_program.specs.Programs.{characters_of}
+use Rattle.rx_program.specs.Programs.{character_program}
 use Rattle.rx_literals.specs.Needles.{FoundAtStart, FoundInSpan}
 use Rattle.regex_cursor.specs.Strategies.{BeginsFrom}
 use Rattle.regex_cursor.proofs.LeftLaws.{from_start}
@@ -15,7 +15,7 @@ returns-in-No-clause-start g c = λ p utf8_empty literal.
     let i = c.args.input.now in
     let needles = c.args.needle.now in
     let s = search_of utf8_empty i in
-    let law = literals_find needles (characters_of p) is_word_char s c.needles_are_lawful.ensures literal in
+    let law = literals_find needles (character_program p) is_word_char s c.needles_are_lawful.ensures literal in
     let free : s.anchoring ≡ unanchored = ap anchoring_of (sym c.get_anchored.ensures ∙ c.in-No.is) in
     let asked = sym c.find-found.ensures.asked in
     let found = c.find-found.ensures.found in
@@ -31,7 +31,7 @@ returns-in-Yes-clause-start g c = λ p utf8_empty literal.
     let i = c.args.input.now in
     let needles = c.args.needle.now in
     let s = search_of utf8_empty i in
-    let law = literals_find needles (characters_of p) is_word_char s c.needles_are_lawful.ensures literal in
+    let law = literals_find needles (character_program p) is_word_char s c.needles_are_lawful.ensures literal in
     let kept : s.anchoring ≡ anchored = ap anchoring_of (sym c.get_anchored.ensures ∙ c.in-Yes.is) in
     let asked = sym c.prefix-found.ensures.asked in
     let found = c.prefix-found.ensures.found in

@@ -3,7 +3,7 @@ use Rattle.rx_util.specs.Search.{HalfFound}
 use Rattle.rx_steps.specs.Searching.{search_of}
 use Rattle.rx_chunk.specs.Engines.{EngineFinds}
 use Rattle.rx_chunk.specs.Iterating.{IsNextAnswer}
-use Rattle.regex_cursor.specs.Linear.{TellsNext}
+use Rattle.regex_cursor.specs.Linear.{TellsWhatComes}
 use Rattle.regex_cursor.proofs.LinearLaws.{places_ordered, tells_next, tells_none}
 use Rattle.regex_cursor.proofs.engines.meta.linear.find_on.Goals as goal
 
@@ -23,7 +23,7 @@ returns-in-Some-clause-answer g c =
     let answer = subst (λ o. IsNextAnswer (EngineFinds re) s c.args.last_end o slots) c.in-Some.is c.in_ok-pattern.ensures.answer in
     let half : HalfFound = record { pattern = c.in-Some.pattern; offset = c.end_in.result } in
     let is : half ≡ c.new.result = ap₂ (λ (k x : ℕ). record { pattern = k; offset = x }) (sym c.new.ensures.pattern) (sym c.new.ensures.offset) in
-    subst (λ (h : HalfFound). TellsNext (EngineFinds re) s c.args.last_end (Some h) slots) is
+    subst (λ (h : HalfFound). TellsWhatComes (EngineFinds re) s c.args.last_end (Some h) slots) is
     (tells_next re c.group_info-groups.ensures.regex s c.args.last_end c.in-Some.pattern slots (omega (arith, c.requires.slots)) c.end_in.result c.end_in.ensures answer)
 
 pub returns-in-None-clause-answer : goal.returns-in-None-clause-answer

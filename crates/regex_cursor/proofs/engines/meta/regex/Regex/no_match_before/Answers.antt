@@ -1,7 +1,7 @@
 use Rattle.std.proofs.Common.{◌≡◌, refl, sym, ap, subst, ◌∙◌, arith}
 use Rattle.rx_input.specs.Inputs.{Asked}
-use Rattle.rx_program.specs.Programs.{characters_of}
-use Rattle.rx_literals.specs.Beginnings.{BeginsWith}
+use Rattle.rx_program.specs.Programs.{character_program}
+use Rattle.rx_literals.specs.Beginnings.{MatchesBeginWith}
 use Rattle.regex_cursor.specs.Patterns.{HasNoMatchBetween}
 use Rattle.regex_cursor.specs.Regexes.{Engine, RegexView}
 use Rattle.regex_cursor.specs.Strategies.{Engines}
@@ -14,8 +14,8 @@ returns-in-Some-clause-no_match g c = λ text built.
     let i = c.args.input.now in
     let needles = c.in_ok-prefilter.prefilter.now in
     let vm : c.deref.result.now.vm ≡ c.args.self.now.engine = ap (λ (e : Engines). e.vm) c.deref.ensures ∙ ap (λ (re : RegexView). re.engine) c.self.view_is in
-    let begins : BeginsWith needles (characters_of c.args.self.now.engine.program) =
-    subst (λ (e : Engine). BeginsWith needles (characters_of e.program)) vm c.in_ok-prefilter.ensures.begins in
+    let begins : MatchesBeginWith needles (character_program c.args.self.now.engine.program) =
+    subst (λ (e : Engine). MatchesBeginWith needles (character_program e.program)) vm c.in_ok-prefilter.ensures.begins in
     none_between text c.args.self.now built needles begins c.find_literal.ensures.needles no_needle_no_match i.cursor.content i.asked.span.start c.in-Some.span.start i.asked.span.end
     (found_within c.in-Some.ensures.found refl) (none_before c.in-Some.ensures.found refl)
 
@@ -27,8 +27,8 @@ returns-in-None-clause-no_match g c = λ text built.
     let i = c.args.input.now in
     let needles = c.in_ok-prefilter.prefilter.now in
     let vm : c.deref.result.now.vm ≡ c.args.self.now.engine = ap (λ (e : Engines). e.vm) c.deref.ensures ∙ ap (λ (re : RegexView). re.engine) c.self.view_is in
-    let begins : BeginsWith needles (characters_of c.args.self.now.engine.program) =
-    subst (λ (e : Engine). BeginsWith needles (characters_of e.program)) vm c.in_ok-prefilter.ensures.begins in
+    let begins : MatchesBeginWith needles (character_program c.args.self.now.engine.program) =
+    subst (λ (e : Engine). MatchesBeginWith needles (character_program e.program)) vm c.in_ok-prefilter.ensures.begins in
     let place : c.end.result ≡ i.asked.span.end = c.end.ensures ∙ ap (λ (a : Asked). a.span.end) c.in-None.ensures.asked in
     subst (λ n. HasNoMatchBetween built.tree i.cursor.content i.asked.span.start n) (sym place)
     (none_between text c.args.self.now built needles begins c.find_literal.ensures.needles no_needle_no_match i.cursor.content i.asked.span.start i.asked.span.end i.asked.span.end

@@ -2,7 +2,7 @@ use Rattle.std.proofs.Common.{true, Some, None, Ok, Err, ap, refl, sym, subst}
 use Rattle.rx_chunk.specs.Engines.{EngineFinds, match_of}
 use Rattle.rx_chunk.specs.Iterating.{GivesNext}
 use Rattle.regex_cursor.specs.Iterating as iterating
-use Rattle.regex_cursor.specs.Splitting.{EndsWith, SplitsOff, end_of_search, over, at_match, at_end, no_end, refused, between, regex_in, left_in}
+use Rattle.regex_cursor.specs.Splitting.{EndsWith, SplitsOff, end_of_search, over, at_match, at_end, no_end, refused, span_from_to, regex_in, left_in}
 use Rattle.regex_cursor.proofs.engines.meta.splitter.Splitter.next.Goals as goal
 
 pub returns-then-self-clause-next : goal.returns-then-self-clause-next
@@ -14,7 +14,7 @@ returns-in-Some-Ok-clause-next g c =
     let i = c.args.input.now in
     let n = record m { finder = c.next.new.self; last = c.end-self.result } in
     let next = subst (λ r. GivesNext (EngineFinds (regex_in m).engine) match_of (iterating.left_in m.finder i) (Some r) (iterating.left_in c.next.new.self c.next.new.input)) c.in-Some-Ok.field-0-is c.in-Some-Ok.ensures.next in
-    subst (λ k. SplitsOff (EngineFinds (regex_in m).engine) (left_in m i) (left_in n c.next.new.input) (Some (Ok (between m.last k)))) (sym c.start.ensures.start) (at_match c.if-self.false next c.end-self.ensures.end c.if-self.false)
+    subst (λ k. SplitsOff (EngineFinds (regex_in m).engine) (left_in m i) (left_in n c.next.new.input) (Some (Ok (span_from_to m.last k)))) (sym c.start.ensures.start) (at_match c.if-self.false next c.end-self.ensures.end c.if-self.false)
 
 pub returns-in-Some-Err-clause-next : goal.returns-in-Some-Err-clause-next
 returns-in-Some-Err-clause-next g c =

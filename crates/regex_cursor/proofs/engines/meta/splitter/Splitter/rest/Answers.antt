@@ -1,5 +1,5 @@
 use Rattle.std.proofs.Common.{Some, None, subst, arith}
-use Rattle.regex_cursor.specs.Splitting.{EndsWith, part, none, between}
+use Rattle.regex_cursor.specs.Splitting.{EndsWith, part, none, span_from_to}
 use Rattle.regex_cursor.proofs.engines.meta.splitter.Splitter.rest.Goals as goal
 
 pub returns-then-self-end-clause-rest : goal.returns-then-self-end-clause-rest
@@ -8,4 +8,4 @@ returns-then-self-end-clause-rest g c =
 
 pub returns-clause-rest : goal.returns-clause-rest
 returns-clause-rest g c =
-    subst (λ e. EndsWith c.args.self.now.last e (Some (between c.args.self.now.last c.end_of-end.result))) c.end_of-end.ensures.end (part (omega (arith, c.if-self-end.false)))
+    subst (λ e. EndsWith c.args.self.now.last e (Some (span_from_to c.args.self.now.last c.end_of-end.result))) c.end_of-end.ensures.end (part (omega (arith, c.if-self-end.false)))

@@ -1,8 +1,8 @@
 use Rattle.std.proofs.Common.{◌≡◌, List, ℕ, Option, Some, None, IfSome, sym, ap, subst, ◌∙◌}
 use Rattle.std.specs.Borrow.{Bor}
 use Rattle.std.specs.Option.{option_copied}
-use Rattle.rx_program.specs.Programs.{characters_of}
-use Rattle.rx_literals.specs.Beginnings.{BeginsWith}
+use Rattle.rx_program.specs.Programs.{character_program}
+use Rattle.rx_literals.specs.Beginnings.{MatchesBeginWith}
 use Rattle.regex_cursor.specs.Strategies.{Engines, AreEngines}
 use Rattle.regex_cursor.proofs.engines.meta.strategy.Strategy.prefilter.Goals as goal
 
@@ -15,5 +15,5 @@ returns c =
     let e = c.args.self.now in
     let are : AreEngines e = subst (λ (x : Engines). AreEngines x) c.self.view_is c.self.invariant in
     let same : option_copied c.as_ref.result ≡ e.literals.beginnings = c.as_ref.ensures.value ∙ ap (λ (x : Engines). x.literals.beginnings) c.self.view_is in
-    let begins = λ (needles : List (List ℕ)). BeginsWith needles (characters_of e.vm.program) in
+    let begins = λ (needles : List (List ℕ)). MatchesBeginWith needles (character_program e.vm.program) in
     record { begins = lent begins c.as_ref.result (subst (λ o. IfSome o begins) (sym same) are.literals.beginnings) }

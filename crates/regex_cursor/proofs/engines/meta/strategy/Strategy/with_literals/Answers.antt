@@ -1,5 +1,5 @@
 use Rattle.std.proofs.Common.{◌≡◌, None, IfSome, false, ap, subst, ◌∙◌}
-use Rattle.rx_program.specs.Programs.{characters_of}
+use Rattle.rx_program.specs.Programs.{character_program}
 use Rattle.rx_literals.specs.Endings.{EndsWithSlice}
 use Rattle.rx_dfa.specs.DenseTables.{IsClosedOf}
 use Rattle.rx_dfa.specs.Directions.{forward}
@@ -22,7 +22,7 @@ invariant_of-result c =
       closed = subst (λ p. IfSome closed (IsClosedOf (forward p) core.dfa)) program
           (subst (λ d. IfSome closed (IsClosedOf (forward c.program.result.now) d)) dfa c.in_ok-closed.ensures.closed);
       literals = c.requires.literals;
-      ends_last = λ told. subst (λ p. EndsWithSlice (characters_of p)) again (c.in_ok-ends_last.ensures told);
+      ends_last = λ told. subst (λ p. EndsWithSlice (character_program p)) again (c.in_ok-ends_last.ensures told);
       no_dfa = subst (λ s. dfa_of s ≡ false → closed ≡ None) config c.in_ok-closed.ensures.unwanted;
       no_prefilter = c.requires.unwanted;
     }
