@@ -4,7 +4,7 @@ use Rattle.rope_search_reports.specs.Laws.{HasReport}
 use Rattle.rope_search.specs.declared.endings.Ended.{Ended}
 use Rattle.rope_search.specs.declared.endings.Ended.TheVariants.{Command}
 use Rattle.rope_search.specs.Order.{Order}
-use Rattle.rope_search.specs.Session.{first}
+use Rattle.rope_search.specs.Session.{first_state}
 use Rattle.rope_search.specs.Reads.{Reads}
 use Rattle.rope_search.specs.Shows.{closing}
 use Rattle.rope_search.specs.Answers.{Run, Answers}
@@ -18,7 +18,7 @@ use Rattle.rope_search.proofs.ReadLaws.{reads_exist, reads_one}
 pub answers_exist : Known → HasReport → (limit : ℕ) (input : List ℕ) → (ending : Ended) × (output : List ℕ) × (cost : ℕ) × Answers limit input ending output cost
 answers_exist known reported limit input =
     let reads = reads_exist input in
-    let run = run_exists known reported limit first reads.0 first_holds in
+    let run = run_exists known reported limit first_state reads.0 first_holds in
     (reads.1, run.0 ++ closing reads.1, run.1, record { orders = reads.0; replies = run.0; last = run.2; reads = reads.2; run = run.3; shown = refl })
 
 -- an input that ended by a bad line is answered as without what follows that
@@ -31,6 +31,6 @@ Answers-less limit orders input more output cost reads answers =
       replies = answers.replies;
       last = answers.last;
       reads = reads;
-      run = subst (λ os. Run limit first os answers.replies cost answers.last) (sym same) answers.run;
+      run = subst (λ os. Run limit first_state os answers.replies cost answers.last) (sym same) answers.run;
       shown = answers.shown;
     }

@@ -6,19 +6,16 @@ use Rattle.std.proofs.lemmas.List.{map-set, get_or-map, get_or-set_same, set-get
 use Rattle.std.proofs.lemmas.Option.{MatchOption-at_none, MatchOption-at_some}
 use Rattle.rope_search_reports.specs.Laws.{HasARowALine}
 use Rattle.rope_search_reports.specs.Report.{IsReport}
-use Rattle.rope_search_reports.specs.Text.{bytes_of, line_count}
-use Rattle.rope_search_reports.specs.Replacement.{changes_of}
+use Rattle.rope_search_reports.specs.Text.{line_count}
 use Rattle.rope_search_reports.specs.declared.positions.Position.{Position}
-use Rattle.rope_search_changes.specs.declared.Change.{Change}
 use Rattle.rope_search.specs.declared.search.Search.{Search}
 use Rattle.rope_search.specs.declared.stretches.Stretch.{Stretch}
 use Rattle.rope_search.specs.Changed.{Replaces, SpansMatches, AddsFew, TellsRows}
 use Rattle.rope_search.specs.Cost.{rows_anew}
-use Rattle.rope_search.specs.Histories.{AreReplacements, text_at}
+use Rattle.rope_search.specs.Histories.{text_at}
 use Rattle.rope_search.specs.Order.{Order, EditText, ReplaceAll}
 use Rattle.rope_search.specs.Session.{BufferState, LimitedBuffer, LimitedSession, fresh, current_text, chosen_buffer, IsReportIn}
-use Rattle.rope_search.specs.Stretches.{ReplacesIn, lines_spanned, none, whole}
-use Rattle.rope_search.proofs.MatchLemmas.{in_buffer}
+use Rattle.rope_search.specs.Stretches.{ReplacesIn, whole_stretch}
 use Rattle.rope_search.proofs.SessionLemmas.{Chosen, Chosen-state, state_with}
 
 -- ---- a buffer
@@ -36,13 +33,6 @@ replaces-told old new pattern text text' stretch is is' here here' replaces =
     replaces-with old new pattern stretch is is'
     (subst (λ t. ReplacesIn t (current_text new) pattern stretch) here (subst (λ t. ReplacesIn text t pattern stretch) here' replaces))
 
--- without one there are no rows
-pub replaces-without : (old new : BufferState) → old.pattern ≡ None → new.pattern ≡ None → Replaces old new none
-replaces-without old new is is' = λ rows rows' are are'.
-    let empty : rows ≡ [] = MatchOption-at_none (rows ≡ []) (λ p. IsReport (current_text old) p rows) is are in
-    let empty' : rows' ≡ [] = MatchOption-at_none (rows' ≡ []) (λ p. IsReport (current_text new) p rows') is' are' in
-    rw (empty, empty') (record { before = refl; behind = refl; within = omega arith; within_new = omega arith })
-
 -- as many rows as the text has lines, where there is a pattern
 rows-counted : HasARowALine → (buffer : BufferState) (pattern : Option (List ℕ)) (rows : List (List (ℕ × ℕ))) → buffer.pattern ≡ pattern → IsReportIn buffer rows
     → length rows ≡ (if is_some pattern then line_count (current_text buffer) else 0)
@@ -51,7 +41,7 @@ rows-counted law buffer (Some pattern) rows is are =
     law (current_text buffer) pattern rows (MatchOption-at_some (rows ≡ []) (λ p. IsReport (current_text buffer) p rows) pattern is are)
 
 pub replaces-whole : HasARowALine → (old new : BufferState) (removed added : ℕ) → removed ≡ rows_anew old (current_text old) → added ≡ rows_anew new (current_text new)
-    → Replaces old new (whole removed added)
+    → Replaces old new (whole_stretch removed added)
 replaces-whole law old new removed added is is' = λ rows rows' are are'.
     let all : length rows ≡ removed = rows-counted law old old.pattern rows refl are ∙ sym is in
     let all' : length rows' ≡ added = rows-counted law new new.pattern rows' refl are' ∙ sym is' in
@@ -65,7 +55,7 @@ replaces-whole law old new removed added is is' = λ rows rows' are are'.
 -- where the pattern is dropped
 pub replaces-off : HasARowALine → (texts : List (List ℕ)) (current : ℕ) (search : Option Search) (old : BufferState) (text : List ℕ) (removed : ℕ) (stretch : Stretch)
     → record { texts = texts; current = current; pattern = option_map (λ (s : Search). s.finder) search } ≡ old → text ≡ text_at texts current
-    → removed ≡ (if is_some search then line_count text else 0) → stretch ≡ whole removed 0
+    → removed ≡ (if is_some search then line_count text else 0) → stretch ≡ whole_stretch removed 0
     → Replaces old (record { texts = texts; current = current; pattern = None }) stretch
 replaces-off law texts current None old text removed stretch same here is told =
     let before : BufferState = record { texts = texts; current = current; pattern = None } in
@@ -74,18 +64,6 @@ replaces-off law texts current (Some s) old text removed stretch same here is to
     let before : BufferState = record { texts = texts; current = current; pattern = Some s.finder } in
     let after : BufferState = record { texts = texts; current = current; pattern = None } in
     subst (λ b. Replaces b after stretch) same (subst (Replaces before after) (sym told) (replaces-whole law before after removed 0 (is ∙ ap line_count here) refl))
-
--- a replacement, by its changes
-pub spans_matches : (old new : BufferState) (pattern text text' template : List ℕ) (changes : List Change) (stretch : Stretch) → old.pattern ≡ Some pattern
-    → text ≡ current_text old → text' ≡ current_text new → AreReplacements text pattern template changes
-    → stretch.added ≤ lines_spanned (bytes_of text') changes → SpansMatches old template new stretch
-spans_matches old new pattern text text' template changes stretch is here here' are few = record {
-  matches = are.matches;
-  are = in_buffer old pattern text are.matches is here are.are;
-  few = subst (λ t. stretch.added ≤ lines_spanned (bytes_of (current_text new)) (changes_of (bytes_of t) template 0 0 are.matches)) here
-      (subst (λ t. stretch.added ≤ lines_spanned (bytes_of t) (changes_of (bytes_of text) template 0 0 are.matches)) here'
-      (subst (λ cs. stretch.added ≤ lines_spanned (bytes_of text') cs) are.told few));
-}
 
 -- ---- the buffers of a session
 

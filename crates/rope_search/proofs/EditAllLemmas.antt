@@ -1,7 +1,7 @@
 -- Several edits as one: where they lie, what they leave, and why they are refused.
-use Rattle.std.proofs.Common.{◌≡◌, ℕ, ◌+◌, ◌<◌, ◌≤◌, ◌⊎◌, inl, inr, true, false, Bool, List, [], ◌∷◌, ◌++◌, length, map, take, drop, get_or, sum_by, refl, sym, ap, ◌∙◌, subst, arith, append_assoc, append-nil, All, IsUtf8, Ok, Err, if◌then◌else◌}
-use Rattle.std.specs.Prelude.{Result, Option, Some, None, is_some, OnOk, OnErr, IfOk, IfErr}
-use Rattle.std.specs.Str.{chars, IsCharBoundary}
+use Rattle.std.proofs.Common.{◌≡◌, ℕ, ◌+◌, ◌<◌, ◌≤◌, ◌⊎◌, inl, inr, true, false, Bool, List, [], ◌∷◌, ◌++◌, length, map, take, drop, get_or, sum_by, refl, sym, ap, ◌∙◌, subst, arith, append_assoc, append-nil, All, IsUtf8, Ok, Err}
+use Rattle.std.specs.Prelude.{Result, OnOk, OnErr, IfOk, IfErr}
+use Rattle.std.specs.Str.{chars}
 use Rattle.std.proofs.lemmas.Bool.{true≢false}
 use Rattle.std.proofs.lemmas.List.{drop_all, drop_more, drop-map, length-map}
 use Rattle.std.proofs.lemmas.List.Elements.{All-nil, All-cons, All-head, All-tail, All-append, All-take}
@@ -10,20 +10,18 @@ use Rattle.std.proofs.lemmas.Str.{scalars-chars}
 use Rattle.str_indices.specs.Text.{byte_len}
 use Rattle.rope_search_io.specs.declared.faults.Fault.{Fault}
 use Rattle.rope_search_io.specs.declared.faults.Fault.TheVariants.{Nothing, Range, Utf8, Pattern, Limit, Size, Memory}
-use Rattle.rope_search_io.specs.Faults.{rank_of}
 use Rattle.rope_search_reports.specs.Laws.{HasOnePlace}
 use Rattle.rope_search_reports.specs.Text.{IsText, bytes_of, line_count}
-use Rattle.rope_search_reports.specs.Position.{IsAt, IsNowhere}
+use Rattle.rope_search_reports.specs.Position.{IsAt}
 use Rattle.rope_search_templates.specs.Substitutions.{Substitution, substituted, SubstitutionsFollow, SubstitutedIsText, SubstitutionsAreChanges, changes_by, lines_by}
 use Rattle.ropey.specs.Chunks.{text_of}
 use Rattle.rope_search_templates.specs.declared.replacing.Replacement.{Replacement}
 use Rattle.rope_search_reports.specs.Changes.{AreChanges}
 use Rattle.rope_search_changes.specs.declared.Change.{Change}
-use Rattle.rope_search.specs.declared.stretches.Stretch.{Stretch}
 use Rattle.rope_search.specs.declared.edits.Edit.{Edit}
 use Rattle.rope_search.specs.Laws.{HoldsTexts}
-use Rattle.rope_search.specs.Session.{BufferState, State, LimitedBuffer, LimitedSession, current_text, chosen_buffer, with_chosen}
-use Rattle.rope_search.specs.Edits.{FullEdit, in_full, AreUtf8, LiesBehind, LieInOrder, MakeOf, AreEdits, GetTooLong, SpansEdits, KeepsEdits, RefusesEdits, IsFirstAgainst, AcceptsEdits, StepByEdits, TellsEdits, rows_of_edits, lines_of_edits}
+use Rattle.rope_search.specs.Session.{BufferState, LimitedBuffer, LimitedSession, current_text, chosen_buffer}
+use Rattle.rope_search.specs.Edits.{FullEdit, in_full, PayloadsAreUtf8, LiesBehind, LieInOrder, AreEdits, SpansEdits, RefusesEdits, IsFirstAgainst, AcceptsEdits, StepByEdits, TellsEdits, lines_of_edits}
 use Rattle.rope_search.specs.Changed.{Replaces}
 use Rattle.rope_search.proofs.HoldLaws.{one_text, text_holds}
 use Rattle.rope_search.proofs.SessionLemmas.{Chosen, Chosen-state, Chosen-limit, Chosen-set, Chosen-kept, state_with}
@@ -58,9 +56,9 @@ pub record AreSoFar (text : List ℕ) (at : ℕ) (left all : List FullEdit) (mad
   pub good : utf8 ≡ true → (rest : List Substitution) → LieInOrder text at left rest → LieInOrder text 0 all (made ++ rest)
   pub onward : (whole : List Substitution) → LieInOrder text 0 all whole → (rest : List Substitution) × LieInOrder text at left rest
   pub back : (rest : List Substitution) → LieInOrder text at left rest → (whole : List Substitution) × LieInOrder text 0 all whole
-  pub own : utf8 ≡ true → AreUtf8 left → AreUtf8 all
-  pub keeps : AreUtf8 all → AreUtf8 left
-  pub broken : utf8 ≡ false → AreUtf8 all → ⊥
+  pub own : utf8 ≡ true → PayloadsAreUtf8 left → PayloadsAreUtf8 all
+  pub keeps : PayloadsAreUtf8 all → PayloadsAreUtf8 left
+  pub broken : utf8 ≡ false → PayloadsAreUtf8 all → ⊥
 
 pub so_far-start : (text : List ℕ) (all : List FullEdit) (made : List Substitution) → made ≡ [] → AreSoFar text 0 all all made true
 so_far-start text all made none =
@@ -93,7 +91,7 @@ so_far-more law text is at edit left all made made' utf8 utf8' one so lies more 
     first [] lie = absurd lie
     first (r ∷ rest) lie = (rest, subst (λ n. LieInOrder text n left rest) (one_span law text is at at edit r.start r.end one.start one.end lie.0 lies).1 lie.2)
 
-    either : (utf8 ≡ false) ⊎ ¬ (IsUtf8 edit.payload) → AreUtf8 all → ⊥
+    either : (utf8 ≡ false) ⊎ ¬ (IsUtf8 edit.payload) → PayloadsAreUtf8 all → ⊥
     either (inl e) every = so.broken e every
     either (inr apart) every = apart (All-head is_utf8 edit left (so.keeps every))
 
@@ -168,10 +166,7 @@ lines_same text at (e ∷ es) (o ∷ os) lie =
     ∙ ap (λ t. line_count t + sum_by lines_of_edit es) lie.1
     ∙ sym (sum_by-cons lines_of_edit e es)
 
-pub rows_same : (buffer : BufferState) (pattern : List ℕ) (edits : List FullEdit) → buffer.pattern ≡ Some pattern → rows_of_edits buffer edits ≡ lines_of_edits edits
-rows_same buffer pattern edits is = ap (λ p. if is_some p then lines_of_edits edits else 0) is
-
-texts_put : (text : List ℕ) (at : ℕ) (edits : List FullEdit) (ones : List Substitution) → AreUtf8 edits → LieInOrder text at edits ones
+texts_put : (text : List ℕ) (at : ℕ) (edits : List FullEdit) (ones : List Substitution) → PayloadsAreUtf8 edits → LieInOrder text at edits ones
     → All (λ (one : Substitution). IsText one.text) ones
 texts_put text at [] [] utf8 lie = All-nil (λ (one : Substitution). IsText one.text)
 texts_put text at [] (o ∷ os) utf8 lie = absurd lie
@@ -202,7 +197,7 @@ edit-changes law text is edits ones lie new told changes are =
 -- ---- why they are refused
 
 module _ (limit : ℕ) (text : List ℕ) (edits : List FullEdit) where
-  pub accepts : HasOnePlace → IsText text → (ones : List Substitution) → LieInOrder text 0 edits ones → AreUtf8 edits
+  pub accepts : HasOnePlace → IsText text → (ones : List Substitution) → LieInOrder text 0 edits ones → PayloadsAreUtf8 edits
       → byte_len (substituted (bytes_of text) 0 ones) ≤ limit → AcceptsEdits limit text edits
   accepts law is ones lie utf8 fits Range h = h ones lie
   accepts law is ones lie utf8 fits Utf8 h = h utf8
@@ -210,34 +205,6 @@ module _ (limit : ℕ) (text : List ℕ) (edits : List FullEdit) where
       let same = one_order law text is 0 edits h.substitutions ones h.lie lie in
       omega (arith, fits, h.long, ap (λ os. byte_len (substituted (bytes_of text) 0 os)) same)
   accepts law is ones lie utf8 fits fault h = h
-
-  pub first_range : RefusesEdits limit text edits Range → IsFirstAgainst limit text edits Range
-  first_range why = record { refuses = why; none_before = before }
-    where
-      before : (other : Fault) → rank_of other < rank_of Range → RefusesEdits limit text edits other → ⊥
-      before Range low h = absurd (omega (arith, low))
-      before Utf8 low h = absurd (omega (arith, low))
-      before Size low h = absurd (omega (arith, low))
-      before other low h = h
-
-  pub first_utf8 : (ones : List Substitution) → LieInOrder text 0 edits ones → ¬ (AreUtf8 edits) → IsFirstAgainst limit text edits Utf8
-  first_utf8 ones lie why = record { refuses = why; none_before = before }
-    where
-      before : (other : Fault) → rank_of other < rank_of Utf8 → RefusesEdits limit text edits other → ⊥
-      before Range low h = h ones lie
-      before Utf8 low h = absurd (omega (arith, low))
-      before Size low h = absurd (omega (arith, low))
-      before other low h = h
-
-  pub first_size : (ones : List Substitution) → LieInOrder text 0 edits ones → AreUtf8 edits
-      → limit < byte_len (substituted (bytes_of text) 0 ones) → IsFirstAgainst limit text edits Size
-  first_size ones lie utf8 long = record { refuses = record { substitutions = ones; lie = lie; long = long }; none_before = before }
-    where
-      before : (other : Fault) → rank_of other < rank_of Size → RefusesEdits limit text edits other → ⊥
-      before Range low h = h ones lie
-      before Utf8 low h = h utf8
-      before Size low h = absurd (omega (arith, low))
-      before other low h = h
 
 -- ---- in a session
 
@@ -318,7 +285,7 @@ pub changes-told : SubstitutionsAreChanges → (text : List ℕ) → IsText text
 changes-told law text is edits ones lie (Ok new) told are = edit-changes law text is edits ones lie (text_of new.text) told new.changes.items are
 changes-told law text is edits ones lie (Err fault) told are = tt
 
-pub accepts-told : (limit : ℕ) → HasOnePlace → (text : List ℕ) → IsText text → (edits : List FullEdit) (ones : List Substitution) → LieInOrder text 0 edits ones → AreUtf8 edits
+pub accepts-told : (limit : ℕ) → HasOnePlace → (text : List ℕ) → IsText text → (edits : List FullEdit) (ones : List Substitution) → LieInOrder text 0 edits ones → PayloadsAreUtf8 edits
     → (result : Result Replacement Fault) → OnOk result (byte_len (substituted (bytes_of text) 0 ones) ≤ limit) → OnOk result (AcceptsEdits limit text edits)
 accepts-told limit law text is edits ones lie utf8 (Ok new) fits = accepts limit text edits law is ones lie utf8 fits
 accepts-told limit law text is edits ones lie utf8 (Err fault) fits = tt

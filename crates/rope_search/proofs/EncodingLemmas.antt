@@ -1,5 +1,5 @@
 -- Places and how many characters stand before them.
-use Rattle.std.proofs.Common.{◌≡◌, ℕ, ◌+◌, ◌<◌, ◌≤◌, true, List, [], ◌++◌, length, take, drop, refl, sym, ap, subst, ◌∙◌, arith, append-nil, take-append-drop}
+use Rattle.std.proofs.Common.{◌≡◌, ℕ, ◌+◌, ◌≤◌, true, List, [], ◌++◌, length, take, drop, refl, sym, ap, subst, ◌∙◌, arith, append-nil, take-append-drop}
 use Rattle.std.specs.Str.{IsCharBoundary, IsUtf8, all_scalars, chars}
 use Rattle.std.proofs.lemmas.List.{length-take-le}
 use Rattle.std.proofs.lemmas.List.Sums.{count_by-le-length}
@@ -76,15 +76,6 @@ column-sum law lines Utf8 text line column place at =
 column-sum law lines Utf32 text line column place at =
     let low : line_start text (line_at text place) ≤ place = omega (arith, lines text place) in
     omega (arith, at.column_is, ap (λ l. ends_up_to (line_start text l) (char_ends text)) at.line_is, law.rise text (line_start text (line_at text place)) place low)
-
--- and a place up to which so much stands has that column, where it has a position of the line
-pub is-at-in : (encoding : Encoding) (text : List ℕ) (line column place units : ℕ) → IsAt text (line, units) place
-    → before_place encoding text place ≡ before_place encoding text (line_start text line) + column → IsAtIn encoding text line column place
-is-at-in encoding text line column place units at sum =
-    let is : line ≡ line_at text place = ap (λ (p : ℕ × ℕ). p.0) at.same in
-    let same : before_place encoding text (line_start text line) ≡ before_place encoding text (line_start text (line_at text place)) =
-    ap (λ l. before_place encoding text (line_start text l)) is in
-    record { boundary = at.boundary; line_is = is; column_is = omega (arith, sum, same); within = at.within }
 
 -- the position of such a place is at it
 pub position-at : (encoding : Encoding) (text : List ℕ) (line column place : ℕ) (spot : ℕ × ℕ) → IsAtIn encoding text line column place → spot ≡ position text place

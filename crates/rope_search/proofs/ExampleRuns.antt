@@ -8,9 +8,9 @@ use Rattle.rope_search_io.specs.declared.faults.Fault.TheVariants.{Nothing, Rang
 use Rattle.rope_search.specs.declared.commands.Reply.TheVariants.{Done, Print}
 use Rattle.rope_search.specs.declared.endings.Ended.TheVariants.{Input, Command, Cut}
 use Rattle.rope_search.specs.Order.{Order, SetText, PrintText, UseBuffer}
-use Rattle.rope_search.specs.Session.{first}
+use Rattle.rope_search.specs.Session.{first_state}
 use Rattle.rope_search.specs.Step.{Refuses, Accepts, Step}
-use Rattle.rope_search.specs.Reads.{IsNumber, AreSpelled, IsLine, Spells, Ends, Reads}
+use Rattle.rope_search.specs.Reads.{IsNumber, AreSpelled, IsLine, SpellsOrder, Ends, Reads}
 use Rattle.rope_search.specs.Answers.{Run, Answers}
 use Rattle.rope_search.proofs.Examples.{session_of}
 use Rattle.rope_search.proofs.LineLaws.{IsLine-first, IsLine-third}
@@ -30,14 +30,14 @@ pub two_spelled : AreSpelled (2 ∷ []) (codes " 2")
 two_spelled = (codes "2", [], IsNumber-two, refl, refl)
 
 -- a text of two bytes
-pub Spells-hi : Spells (SetText (codes "hi")) (codes "text 2\nhi")
+pub Spells-hi : SpellsOrder (SetText (codes "hi")) (codes "text 2\nhi")
 Spells-hi = record { line = codes "text 2"; is_line = (codes " 2", two_spelled, refl); whole = refl }
 
 -- the same, spelled with a leading zero
-pub Spells-zeros : Spells (SetText (codes "hi")) (codes "text 02\nhi")
+pub Spells-zeros : SpellsOrder (SetText (codes "hi")) (codes "text 02\nhi")
 Spells-zeros = record { line = codes "text 02"; is_line = (codes " 02", (codes "02", [], IsNumber-zeros, refl, refl), refl); whole = refl }
 
-pub Spells-print : Spells PrintText (codes "print\n")
+pub Spells-print : SpellsOrder PrintText (codes "print\n")
 Spells-print = record { line = codes "print"; is_line = refl; whole = refl }
 
 -- the next command stands right behind a payload
@@ -70,7 +70,7 @@ Ends-payload = inr (record { order = SetText (codes "hi"); line = codes "text 2"
 -- ---- refusals and runs
 
 -- the first session has no buffer 1, and that is all that is wrong with choosing it
-pub Refuses-use : (limit : ℕ) (fault : Fault) → Refuses limit first (UseBuffer 1) fault ↔ fault ≡ Nothing
+pub Refuses-use : (limit : ℕ) (fault : Fault) → Refuses limit first_state (UseBuffer 1) fault ↔ fault ≡ Nothing
 Refuses-use limit Nothing = ((λ h. refl), (λ e. omega arith))
 Refuses-use limit Range = ((λ h. absurd h), (λ e. cc))
 Refuses-use limit Utf8 = ((λ h. absurd h), (λ e. cc))
@@ -84,19 +84,19 @@ unfolding encode
 IsUtf8-hi = (codes "hi", (refl, refl))
 
 -- a text is set and then shown
-pub Run-hi : (limit : ℕ) → 2 ≤ limit → Run limit first (SetText (codes "hi") ∷ PrintText ∷ []) (codes "ok\ntext 2\nhi\n") 0 (session_of (codes "hi"))
+pub Run-hi : (limit : ℕ) → 2 ≤ limit → Run limit first_state (SetText (codes "hi") ∷ PrintText ∷ []) (codes "ok\ntext 2\nhi\n") 0 (session_of (codes "hi"))
 unfolding digits encode
 Run-hi limit enough =
-    Run-append limit first (session_of (codes "hi")) (session_of (codes "hi")) (SetText (codes "hi") ∷ []) (PrintText ∷ []) (codes "ok\n") (codes "text 2\nhi\n") 0 0
-    (Run-one limit first (session_of (codes "hi")) (SetText (codes "hi")) (Ok Done) (codes "ok\n") 0
+    Run-append limit first_state (session_of (codes "hi")) (session_of (codes "hi")) (SetText (codes "hi") ∷ []) (PrintText ∷ []) (codes "ok\n") (codes "text 2\nhi\n") 0 0
+    (Run-one limit first_state (session_of (codes "hi")) (SetText (codes "hi")) (Ok Done) (codes "ok\n") 0
     set (inr (record { reply = Done; new = session_of (codes "hi"); step = set; rows = refl })) (record { rows = []; listed = refl; shown = refl }))
     (Run-one limit (session_of (codes "hi")) (session_of (codes "hi")) PrintText (Ok Print) (codes "text 2\nhi\n") 0
     shown (inr (record { reply = Print; new = session_of (codes "hi"); step = shown; rows = refl })) (record { rows = []; listed = refl; shown = refl }))
   where
-    accepts : Accepts limit first (SetText (codes "hi"))
-    accepts = accepted_text limit first (codes "hi") IsUtf8-hi (omega arith)
+    accepts : Accepts limit first_state (SetText (codes "hi"))
+    accepts = accepted_text limit first_state (codes "hi") IsUtf8-hi (omega arith)
 
-    set : Step limit first (SetText (codes "hi")) (Ok Done) (session_of (codes "hi"))
+    set : Step limit first_state (SetText (codes "hi")) (Ok Done) (session_of (codes "hi"))
     set = (accepts, (codes "hi", record { scalars = refl; spelled = refl }, refl))
 
     shown : Step limit (session_of (codes "hi")) PrintText (Ok Print) (session_of (codes "hi"))

@@ -9,7 +9,7 @@ use Rattle.rope_search.specs.declared.commands.Reply.TheVariants.{Done, Number, 
 use Rattle.rope_search.specs.declared.endings.Ended.TheVariants.{Input, Command, Cut}
 use Rattle.rope_search_reports.specs.Report.{line_texts}
 use Rattle.rope_search.specs.Places.{IsBetween, IsEdit}
-use Rattle.rope_search.specs.Session.{State, fresh, first, current_text, with_edit, undone, redone}
+use Rattle.rope_search.specs.Session.{State, fresh, first_state, current_text, with_edit, undone, redone}
 use Rattle.rope_search.specs.Reads.{digits_after}
 use Rattle.rope_search.specs.Shows.{shows, closing}
 
@@ -27,10 +27,10 @@ digits_many = refl
 abbrev pub session_of : List ℕ → State
 session_of text = record { buffers = fresh text ∷ []; chosen = 0 }
 
-pub shows_done : shows first [] (Ok Done) ≡ codes "ok\n"
+pub shows_done : shows first_state [] (Ok Done) ≡ codes "ok\n"
 shows_done = refl
 
-pub shows_number : shows first [] (Ok (Number 12)) ≡ codes "ok 12\n"
+pub shows_number : shows first_state [] (Ok (Number 12)) ≡ codes "ok 12\n"
 unfolding digits
 shows_number = refl
 
@@ -40,33 +40,33 @@ unfolding digits encode
 shows_print = refl
 
 -- a report of two lines with one match each
-pub shows_list : shows first (((0, 1) ∷ []) ∷ ((0, 1) ∷ []) ∷ []) (Ok Listing) ≡ codes "m 0 0 1\nm 1 0 1\nok 2\n"
+pub shows_list : shows first_state (((0, 1) ∷ []) ∷ ((0, 1) ∷ []) ∷ []) (Ok Listing) ≡ codes "m 0 0 1\nm 1 0 1\nok 2\n"
 unfolding digits
 shows_list = refl
 
-pub shows_empty : shows first [] (Ok Print) ≡ codes "text 0\n\n"
+pub shows_empty : shows first_state [] (Ok Print) ≡ codes "text 0\n\n"
 unfolding digits
 shows_empty = refl
 
-pub shows_nothing : shows first [] (Err Nothing) ≡ codes "error none\n"
+pub shows_nothing : shows first_state [] (Err Nothing) ≡ codes "error none\n"
 shows_nothing = refl
 
-pub shows_range : shows first [] (Err Range) ≡ codes "error range\n"
+pub shows_range : shows first_state [] (Err Range) ≡ codes "error range\n"
 shows_range = refl
 
-pub shows_utf8 : shows first [] (Err Utf8) ≡ codes "error utf8\n"
+pub shows_utf8 : shows first_state [] (Err Utf8) ≡ codes "error utf8\n"
 shows_utf8 = refl
 
-pub shows_pattern : shows first [] (Err Pattern) ≡ codes "error pattern\n"
+pub shows_pattern : shows first_state [] (Err Pattern) ≡ codes "error pattern\n"
 shows_pattern = refl
 
-pub shows_limit : shows first [] (Err Limit) ≡ codes "error limit\n"
+pub shows_limit : shows first_state [] (Err Limit) ≡ codes "error limit\n"
 shows_limit = refl
 
-pub shows_size : shows first [] (Err Size) ≡ codes "error size\n"
+pub shows_size : shows first_state [] (Err Size) ≡ codes "error size\n"
 shows_size = refl
 
-pub shows_memory : shows first [] (Err Memory) ≡ codes "error memory\n"
+pub shows_memory : shows first_state [] (Err Memory) ≡ codes "error memory\n"
 shows_memory = refl
 
 pub closing_input : closing Input ≡ []

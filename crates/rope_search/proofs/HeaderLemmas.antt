@@ -8,7 +8,7 @@ use Rattle.rope_search.proofs.ReadLaws.{fronts_same}
 use Rattle.rope_search.proofs.LineLaws.{positions_same, IsLine-first, IsLine-third}
 use Rattle.std.proofs.Math.Seq.{drop-cons}
 use Rattle.rope_search.specs.Reads.{IsNumber, AreSpelled, IsWorded, IsLine, digits_after}
-use Rattle.rope_search.specs.Header.{Spelling, IsDigit, IsHeaderOf, HasNoSpace, EndsNumber, Begins}
+use Rattle.rope_search.specs.Header.{Spelling, IsDigit, IsHeaderOf, HasNoSpace, EndsNumber, SpellsFront}
 
 -- more digits never spell less
 pub digits_after-le : (n : ℕ) (digits : List ℕ) → n ≤ digits_after n digits
@@ -64,7 +64,7 @@ Spelling-stop digits i value inside bad before n number =
 
 -- a number that comes first
 pub Begins-number : (bytes digits others : List ℕ) (n : ℕ) → HasNoSpace digits → EndsNumber others → bytes ≡ 32 ∷ digits ++ others → IsNumber digits n
-    → Begins bytes (n ∷ []) others
+    → SpellsFront bytes (n ∷ []) others
 Begins-number bytes digits others n clean ends whole number ns = (first ns, λ h. subst (λ ms. AreSpelled ms bytes) (sym h.1) (digits, others, number, h.2, whole))
   where
     first : (ns : List ℕ) → AreSpelled ns bytes → (later : List ℕ) × (ns ≡ (n ∷ []) ++ later) × AreSpelled later others
@@ -79,7 +79,7 @@ pub Begins-none : (bytes digits others : List ℕ) → HasNoSpace digits → End
 Begins-none bytes digits others clean ends whole none n ns h = none n (AreSpelled-first n ns digits others bytes clean ends whole h).0
 
 -- numbers and then others
-pub Begins-then : (a b c xs ys : List ℕ) → Begins a xs b → Begins b ys c → Begins a (xs ++ ys) c
+pub Begins-then : (a b c xs ys : List ℕ) → SpellsFront a xs b → SpellsFront b ys c → SpellsFront a (xs ++ ys) c
 Begins-then a b c xs ys p q ns = (
   λ h.
       let one = (p ns).0 h in
@@ -93,7 +93,7 @@ spelled_nothing [] h = refl
 spelled_nothing (n ∷ ns) h = let e : [] ≡ 32 ∷ h.0 ++ h.1 = h.4 in absurd (cc)
 
 -- a word and these numbers, and no more
-pub IsWorded-told : (word line rest others ns : List ℕ) → line ≡ word ++ rest → Begins rest ns others → others ≡ [] → (ms : List ℕ) → IsWorded word line ms ↔ ms ≡ ns
+pub IsWorded-told : (word line rest others ns : List ℕ) → line ≡ word ++ rest → SpellsFront rest ns others → others ≡ [] → (ms : List ℕ) → IsWorded word line ms ↔ ms ≡ ns
 IsWorded-told word line rest others ns whole begins none ms = (
   λ h.
       let spelled = subst (AreSpelled ms) (append_cancel_left word h.0 rest (sym h.2 ∙ whole)) h.1 in
@@ -107,7 +107,7 @@ pub IsWorded-none : (word line rest ns : List ℕ) → line ≡ word ++ rest →
 IsWorded-none word line rest ns whole none h = none (subst (AreSpelled ns) (append_cancel_left word h.0 rest (sym h.2 ∙ whole)) h.1)
 
 -- a word and these numbers, and more
-pub IsWorded-more : (word line rest others ns : List ℕ) → line ≡ word ++ rest → Begins rest ns others → (others ≡ [] → ⊥) → (ms : List ℕ) → length ms ≡ length ns
+pub IsWorded-more : (word line rest others ns : List ℕ) → line ≡ word ++ rest → SpellsFront rest ns others → (others ≡ [] → ⊥) → (ms : List ℕ) → length ms ≡ length ns
     → IsWorded word line ms → ⊥
 IsWorded-more word line rest others ns whole begins some ms same h =
     let spelled = subst (AreSpelled ms) (append_cancel_left word h.0 rest (sym h.2 ∙ whole)) h.1 in
@@ -119,7 +119,7 @@ IsWorded-more word line rest others ns whole begins some ms same h =
     no_more ns ms (x ∷ later) e same h = absurd (omega (arith, ap length e, same, length-append ns (x ∷ later)))
 
 -- what follows the first of some numbers
-pub Begins-rest : (bytes xs rest ms ys : List ℕ) → Begins bytes xs rest → length ms ≡ length xs → AreSpelled (ms ++ ys) bytes → AreSpelled ys rest
+pub Begins-rest : (bytes xs rest ms ys : List ℕ) → SpellsFront bytes xs rest → length ms ≡ length xs → AreSpelled (ms ++ ys) bytes → AreSpelled ys rest
 Begins-rest bytes xs rest ms ys begins same h =
     let parts = (begins (ms ++ ys)).0 h in
     let rests = fronts_same ms xs ys parts.0 same parts.1 in

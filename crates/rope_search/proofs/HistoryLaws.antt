@@ -13,7 +13,7 @@ use Rattle.rope_search.specs.Session.{State, BufferState, fresh, current_text, c
 use Rattle.rope_search.specs.Replacing.{text_with}
 use Rattle.rope_search.specs.Shows.{Shows, shown_text, shown_report}
 use Rattle.rope_search.specs.Step.{Answer, Step}
-use Rattle.rope_search.specs.Laws.{HasCurrent, AreAlike, UndoUndoesEdit, UndoUndoesReplace, RedoRedoesUndo, RepliesAlike}
+use Rattle.rope_search.specs.Laws.{HasCurrent, AreChosenAlike, UndoUndoesEdit, UndoUndoesReplace, RedoRedoesUndo, RepliesAlike}
 
 -- ---- the chosen buffer of a session
 
@@ -32,7 +32,7 @@ kept_text (t ∷ ts) (suc n) (suc m) more inside kept = kept_text ts n m more (o
 
 -- an undo directly after a further text gives back text and pattern
 undone_edit : (limit : ℕ) (old edited new : State) (text : List ℕ) (reply : Reply) → HasCurrent old → edited ≡ with_chosen old (with_edit (chosen_buffer old) text)
-    → Step limit edited UndoEdit (Ok reply) new → AreAlike new old
+    → Step limit edited UndoEdit (Ok reply) new → AreChosenAlike new old
 undone_edit limit old edited new text Done current is step =
     let buffer = chosen_buffer old in
     let with = with_edit buffer text in

@@ -64,9 +64,6 @@ led-more texts changes text further current inside same led lead = λ k low.
           (subst (λ cs. Lead cs (text_at texts current) text) (sym three) lead))
     ]
 
-pub led-one : (text : List ℕ) (changes : List (List Change)) → LeadOn (text ∷ []) changes
-led-one text changes = λ k low. absurd (omega (arith, low))
-
 -- the changes that led to a text that isn't the first
 pub led-to : (texts : List (List ℕ)) (changes : List (List Change)) (current : ℕ) → LeadOn texts changes → (current ≡ 0 → ⊥) → current < length texts
     → Lead (changes_at changes current) (text_at texts (current - 1)) (text_at texts current)

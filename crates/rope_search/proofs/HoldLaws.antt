@@ -6,7 +6,7 @@ use Rattle.std.proofs.lemmas.List.{get_or_past}
 use Rattle.std.proofs.lemmas.List.Elements.{All-nil, All-cons}
 use Rattle.rope_search_reports.specs.Text.{IsText}
 use Rattle.rope_search_reports.specs.Pattern.{IsPattern}
-use Rattle.rope_search.specs.Session.{BufferState, State, first, fresh, current_text, chosen_buffer}
+use Rattle.rope_search.specs.Session.{BufferState, State, first_state, fresh, current_text, chosen_buffer}
 use Rattle.rope_search.specs.Laws.{HoldsTexts, AllHoldTexts}
 
 pub one_text : (text : List ℕ) → IsText text → All IsText (text ∷ [])
@@ -33,5 +33,5 @@ pattern_holds b p h is =
     let told : IfSome (Some p) (λ q. IsText q × IsPattern q) = subst (λ o. IfSome o (λ q. IsText q × IsPattern q)) is h.pattern in
     told.1
 
-pub first_holds : AllHoldTexts first
+pub first_holds : AllHoldTexts first_state
 first_holds = All-cons HoldsTexts (fresh []) [] (holds_fresh [] refl) (All-nil HoldsTexts)

@@ -1,16 +1,12 @@
 -- What a buffer keeps of an edit and of a replacement.
 use Rattle.std.proofs.Common.{◌≡◌, ℕ, ◌+◌, ◌-◌, List, [], ◌∷◌, ◌++◌, take, drop, sym, ap, ◌∙◌, subst, arith}
-use Rattle.std.specs.Prelude.{Some}
 use Rattle.str_indices.specs.Text.{byte_len}
-use Rattle.rope_search_reports.specs.Text.{bytes_of}
-use Rattle.rope_search_reports.specs.Replacement.{changes_of}
 use Rattle.rope_search_changes.specs.declared.Change.{Change}
 use Rattle.rope_search_reports.specs.declared.positions.Position.{Position}
 use Rattle.rope_search.specs.declared.parts.Part.{Part}
 use Rattle.rope_search.specs.Session.{LimitedBuffer, current_text}
 use Rattle.rope_search.specs.Places.{IsMarked, IsMarkedBetween}
-use Rattle.rope_search.specs.Histories.{with_changes, KeepsEdit, KeepsReplacement, AreReplacements}
-use Rattle.rope_search.proofs.MatchLemmas.{in_buffer}
+use Rattle.rope_search.specs.Histories.{with_changes, KeepsEdit}
 use Rattle.rope_search.proofs.PartLaws.{byte_len-append, take_between}
 
 -- a change by its places
@@ -44,12 +40,3 @@ keeps_edit old new from to text inserted part change len here marked is long kep
       between = own.between;
       kept = kept ∙ ap (λ c. with_changes old (c ∷ [])) (is ∙ places_are t inserted part len own.marked long);
     }
-
-pub keeps_replacement : (old new : LimitedBuffer) (pattern text template : List ℕ) (changes : List Change) → old.state.pattern ≡ Some pattern
-    → text ≡ current_text old.state → AreReplacements text pattern template changes → new.changes ≡ with_changes old changes
-    → KeepsReplacement old template new
-keeps_replacement old new pattern text template changes is here are kept = record {
-  matches = are.matches;
-  are = in_buffer old.state pattern text are.matches is here are.are;
-  kept = kept ∙ ap (with_changes old) (are.told ∙ ap (λ t. changes_of (bytes_of t) template 0 0 are.matches) here);
-}

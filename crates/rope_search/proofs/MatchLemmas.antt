@@ -12,9 +12,9 @@ use Rattle.rope_search_reports.specs.Replacement.{Groups, AreMatchesIn, Replacem
 use Rattle.rope_search_reports.specs.Text.{IsText, bytes_of}
 use Rattle.rope_search_templates.specs.Laws.{ReplaceAlike, SpansAreEnough}
 use Rattle.rope_search_templates.specs.Templates.{names_explicit_groups}
-use Rattle.rope_search.specs.Session.{BufferState, current_text, with_edit}
+use Rattle.rope_search.specs.Session.{BufferState, current_text}
 use Rattle.rope_search.specs.Histories.{AreReplacements}
-use Rattle.rope_search.specs.Replacing.{AreAllMatches, AreEnough, IsReplacement, GetsTooLongWith, RowsOfReplacement, IsReplacementIn, GetsTooLongIn, RowsOfReplacementIn}
+use Rattle.rope_search.specs.Replacing.{AreMatchesOfBuffer, AreEnough, GetsTooLongWith, RowsOfReplacement, GetsTooLongIn, RowsOfReplacementIn}
 
 -- ---- of these matches all is known
 
@@ -36,10 +36,6 @@ rows_in one text pattern template matches n are rows =
 
 -- ---- matches that will do
 
--- for the same template
-enough_for : (text pattern template told : List ℕ) (shown : List Groups) → told ≡ template → AreEnough text pattern told shown → AreEnough text pattern template shown
-enough_for text pattern template told shown same enough = subst (λ t. AreEnough text pattern t shown) same enough
-
 -- what they leave is what all matches do
 replaced_alike : (text pattern template told : List ℕ) (shown : List Groups) → told ≡ template → (enough : AreEnough text pattern told shown)
     → replaced (bytes_of text) told 0 shown ≡ replaced (bytes_of text) template 0 enough.groups
@@ -52,23 +48,6 @@ pub not_over : HasOneListOfGroups → (limit : ℕ) (text pattern template told 
 not_over one limit text pattern template told shown enough same fits gets =
     let long = (long_in one limit text pattern template enough.groups enough.are).1 gets in
     fits (omega (arith, long, ap byte_len (replaced_alike text pattern template told shown same enough)))
-
-pub too_long : (limit : ℕ) (text pattern template told : List ℕ) (shown : List Groups) → AreEnough text pattern told shown
-    → told ≡ template → limit < byte_len (replaced (bytes_of text) told 0 shown) → GetsTooLongIn limit text pattern template
-too_long limit text pattern template told shown enough same long = record {
-  matches = enough.groups;
-  are = enough.are;
-  long = omega (arith, long, ap byte_len (replaced_alike text pattern template told shown same enough));
-}
-
-pub replacement_by : (text pattern template told new : List ℕ) (shown : List Groups) (count : ℕ) → AreEnough text pattern told shown → told ≡ template
-    → count ≡ length shown → new ≡ replaced (bytes_of text) told 0 shown → IsReplacementIn text pattern template count new
-replacement_by text pattern template told new shown count enough same counted new_is = record {
-  matches = enough.groups;
-  are = enough.are;
-  counted = counted ∙ enough.counted;
-  changed = new_is ∙ replaced_alike text pattern template told shown same enough;
-}
 
 -- what was made of them are changes
 pub changed_by : ReplacementsAreChanges → (text pattern template told new : List ℕ) (shown : List Groups) (changes : List Change) → IsText text
@@ -124,7 +103,7 @@ enough_groups text pattern template groups are stand = record {
 
 -- they are the matches of the buffer's pattern
 pub in_buffer : (b : BufferState) (pattern text : List ℕ) (matches : List Groups) → b.pattern ≡ Some pattern → text ≡ current_text b
-    → AreGroups pattern (bytes_of text) matches → AreAllMatches b matches
+    → AreGroups pattern (bytes_of text) matches → AreMatchesOfBuffer b matches
 in_buffer b pattern text matches is here are = record {
   pattern = pattern;
   is_pattern = is;
@@ -133,20 +112,11 @@ in_buffer b pattern text matches is here are = record {
 
 -- and these are they
 in_text : (b : BufferState) (pattern text : List ℕ) (matches : List Groups) → b.pattern ≡ Some pattern → text ≡ current_text b
-    → AreAllMatches b matches → AreGroups pattern (bytes_of text) matches
+    → AreMatchesOfBuffer b matches → AreGroups pattern (bytes_of text) matches
 in_text b pattern text matches is here all =
     let both : Some all.pattern ≡ Some pattern = sym all.is_pattern ∙ is in
     let same : all.pattern ≡ pattern = cc in
     subst (λ t. AreGroups pattern (bytes_of t) matches) (sym here) (subst (λ p. AreGroups p (bytes_of (current_text b)) matches) same all.are)
-
-pub replaced_in : (b new : BufferState) (pattern text template : List ℕ) (count : ℕ) (left : List ℕ) → b.pattern ≡ Some pattern → text ≡ current_text b
-    → IsReplacementIn text pattern template count left → new ≡ with_edit b left → IsReplacement b template count new
-replaced_in b new pattern text template count left is here told changed = record {
-  matches = told.matches;
-  are = in_buffer b pattern text told.matches is here told.are;
-  counted = told.counted;
-  changed = changed ∙ ap (with_edit b) (told.changed ∙ ap (λ t. replaced (bytes_of t) template 0 told.matches) here);
-}
 
 pub long_with : (limit : ℕ) (b : BufferState) (pattern text template : List ℕ) → b.pattern ≡ Some pattern → text ≡ current_text b
     → GetsTooLongIn limit text pattern template ↔ GetsTooLongWith limit b template

@@ -11,34 +11,34 @@ use Rattle.rope_search.specs.declared.commands.Reply.{Reply}
 use Rattle.rope_search.specs.declared.commands.Reply.TheVariants.{Done, Found, NoMatch}
 use Rattle.rope_search_reports.specs.declared.positions.Position.{Position}
 use Rattle.rope_search_reports.specs.Text.{bytes_of}
-use Rattle.rope_search_reports.specs.Pattern.{Finds}
+use Rattle.rope_search_reports.specs.Pattern.{FindsSpan}
 use Rattle.rope_search_reports.specs.Laws.{FindsAreInText}
 use Rattle.rope_search_reports.specs.Position.{IsAt, IsNowhere}
 use Rattle.rope_search.specs.Order.{FindNext}
 use Rattle.rope_search.specs.Session.{State, current_text, chosen_buffer}
-use Rattle.rope_search.specs.Finding.{ArePositionsOf, FindsNext, TellsNext}
+use Rattle.rope_search.specs.Finding.{ArePositionsOf, FindsFromPosition, TellsPositions}
 use Rattle.rope_search.specs.Places.{IsBetween}
 use Rattle.rope_search.specs.Shows.{shows}
 use Rattle.rope_search.specs.Step.{Answer, Does, IsFirstRefusal, Refuses, Step}
-use Rattle.rope_search.specs.Laws.{AllHoldTexts, AreAlike, EditsHavePlaces, FindsAlike, FindsBoundaries, HavePlaces, Known}
+use Rattle.rope_search.specs.Laws.{AllHoldTexts, AreChosenAlike, EditsHavePlaces, FindsAlike, FindsBoundaries, HavePlaces, Known}
 use Rattle.rope_search.proofs.HoldLaws.{chosen_holds, text_holds}
 use Rattle.rope_search.proofs.StepLaws.{IsFirstRefusal-one, Step-told, next_one}
 
 -- ---- replies to `next`
 
-turned : (s t : State) → AreAlike s t → AreAlike t s
+turned : (s t : State) → AreChosenAlike s t → AreChosenAlike t s
 turned s t alike = record { text = sym alike.text; pattern = sym alike.pattern }
 
-finds_next_alike : (s t : State) (from : Position) (found : Option (ℕ × ℕ)) → AreAlike s t → FindsNext (chosen_buffer t) from found → FindsNext (chosen_buffer s) from found
+finds_next_alike : (s t : State) (from : Position) (found : Option (ℕ × ℕ)) → AreChosenAlike s t → FindsFromPosition (chosen_buffer t) from found → FindsFromPosition (chosen_buffer s) from found
 finds_next_alike s t from found alike finds = record {
   pattern = finds.pattern;
   place = finds.place;
   is_pattern = alike.pattern ∙ finds.is_pattern;
   starts = subst (λ x. IsAt x (from.line, from.column) finds.place) (sym alike.text) finds.starts;
-  finds = subst (λ x. Finds finds.pattern (bytes_of x) finds.place found) (sym alike.text) finds.finds;
+  finds = subst (λ x. FindsSpan finds.pattern (bytes_of x) finds.place found) (sym alike.text) finds.finds;
 }
 
-tells_alike : (s t : State) (from : Position) (told : Option (Position × Position)) → AreAlike s t → TellsNext (chosen_buffer t) from told → TellsNext (chosen_buffer s) from told
+tells_alike : (s t : State) (from : Position) (told : Option (Position × Position)) → AreChosenAlike s t → TellsPositions (chosen_buffer t) from told → TellsPositions (chosen_buffer s) from told
 tells_alike s t from None alike tells = finds_next_alike s t from None alike tells
 tells_alike s t from (Some told) alike tells = (
   tells.0,
@@ -47,18 +47,18 @@ tells_alike s t from (Some told) alike tells = (
 )
 
 -- the other session's reply may be given here too
-does_alike : (s t new : State) (from : Position) (reply : Reply) → AreAlike s t → Does t (FindNext from) reply new → Does s (FindNext from) reply s
+does_alike : (s t new : State) (from : Position) (reply : Reply) → AreChosenAlike s t → Does t (FindNext from) reply new → Does s (FindNext from) reply s
 does_alike s t new from (Found a z) alike does = (tells_alike s t from (Some (a, z)) alike does.0, refl)
 does_alike s t new from NoMatch alike does = (tells_alike s t from None alike does.0, refl)
 does_alike s t new from reply alike does = absurd does
 
 -- and it is refused here for the same
-refuses_alike : (limit limit' : ℕ) (s t : State) (from : Position) (fault : Fault) → AreAlike s t → Refuses limit' t (FindNext from) fault → Refuses limit s (FindNext from) fault
+refuses_alike : (limit limit' : ℕ) (s t : State) (from : Position) (fault : Fault) → AreChosenAlike s t → Refuses limit' t (FindNext from) fault → Refuses limit s (FindNext from) fault
 refuses_alike limit limit' s t from Nothing alike refuses = alike.pattern ∙ refuses
 refuses_alike limit limit' s t from Range alike refuses = subst (λ x. IsNowhere x (from.line, from.column)) (sym alike.text) refuses
 refuses_alike limit limit' s t from fault alike refuses = absurd refuses
 
-first_alike : (limit limit' : ℕ) (s t : State) (from : Position) (fault : Fault) → AreAlike s t → IsFirstRefusal limit' t (FindNext from) fault → IsFirstRefusal limit s (FindNext from) fault
+first_alike : (limit limit' : ℕ) (s t : State) (from : Position) (fault : Fault) → AreChosenAlike s t → IsFirstRefusal limit' t (FindNext from) fault → IsFirstRefusal limit s (FindNext from) fault
 first_alike limit limit' s t from fault alike first = record {
   refuses = refuses_alike limit limit' s t from fault alike first.refuses;
   none_before = λ other below refuses. first.none_before other below (refuses_alike limit' limit t s from other (turned s t alike) refuses);
@@ -70,7 +70,7 @@ reply_shown s t old from (Found a z) rows rows' does = refl
 reply_shown s t old from NoMatch rows rows' does = refl
 reply_shown s t old from reply rows rows' does = absurd does
 
-answers_alike : Known → (limit limit' : ℕ) (s t new new' : State) (from : Position) (a b : Answer) → AllHoldTexts s → AreAlike s t → Step limit s (FindNext from) a new → Step limit' t (FindNext from) b new'
+answers_alike : Known → (limit limit' : ℕ) (s t new new' : State) (from : Position) (a b : Answer) → AllHoldTexts s → AreChosenAlike s t → Step limit s (FindNext from) a new → Step limit' t (FindNext from) b new'
     → a ≢ Err Memory → b ≢ Err Memory → (rows rows' : List (List (ℕ × ℕ))) → shows new rows a ≡ shows new' rows' b
 answers_alike known limit limit' s t new new' from (Ok p) (Ok q) all alike one other memory memory' rows rows' =
     let same : p ≡ q = next_one known s from p q new s all one.1 (does_alike s t new' from q alike other.1) in

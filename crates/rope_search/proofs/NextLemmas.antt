@@ -7,30 +7,30 @@ use Rattle.rope_search_reports.specs.declared.positions.Position.{Position}
 use Rattle.rope_search_reports.specs.Position.{IsNowhere}
 use Rattle.rope_search.specs.Order.{FindNext}
 use Rattle.rope_search.specs.Session.{BufferState, State, LimitedBuffer, LimitedSession, current_text, chosen_buffer}
-use Rattle.rope_search.specs.Finding.{FindsNext, FindsIn, TellsIn, TellsNext, reply_for}
+use Rattle.rope_search.specs.Finding.{FindsFromPosition, FindsIn, TellsIn, TellsPositions, reply_for}
 use Rattle.rope_search.specs.Step.{Step}
 use Rattle.rope_search.proofs.SessionLemmas.{Chosen, Chosen-state, Chosen-kept, state_with}
 use Rattle.rope_search.proofs.StepLaws.{accepted_next, refused_next, refused_astray}
 
 -- what is found in the buffer's text for its pattern is what the buffer has next
-in_buffer : (b : BufferState) (p : List ℕ) (from : Position) (found : Option (ℕ × ℕ)) → b.pattern ≡ Some p → FindsIn (current_text b) p from found → FindsNext b from found
+in_buffer : (b : BufferState) (p : List ℕ) (from : Position) (found : Option (ℕ × ℕ)) → b.pattern ≡ Some p → FindsIn (current_text b) p from found → FindsFromPosition b from found
 in_buffer b p from found is finds = record { pattern = p; place = finds.place; is_pattern = is; starts = finds.starts; finds = finds.finds }
 
-pub told_in : (b : BufferState) (p : List ℕ) (from : Position) (found : Option (Position × Position)) → b.pattern ≡ Some p → TellsIn (current_text b) p from found → TellsNext b from found
+pub told_in : (b : BufferState) (p : List ℕ) (from : Position) (found : Option (Position × Position)) → b.pattern ≡ Some p → TellsIn (current_text b) p from found → TellsPositions b from found
 told_in b p from None is tells = in_buffer b p from None is tells
 told_in b p from (Some told) is tells = (tells.0, in_buffer b p from (Some tells.0) is tells.1, tells.2)
 
 has_one : (pattern : Option (List ℕ)) (p : List ℕ) → pattern ≡ Some p → pattern ≢ None
 has_one pattern p is none = let e : Some p ≡ None = sym is ∙ none in cc
 
-next_of : (limit : ℕ) (s : State) (from : Position) (found : Option (Position × Position)) → TellsNext (chosen_buffer s) from found → Step limit s (FindNext from) (Ok (reply_for found)) s
+next_of : (limit : ℕ) (s : State) (from : Position) (found : Option (Position × Position)) → TellsPositions (chosen_buffer s) from found → Step limit s (FindNext from) (Ok (reply_for found)) s
 next_of limit s from None tells = (accepted_next limit s from tells.place (has_one _ tells.pattern tells.is_pattern) tells.starts, (tells, refl))
 next_of limit s from (Some told) tells = (accepted_next limit s from tells.1.place (has_one _ tells.1.pattern tells.1.is_pattern) tells.1.starts, (tells, refl))
 
 pub Step-next : (items : List LimitedBuffer) (k limit : ℕ) (old new : LimitedBuffer) (s : LimitedSession) (from : Position) (found : Option (Position × Position)) → Chosen items k limit old s
-    → new ≡ old → TellsNext old.state from found → Step s.limit s.state (FindNext from) (Ok (reply_for found)) (state_with items k new)
+    → new ≡ old → TellsPositions old.state from found → Step s.limit s.state (FindNext from) (Ok (reply_for found)) (state_with items k new)
 Step-next items k limit old new s from found c same tells =
-    let told : TellsNext (chosen_buffer s.state) from found = subst (λ b. TellsNext b from found) (sym (Chosen-state items k limit old s c)) tells in
+    let told : TellsPositions (chosen_buffer s.state) from found = subst (λ b. TellsPositions b from found) (sym (Chosen-state items k limit old s c)) tells in
     subst (Step s.limit s.state (FindNext from) (Ok (reply_for found))) (sym (Chosen-kept items k limit old new s c same)) (next_of s.limit s.state from found told)
 
 pub Step-next_err : (items : List LimitedBuffer) (k limit : ℕ) (old new : LimitedBuffer) (s : LimitedSession) (from : Position) (fault : Fault) → Chosen items k limit old s

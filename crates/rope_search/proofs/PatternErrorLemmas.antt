@@ -1,5 +1,5 @@
 -- What is told of bytes that may be a pattern.
-use Rattle.std.proofs.Common.{◌≡◌, ◌↔◌, ◌≤◌, ◌<◌, ℕ, List, length, chars, IsSome, refl, ap, subst, arith}
+use Rattle.std.proofs.Common.{◌≡◌, ◌↔◌, ◌≤◌, ◌<◌, ℕ, List, length, IsSome, refl, ap, subst, arith}
 use Rattle.std.specs.Prelude.{Option, None, Some}
 use Rattle.rx_grammar.specs.declared.refusals.Refusal.{Refusal}
 use Rattle.rx_grammar.specs.Refusals.{SpellsSome}

@@ -6,7 +6,7 @@ use Rattle.std.proofs.lemmas.List.{length-take-le}
 use Rattle.rope_search.specs.declared.endings.Ended.{Ended}
 use Rattle.rope_search.specs.declared.endings.Ended.TheVariants.{Input, Command, Cut}
 use Rattle.rope_search.specs.Order.{Order, SetText, EditText, SetPattern, ReplaceAll}
-use Rattle.rope_search.specs.Reads.{IsWorded, payload_of, IsLine, Spells, SpellAll, HasNoLf, Ends, Reads}
+use Rattle.rope_search.specs.Reads.{IsWorded, payload_of, IsLine, SpellsOrder, SpellAll, HasNoLf, Ends, Reads}
 use Rattle.rope_search.proofs.LineLaws.{line_choice, IsLine-one, IsLine-same, HasNoLf-line, length-line_le}
 
 -- ---- cutting at the first LF
@@ -79,15 +79,15 @@ cut_choice (suc n) (b ∷ bytes) = elim (cases_eq b 10) [
 -- ---- one command
 
 -- a command is spelled by some bytes
-pub Spells-some : (o : Order) (bytes : List ℕ) → Spells o bytes → 0 < length bytes
+pub Spells-some : (o : Order) (bytes : List ℕ) → SpellsOrder o bytes → 0 < length bytes
 Spells-some o bytes spells = omega (arith, ap length spells.whole, length-append spells.line (10 ∷ payload_of o))
 
 -- a command's line, and what follows it
-pub Spells-line : (o : Order) (front back : List ℕ) → (spells : Spells o front) → front ++ back ≡ spells.line ++ 10 ∷ (payload_of o ++ back)
+pub Spells-line : (o : Order) (front back : List ℕ) → (spells : SpellsOrder o front) → front ++ back ≡ spells.line ++ 10 ∷ (payload_of o ++ back)
 Spells-line o front back spells = ap (λ l. l ++ back) spells.whole ∙ append_assoc spells.line (10 ∷ payload_of o) back
 
 -- the command at the front of an input is one, and so is what follows it
-pub Spells-one : (o p : Order) (a b x y : List ℕ) → Spells o a → Spells p b → a ++ x ≡ b ++ y → (o ≡ p) × (x ≡ y)
+pub Spells-one : (o p : Order) (a b x y : List ℕ) → SpellsOrder o a → SpellsOrder p b → a ++ x ≡ b ++ y → (o ≡ p) × (x ≡ y)
 Spells-one o p a b x y one other whole =
     let cut = cut_one one.line other.line (payload_of o ++ x) (payload_of p ++ y) (HasNoLf-line o one.line one.is_line) (HasNoLf-line p other.line other.is_line)
     (sym (Spells-line o a x one) ∙ whole ∙ Spells-line p b y other) in
@@ -114,7 +114,7 @@ line_with o line more is_line enough = (o, is_line, refl)
 -- ---- endings
 
 -- where a command is spelled at the front, no ending is
-pub Spells-Ends : (o : Order) (front back : List ℕ) (e : Ended) → Spells o front → Ends (front ++ back) e → ⊥
+pub Spells-Ends : (o : Order) (front back : List ℕ) (e : Ended) → SpellsOrder o front → Ends (front ++ back) e → ⊥
 Spells-Ends o front back Input spells ends = omega (arith, Spells-some o front spells, ap length ends, length-append front back)
 Spells-Ends o front back Command spells (inl bad) =
     let cut = cut_one spells.line bad.line (payload_of o ++ back) bad.more (HasNoLf-line o spells.line spells.is_line) bad.no_lf (sym (Spells-line o front back spells) ∙ bad.whole) in
@@ -163,7 +163,7 @@ pub record NextCommand (input : List ℕ) : Type 0 where
   pub order : Order
   pub front : List ℕ
   pub back : List ℕ
-  pub spells : Spells order front
+  pub spells : SpellsOrder order front
   pub whole : input ≡ front ++ back
 
 -- an input begins with a command or with an ending
@@ -193,7 +193,7 @@ next_choice (b ∷ bytes) = elim (cut_choice 129 (b ∷ bytes)) [
 ]
 
 -- an input that begins with a command is read as that one and then as what follows it is
-pub Reads-cons : (o : Order) (os : List Order) (e : Ended) (front back : List ℕ) → Spells o front → Reads back os e → Reads (front ++ back) (o ∷ os) e
+pub Reads-cons : (o : Order) (os : List Order) (e : Ended) (front back : List ℕ) → SpellsOrder o front → Reads back os e → Reads (front ++ back) (o ∷ os) e
 Reads-cons o os e front back spells reads = record {
   spelled = front ++ reads.spelled;
   rest = reads.rest;

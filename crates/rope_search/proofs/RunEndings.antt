@@ -11,7 +11,7 @@ use Rattle.rope_search_reports.specs.Laws.{HasReport}
 use Rattle.rope_search.specs.declared.endings.Ended.{Ended}
 use Rattle.rope_search.specs.declared.endings.Ended.TheVariants.{Input, Command, Cut}
 use Rattle.rope_search_reports.specs.Ticks.{Ticks}
-use Rattle.rope_search.specs.Session.{first}
+use Rattle.rope_search.specs.Session.{first_state}
 use Rattle.rope_search.specs.Shows.{closing}
 use Rattle.rope_search.specs.Reads.{Reads, Ends}
 use Rattle.rope_search.specs.Answers.{Answers}
@@ -206,7 +206,7 @@ cut_short known reported limit source sink ticks mid new so turned =
     let orders = so.orders ++ turned.order ∷ [] in
     let shown = turned.reply.bytes in
     let spells = SpellAll-append so.orders (turned.order ∷ []) so.bytes turned.bytes so.spells (SpellAll-one turned.order turned.bytes turned.spells) in
-    let run = Run-push limit first mid.session new.session so.orders turned.order so.out so.cost turned.cost turned.answer shown so.run turned.step turned.costs turned.reply.shows in
+    let run = Run-push limit first_state mid.session new.session so.orders turned.order so.out so.cost turned.cost turned.answer shown so.run turned.step turned.costs turned.reply.shows in
     let unread = reads_exist new.buffer.bytes in
     let later = run_exists known reported limit new.session unread.0 (holds_always known limit new.session (so.orders ++ turned.order ∷ []) (so.out ++ turned.reply.bytes) (so.cost + turned.cost) run) in
     record {
@@ -222,7 +222,7 @@ cut_short known reported limit source sink ticks mid new so turned =
       read = consumed_left limit source sink ticks mid new so turned.bytes turned.taken.consumed;
       written = Appends-trans sink.held mid.sink.held new.sink.held so.out turned.reply.written.front so.written.appended turned.reply.written.appended;
       reads = Reads-after orders unread.0 unread.1 bytes new.buffer.bytes spells unread.2;
-      run = Run-append limit first new.session later.2 orders unread.0 (so.out ++ shown) later.0 (so.cost + turned.cost) later.1 run later.3;
+      run = Run-append limit first_state new.session later.2 orders unread.0 (so.out ++ shown) later.0 (so.cost + turned.cost) later.1 run later.3;
       met = inl (refl, turned.taken.open_end ∙ so.taken.open_end);
       front = append-nil ((so.out ++ shown) ++ later.0) ∙ ap (λ l. (so.out ++ l) ++ later.0) turned.reply.written.split
           ∙ ap (λ l. l ++ later.0) (sym (append_assoc so.out turned.reply.written.front turned.reply.written.lost)) ∙ append_assoc (so.out ++ turned.reply.written.front) turned.reply.written.lost later.0;

@@ -5,7 +5,7 @@ use Rattle.rope_search.specs.declared.endings.Ended.TheVariants.{Command}
 use Rattle.rope_search.specs.Order.{Order}
 use Rattle.rope_search.specs.Session.{State}
 use Rattle.rope_search.specs.Step.{Answer, Step}
-use Rattle.rope_search.specs.Reads.{Spells, SpellAll, IsBadLine, IsLongLine, Ends, Reads}
+use Rattle.rope_search.specs.Reads.{SpellsOrder, SpellAll, IsBadLine, IsLongLine, Ends, Reads}
 use Rattle.rope_search.specs.Shows.{Shows}
 use Rattle.rope_search.specs.Cost.{Costs}
 use Rattle.rope_search.specs.Answers.{Run, Answers}
@@ -22,7 +22,7 @@ SpellAll-append (o ∷ os) ps xs ys before after = record {
 }
 
 -- one command is spelled by its own bytes
-pub SpellAll-one : (o : Order) (xs : List ℕ) → Spells o xs → SpellAll (o ∷ []) xs
+pub SpellAll-one : (o : Order) (xs : List ℕ) → SpellsOrder o xs → SpellAll (o ∷ []) xs
 SpellAll-one o xs spells = record { front = xs; back = []; first = spells; others = refl; whole = sym (append-nil xs) }
 
 -- what is read behind some commands is read after them

@@ -169,9 +169,6 @@ cost_of_pattern : (items : List LimitedBuffer) (k limit : ℕ) (old : LimitedBuf
     → CostsAccepted s.limit s.state (SetPattern bytes) n → n ≡ line_count (current_text old.state)
 cost_of_pattern items k limit old bytes s n c costs = costs.rows ∙ told costs.reply costs.new costs.step.1
   where
-    with_one : List ℕ → BufferState
-    with_one p = with_pattern (chosen_buffer s.state) (Some p)
-
     told : (reply : Reply) (new : State) → Does s.state (SetPattern bytes) reply new → rows_of_report new ≡ line_count (current_text old.state)
     told Done new h =
         ap rows_of_report h.2

@@ -13,10 +13,10 @@ use Rattle.rope_search.specs.Session.{BufferState, State, fresh, current_text, c
 use Rattle.rope_search_reports.specs.declared.positions.Position.{Position}
 use Rattle.rope_search.specs.Places.{IsBetween, HasNoneBetween, GetsTooLong}
 use Rattle.rope_search.proofs.PartLaws.{edited_by, IsEdit-known, IsEdit-by, between_choice, long_choice}
-use Rattle.rope_search_reports.specs.Pattern.{IsPattern, IsTooHeavy, SpellsNone, Finds, pattern_limit}
+use Rattle.rope_search_reports.specs.Pattern.{IsPattern, IsTooHeavy, SpellsNone, FindsSpan, pattern_limit}
 use Rattle.rope_search_reports.specs.Position.{IsAt, IsNowhere, position}
-use Rattle.rope_search.specs.Finding.{FindsNext, TellsNext}
-use Rattle.rope_search.specs.Replacing.{AreAllMatches, IsReplacement, GetsTooLongWith, text_with}
+use Rattle.rope_search.specs.Finding.{FindsFromPosition, TellsPositions}
+use Rattle.rope_search.specs.Replacing.{AreMatchesOfBuffer, IsReplacement, GetsTooLongWith, text_with}
 use Rattle.rope_search_reports.specs.Matches.{AreGroups}
 use Rattle.rope_search_reports.specs.Replacement.{Groups, searched}
 use Rattle.rope_search.specs.Laws.{AllHoldTexts, HoldsTexts, Known}
@@ -138,7 +138,7 @@ matches_in known (Some p) content = matches_by known p content (known.told p)
 abbrev pub matches_of : Known → BufferState → List Groups
 matches_of known buffer = matches_in known buffer.pattern (bytes_of (current_text buffer))
 
-matches_of-are : (known : Known) (b : BufferState) (p : List ℕ) → HoldsTexts b → b.pattern ≡ Some p → AreAllMatches b (matches_of known b)
+matches_of-are : (known : Known) (b : BufferState) (p : List ℕ) → HoldsTexts b → b.pattern ≡ Some p → AreMatchesOfBuffer b (matches_of known b)
 matches_of-are known b p h is =
     let content = bytes_of (current_text b) in
     let it = pattern_holds b p h is in
@@ -149,7 +149,7 @@ matches_of-are known b p h is =
     }
 
 -- they are these and no others
-matches_known : (known : Known) (b : BufferState) (matches : List Groups) → HoldsTexts b → AreAllMatches b matches → matches ≡ matches_of known b
+matches_known : (known : Known) (b : BufferState) (matches : List Groups) → HoldsTexts b → AreMatchesOfBuffer b matches → matches ≡ matches_of known b
 matches_known known b matches h all =
     let content = bytes_of (current_text b) in
     let own = matches_by-are known all.pattern content (known.told all.pattern) (pattern_holds b all.pattern h all.is_pattern) in
@@ -427,7 +427,7 @@ abbrev pub spot_of : List ℕ → ℕ → Position
 spot_of text place = record { line = (position text place).0; column = (position text place).1 }
 
 -- something is told of what is found
-next_by : (old : State) (from : Position) (found : Option (ℕ × ℕ)) → FindsNext (chosen_buffer old) from found → (r : Reply) × Does old (FindNext from) r old
+next_by : (old : State) (from : Position) (found : Option (ℕ × ℕ)) → FindsFromPosition (chosen_buffer old) from found → (r : Reply) × Does old (FindNext from) r old
 next_by old from None finds = (NoMatch, (finds, refl))
 next_by old from (Some span) finds =
     let text = current_text (chosen_buffer old) in
@@ -501,13 +501,13 @@ same_some : {A : Type 0} (a b : A) → Some a ≡ Some b → a ≡ b
 same_some a b e = cc
 
 -- what is found from a position is one thing
-found_one : Known → (b : BufferState) (from : Position) (x y : Option (ℕ × ℕ)) → HoldsTexts b → FindsNext b from x → FindsNext b from y → x ≡ y
+found_one : Known → (b : BufferState) (from : Position) (x y : Option (ℕ × ℕ)) → HoldsTexts b → FindsFromPosition b from x → FindsFromPosition b from y → x ≡ y
 found_one known b from x y h one other =
     let text = current_text b in
     let pattern : one.pattern ≡ other.pattern = same_some one.pattern other.pattern (sym one.is_pattern ∙ other.is_pattern) in
     let place : one.place ≡ other.place = known.placed text (from.line, from.column) one.place other.place (text_holds b h) one.starts other.starts in
     known.one other.pattern (bytes_of text) other.place x y
-    (subst (λ p. Finds other.pattern (bytes_of text) p x) place (subst (λ q. Finds q (bytes_of text) one.place x) pattern one.finds)) other.finds
+    (subst (λ p. FindsSpan other.pattern (bytes_of text) p x) place (subst (λ q. FindsSpan q (bytes_of text) one.place x) pattern one.finds)) other.finds
 
 spot_one : (text : List ℕ) (p q : Position) (place place' : ℕ) → (p.line, p.column) ≡ position text place → (q.line, q.column) ≡ position text place' → place ≡ place' → p ≡ q
 spot_one text p q place place' one other same =
@@ -515,7 +515,7 @@ spot_one text p q place place' one other same =
     positions_same p q (ap (λ (x : ℕ × ℕ). x.0) e) (ap (λ (x : ℕ × ℕ). x.1) e)
 
 -- so it is told in one way
-found_told : Known → (b : BufferState) (from a z c y : Position) → HoldsTexts b → TellsNext b from (Some (a, z)) → TellsNext b from (Some (c, y)) → Found a z ≡ Found c y
+found_told : Known → (b : BufferState) (from a z c y : Position) → HoldsTexts b → TellsPositions b from (Some (a, z)) → TellsPositions b from (Some (c, y)) → Found a z ≡ Found c y
 found_told known b from a z c y h one other =
     let text = current_text b in
     let span : one.0 ≡ other.0 = same_some one.0 other.0 (found_one known b from (Some one.0) (Some other.0) h one.1 other.1) in
@@ -523,15 +523,15 @@ found_told known b from a z c y h one other =
     let ends : z ≡ y = spot_one text z y one.0.1 other.0.1 one.2.1 other.2.1 (ap (λ (x : ℕ × ℕ). x.1) span) in
     ap (λ p. Found p z) starts ∙ ap (λ p. Found c p) ends
 
-not_both : Known → (b : BufferState) (from a z : Position) → HoldsTexts b → TellsNext b from (Some (a, z)) → TellsNext b from None → ⊥
+not_both : Known → (b : BufferState) (from a z : Position) → HoldsTexts b → TellsPositions b from (Some (a, z)) → TellsPositions b from None → ⊥
 not_both known b from a z h one other = let e : Some one.0 ≡ None = found_one known b from (Some one.0) None h one.1 other in cc
 
-found_with : Known → (old : State) (from a z : Position) (q : Reply) (y : State) → AllHoldTexts old → TellsNext (chosen_buffer old) from (Some (a, z)) → Does old (FindNext from) q y → Found a z ≡ q
+found_with : Known → (old : State) (from a z : Position) (q : Reply) (y : State) → AllHoldTexts old → TellsPositions (chosen_buffer old) from (Some (a, z)) → Does old (FindNext from) q y → Found a z ≡ q
 found_with known old from a z (Found c d) y all one other = found_told known (chosen_buffer old) from a z c d (chosen_holds old all) one other.0
 found_with known old from a z NoMatch y all one other = absurd (not_both known (chosen_buffer old) from a z (chosen_holds old all) one other.0)
 found_with known old from a z q y all one other = absurd other
 
-none_with : Known → (old : State) (from : Position) (q : Reply) (y : State) → AllHoldTexts old → TellsNext (chosen_buffer old) from None → Does old (FindNext from) q y → NoMatch ≡ q
+none_with : Known → (old : State) (from : Position) (q : Reply) (y : State) → AllHoldTexts old → TellsPositions (chosen_buffer old) from None → Does old (FindNext from) q y → NoMatch ≡ q
 none_with known old from (Found c d) y all one other = absurd (not_both known (chosen_buffer old) from c d (chosen_holds old all) other.0 one)
 none_with known old from NoMatch y all one other = refl
 none_with known old from q y all one other = absurd other

@@ -17,7 +17,7 @@ use Rattle.rope_search_reports.specs.Laws.{HasOneReport, IsOneOfThree, MatchesSt
 use Rattle.rope_search.specs.Order.{Order, SetText, EditText, UndoEdit, RedoEdit, PrintText, ForkBuffer, SetPattern, DropPattern, ListMatches, FindNext, ReplaceAll, UseBuffer}
 use Rattle.rope_search.specs.Places.{IsEdit}
 use Rattle.rope_search.specs.Replacing.{IsReplacement, text_with}
-use Rattle.rope_search.specs.Session.{BufferState, State, first, fresh, current_text, chosen_buffer, with_pattern, with_chosen}
+use Rattle.rope_search.specs.Session.{BufferState, State, first_state, fresh, current_text, chosen_buffer, with_pattern, with_chosen}
 use Rattle.rope_search.specs.Step.{Answer, Accepts, Does, Step}
 use Rattle.rope_search.specs.Answers.{Run}
 use Rattle.rope_search.specs.Laws.{HoldsTexts, AllHoldTexts, Known, StepsHoldTexts, KeptIsAnew, PatternsAreTaken, ListsBoundaries}
@@ -114,8 +114,8 @@ run_holds known limit s t [] out cost run all = unchanged s t all run.2
 run_holds known limit s t (o ∷ os) out cost run all = run_holds known limit run.new t os run.later run.later_cost run.others (step_holds known limit s run.new o run.answer run.step all)
 
 -- so it is of all sessions that commands lead to
-pub holds_always : Known → (limit : ℕ) (s : State) (os : List Order) (out : List ℕ) (cost : ℕ) → Run limit first os out cost s → AllHoldTexts s
-holds_always known limit s os out cost run = run_holds known limit first s os out cost run first_holds
+pub holds_always : Known → (limit : ℕ) (s : State) (os : List Order) (out : List ℕ) (cost : ℕ) → Run limit first_state os out cost s → AllHoldTexts s
+holds_always known limit s os out cost run = run_holds known limit first_state s os out cost run first_holds
 
 pub steps_hold : Known → StepsHoldTexts
 steps_hold known = record { first = first_holds; step = λ limit old new order answer all step. step_holds known limit old new order answer step all }

@@ -2,7 +2,7 @@
 use Rattle.std.specs.Prelude.{◌≡◌, ℕ, ◌+◌, List, [], ◌∷◌, ◌++◌}
 use Rattle.rope_search.specs.declared.endings.Ended.{Ended}
 use Rattle.rope_search.specs.Order.{Order}
-use Rattle.rope_search.specs.Session.{State, first}
+use Rattle.rope_search.specs.Session.{State, first_state}
 use Rattle.rope_search.specs.Step.{Answer, Step}
 use Rattle.rope_search.specs.Reads.{Reads}
 use Rattle.rope_search.specs.Shows.{Shows, closing}
@@ -38,5 +38,5 @@ pub record Answers (limit : ℕ) (input : List ℕ) (ending : Ended) (output : L
   pub replies : List ℕ
   pub last : State
   pub reads : Reads input orders ending
-  pub run : Run limit first orders replies cost last
+  pub run : Run limit first_state orders replies cost last
   pub shown : output ≡ replies ++ closing ending

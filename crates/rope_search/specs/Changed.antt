@@ -5,7 +5,7 @@ use Rattle.rope_search_reports.specs.Replacement.{Groups, changes_of}
 use Rattle.rope_search.specs.declared.stretches.Stretch.{Stretch}
 use Rattle.rope_search.specs.Cost.{rows_anew}
 use Rattle.rope_search.specs.Order.{Order, SetText, EditText, UndoEdit, RedoEdit, PrintText, ForkBuffer, SetPattern, DropPattern, ListMatches, FindNext, ReplaceAll, UseBuffer}
-use Rattle.rope_search.specs.Replacing.{AreAllMatches}
+use Rattle.rope_search.specs.Replacing.{AreMatchesOfBuffer}
 use Rattle.rope_search.specs.Session.{BufferState, State, chosen_buffer, current_text, IsReportIn}
 use Rattle.rope_search.specs.Step.{Answer}
 use Rattle.rope_search.specs.Stretches.{IsStretch, lines_spanned, none}
@@ -21,7 +21,7 @@ Replaces old new stretch = (rows rows' : List (List (ℕ × ℕ)))
 pub record SpansMatches (old : BufferState) (template : List ℕ) (new : BufferState)
     (stretch : Stretch) : Type 0 where
   pub matches : List Groups
-  pub are : AreAllMatches old matches
+  pub are : AreMatchesOfBuffer old matches
   pub few : stretch.added ≤ lines_spanned (bytes_of (current_text new))
       (changes_of (bytes_of (current_text old)) template 0 0 matches)
 
@@ -43,23 +43,25 @@ pub record TellsRows (old : State) (order : Order) (new : State)
   pub others : told' ≡ slice_set told old.chosen stretch
 
 -- what the buffers tell after an accepted command that they told something before
-abbrev pub Tells : State → Order → State → List Stretch → List Stretch → Type 0
-Tells old (SetText payload) new told told' = TellsRows old (SetText payload) new told told'
-Tells old (EditText from to payload) new told told' =
+abbrev pub TellsStretches : State → Order → State → List Stretch → List Stretch → Type 0
+TellsStretches old (SetText payload) new told told' = TellsRows old (SetText payload) new told told'
+TellsStretches old (EditText from to payload) new told told' =
     TellsRows old (EditText from to payload) new told told'
-Tells old UndoEdit new told told' = TellsRows old UndoEdit new told told'
-Tells old RedoEdit new told told' = TellsRows old RedoEdit new told told'
-Tells old PrintText new told told' = told' ≡ told
+TellsStretches old UndoEdit new told told' = TellsRows old UndoEdit new told told'
+TellsStretches old RedoEdit new told told' = TellsRows old RedoEdit new told told'
+TellsStretches old PrintText new told told' = told' ≡ told
 -- the new buffer tells no row
-Tells old ForkBuffer new told told' = told' ≡ told ++ none ∷ []
-Tells old (SetPattern payload) new told told' = TellsRows old (SetPattern payload) new told told'
-Tells old DropPattern new told told' = TellsRows old DropPattern new told told'
-Tells old ListMatches new told told' = told' ≡ told
-Tells old (FindNext from) new told told' = told' ≡ told
-Tells old (ReplaceAll payload) new told told' = TellsRows old (ReplaceAll payload) new told told'
-Tells old (UseBuffer k) new told told' = told' ≡ told
+TellsStretches old ForkBuffer new told told' = told' ≡ told ++ none ∷ []
+TellsStretches old (SetPattern payload) new told told' =
+    TellsRows old (SetPattern payload) new told told'
+TellsStretches old DropPattern new told told' = TellsRows old DropPattern new told told'
+TellsStretches old ListMatches new told told' = told' ≡ told
+TellsStretches old (FindNext from) new told told' = told' ≡ told
+TellsStretches old (ReplaceAll payload) new told told' =
+    TellsRows old (ReplaceAll payload) new told told'
+TellsStretches old (UseBuffer k) new told told' = told' ≡ told
 
 -- after a refused one they tell what they did
 abbrev pub TellsAfter : State → Order → Answer → State → List Stretch → List Stretch → Type 0
-TellsAfter old order (Ok reply) new told told' = Tells old order new told told'
+TellsAfter old order (Ok reply) new told told' = TellsStretches old order new told told'
 TellsAfter old order (Err fault) new told told' = told' ≡ told

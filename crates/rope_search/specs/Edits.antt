@@ -1,5 +1,5 @@
 -- Several edits of a buffer as one: each is told in terms of the text before any of them.
-use Rattle.std.specs.Prelude.{◌≡◌, ℕ, ◌+◌, ◌<◌, ◌≤◌, List, [], ◌∷◌, if◌then◌else◌, is_some, map, sum_by, Result, Ok, Err, All, IsUtf8, chars, slice_set}
+use Rattle.std.specs.Prelude.{◌≡◌, ℕ, ◌<◌, ◌≤◌, List, [], ◌∷◌, if◌then◌else◌, is_some, sum_by, Result, Ok, Err, All, IsUtf8, chars, slice_set}
 use Rattle.str_indices.specs.Text.{byte_len}
 use Rattle.rope_search_io.specs.declared.faults.Fault.{Fault}
 use Rattle.rope_search_io.specs.declared.faults.Fault.TheVariants.{Range, Utf8, Size, Memory}
@@ -25,8 +25,8 @@ pub record FullEdit : Type 0 where
 abbrev pub in_full : Edit → FullEdit
 in_full edit = record { from = edit.from; to = edit.to; payload = edit.text.now }
 
-abbrev pub AreUtf8 : List FullEdit → Type 0
-AreUtf8 edits = All (λ (edit : FullEdit). IsUtf8 edit.payload) edits
+abbrev pub PayloadsAreUtf8 : List FullEdit → Type 0
+PayloadsAreUtf8 edits = All (λ (edit : FullEdit). IsUtf8 edit.payload) edits
 
 -- An edit lies behind a place, or there: its positions are at these two places, of which the second
 -- is not before the first.
@@ -52,7 +52,7 @@ pub record MakeOf (text : List ℕ) (edits : List FullEdit) (new : List ℕ)
     (changes : List Change) : Type 0 where
   pub substitutions : List Substitution
   pub lie : LieInOrder text 0 edits substitutions
-  pub utf8 : AreUtf8 edits
+  pub utf8 : PayloadsAreUtf8 edits
   pub text_is : new ≡ substituted (bytes_of text) 0 substitutions
   pub changes_are : changes ≡ changes_by 0 0 substitutions
 
@@ -99,7 +99,7 @@ pub record GetTooLong (limit : ℕ) (text : List ℕ) (edits : List FullEdit) : 
 abbrev pub RefusesEdits : ℕ → List ℕ → List FullEdit → Fault → Type 0
 RefusesEdits limit text edits Range =
     (substitutions : List Substitution) → LieInOrder text 0 edits substitutions → ⊥
-RefusesEdits limit text edits Utf8 = ¬ (AreUtf8 edits)
+RefusesEdits limit text edits Utf8 = ¬ (PayloadsAreUtf8 edits)
 RefusesEdits limit text edits Size = GetTooLong limit text edits
 RefusesEdits limit text edits fault = ⊥
 

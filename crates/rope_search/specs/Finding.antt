@@ -4,18 +4,19 @@ use Rattle.rope_search.specs.declared.commands.Reply.{Reply}
 use Rattle.rope_search.specs.declared.commands.Reply.TheVariants.{Found, NoMatch}
 use Rattle.rope_search_reports.specs.declared.positions.Position.{Position}
 use Rattle.rope_search_reports.specs.Text.{bytes_of}
-use Rattle.rope_search_reports.specs.Pattern.{Finds}
+use Rattle.rope_search_reports.specs.Pattern.{FindsSpan}
 use Rattle.rope_search_reports.specs.Position.{IsAt, position}
 use Rattle.rope_search.specs.Session.{BufferState, current_text}
 
 -- A search for the buffer's pattern finds this in its current text: the match that comes first at
 -- the position or behind it, by its places, or none. Looks see what stands before the position.
-pub record FindsNext (buffer : BufferState) (from : Position) (found : Option (ℕ × ℕ)) : Type 0 where
+pub record FindsFromPosition (buffer : BufferState) (from : Position)
+    (found : Option (ℕ × ℕ)) : Type 0 where
   pub pattern : List ℕ
   pub place : ℕ
   pub is_pattern : buffer.pattern ≡ Some pattern
   pub starts : IsAt (current_text buffer) (from.line, from.column) place
-  pub finds : Finds pattern (bytes_of (current_text buffer)) place found
+  pub finds : FindsSpan pattern (bytes_of (current_text buffer)) place found
 
 -- the positions of two places
 abbrev pub ArePositionsOf : List ℕ → Position → Position → ℕ × ℕ → Type 0
@@ -24,10 +25,10 @@ ArePositionsOf text start end span =
     × ((end.line, end.column) ≡ position text span.1)
 
 -- what is told of it: the positions where the match starts and where it ends, or none
-abbrev pub TellsNext : BufferState → Position → Option (Position × Position) → Type 0
-TellsNext buffer from None = FindsNext buffer from None
-TellsNext buffer from (Some told) =
-    (span : ℕ × ℕ) × FindsNext buffer from (Some span)
+abbrev pub TellsPositions : BufferState → Position → Option (Position × Position) → Type 0
+TellsPositions buffer from None = FindsFromPosition buffer from None
+TellsPositions buffer from (Some told) =
+    (span : ℕ × ℕ) × FindsFromPosition buffer from (Some span)
     × ArePositionsOf (current_text buffer) told.0 told.1 span
 
 -- ---- in a text, for a pattern
@@ -35,7 +36,7 @@ TellsNext buffer from (Some told) =
 pub record FindsIn (text pattern : List ℕ) (from : Position) (found : Option (ℕ × ℕ)) : Type 0 where
   pub place : ℕ
   pub starts : IsAt text (from.line, from.column) place
-  pub finds : Finds pattern (bytes_of text) place found
+  pub finds : FindsSpan pattern (bytes_of text) place found
 
 abbrev pub TellsIn : List ℕ → List ℕ → Position → Option (Position × Position) → Type 0
 TellsIn text pattern from None = FindsIn text pattern from None

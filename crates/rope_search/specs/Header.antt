@@ -28,7 +28,7 @@ abbrev pub EndsNumber : List ℕ → Type 0
 EndsNumber bytes = (bytes ≡ []) ⊎ ((more : List ℕ) × (bytes ≡ 32 ∷ more))
 
 -- what the bytes spell are these numbers, and then what those that follow spell
-abbrev pub Begins : List ℕ → List ℕ → List ℕ → Type 0
-Begins bytes first rest =
+abbrev pub SpellsFront : List ℕ → List ℕ → List ℕ → Type 0
+SpellsFront bytes first rest =
     (ns : List ℕ) → AreSpelled ns bytes
     ↔ ((others : List ℕ) × (ns ≡ first ++ others) × AreSpelled others rest)

@@ -4,12 +4,12 @@ use Rattle.str_indices.specs.Text.{byte_len}
 use Rattle.rope_search_reports.specs.Text.{bytes_of}
 use Rattle.rope_search_reports.specs.Matches.{AreGroups}
 use Rattle.rope_search_reports.specs.Replacement.{Groups, changes_of}
-use Rattle.rope_search_reports.specs.Turned.{Lead, turned, lines_put}
+use Rattle.rope_search_reports.specs.Turned.{Lead, turned_changes, lines_put}
 use Rattle.rope_search_changes.specs.declared.Change.{Change}
 use Rattle.rope_search_reports.specs.declared.positions.Position.{Position}
 use Rattle.rope_search.specs.Session.{LimitedBuffer, current_text, undone, redone}
 use Rattle.rope_search.specs.Places.{IsBetween}
-use Rattle.rope_search.specs.Replacing.{AreAllMatches}
+use Rattle.rope_search.specs.Replacing.{AreMatchesOfBuffer}
 
 -- texts, from the oldest on, with the changes that led to each from the one before it, none to the
 -- first; and the number of the current text
@@ -53,7 +53,7 @@ pub record KeepsEdit (old : LimitedBuffer) (from to : Position) (inserted : List
 pub record KeepsReplacement (old : LimitedBuffer) (template : List ℕ)
     (new : LimitedBuffer) : Type 0 where
   pub matches : List Groups
-  pub are : AreAllMatches old.state matches
+  pub are : AreMatchesOfBuffer old.state matches
   pub kept : new.changes ≡ with_changes old
       (changes_of (bytes_of (current_text old.state)) template 0 0 matches)
 
@@ -68,7 +68,7 @@ pub record AreReplacements (text pattern template : List ℕ) (changes : List Ch
 -- as many as what comes back has lines: for each change its breaks plus one
 abbrev pub rows_back : LimitedBuffer → ℕ
 rows_back buffer = lines_put (bytes_of (current_text (undone buffer.state)))
-    (turned 0 0 (changes_at buffer.changes buffer.state.current))
+    (turned_changes 0 0 (changes_at buffer.changes buffer.state.current))
 
 abbrev pub rows_on : LimitedBuffer → ℕ
 rows_on buffer = lines_put (bytes_of (current_text (redone buffer.state)))

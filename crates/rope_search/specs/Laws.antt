@@ -16,10 +16,10 @@ use Rattle.rope_search_reports.specs.Position.{IsAt, IsNowhere, StandsAtBoundari
 use Rattle.rope_search_reports.specs.Changes.{AreChanges}
 use Rattle.rope_search_reports.specs.Replacement.{Groups, FollowEachOther, changes_of, searched}
 use Rattle.rope_search.specs.Order.{Order, EditText, UndoEdit, RedoEdit, SetPattern, FindNext, ReplaceAll}
-use Rattle.rope_search.specs.Session.{BufferState, State, first, fresh, current_text, chosen_buffer, IsReportIn}
+use Rattle.rope_search.specs.Session.{BufferState, State, first_state, fresh, current_text, chosen_buffer, IsReportIn}
 use Rattle.rope_search.specs.Finding.{ArePositionsOf}
 use Rattle.rope_search.specs.Places.{HasNoneBetween}
-use Rattle.rope_search.specs.Replacing.{AreAllMatches}
+use Rattle.rope_search.specs.Replacing.{AreMatchesOfBuffer}
 use Rattle.rope_search.specs.Shows.{Shows}
 use Rattle.rope_search.specs.Stands.{Stands}
 use Rattle.rope_search.specs.Step.{Answer, Accepts, Step}
@@ -87,12 +87,12 @@ AllHoldTexts session = All HoldsTexts session.buffers
 
 -- it is so at first, and each command leaves it so
 pub record StepsHoldTexts : Type 0 where
-  pub first : AllHoldTexts first
+  pub first : AllHoldTexts first_state
   pub step : (limit : ℕ) (old new : State) (order : Order) (answer : Answer)
       → AllHoldTexts old → Step limit old order answer new → AllHoldTexts new
 
 -- the chosen buffers have one text and one pattern, and so one report
-pub record AreAlike (session other : State) : Type 0 where
+pub record AreChosenAlike (session other : State) : Type 0 where
   pub text : current_text (chosen_buffer session) ≡ current_text (chosen_buffer other)
   pub pattern : (chosen_buffer session).pattern ≡ (chosen_buffer other).pattern
 
@@ -101,24 +101,24 @@ abbrev pub UndoUndoesEdit : Type 0
 UndoUndoesEdit = (limit : ℕ) (old edited new : State) (from to : Position) (payload : List ℕ)
     (reply undone : Reply) → HasCurrent old
     → Step limit old (EditText from to payload) (Ok reply) edited
-    → Step limit edited UndoEdit (Ok undone) new → AreAlike new old
+    → Step limit edited UndoEdit (Ok undone) new → AreChosenAlike new old
 
 -- so do a replacement, and directly after it an undo
 abbrev pub UndoUndoesReplace : Type 0
 UndoUndoesReplace = (limit : ℕ) (old edited new : State) (payload : List ℕ) (reply undone : Reply)
     → HasCurrent old → Step limit old (ReplaceAll payload) (Ok reply) edited
-    → Step limit edited UndoEdit (Ok undone) new → AreAlike new old
+    → Step limit edited UndoEdit (Ok undone) new → AreChosenAlike new old
 
 -- an undo, and directly after it a redo, give back text and pattern
 abbrev pub RedoRedoesUndo : Type 0
 RedoRedoesUndo = (limit : ℕ) (old undone new : State) (reply redone : Reply) → HasCurrent old
     → Step limit old UndoEdit (Ok reply) undone → Step limit undone RedoEdit (Ok redone) new
-    → AreAlike new old
+    → AreChosenAlike new old
 
 -- to this command two sessions reply alike, where text and pattern are the same
 abbrev pub RepliesAlike : Order → Type 0
 RepliesAlike order = (limit limit' : ℕ) (session other new new' : State) (answer answer' : Answer)
-    (bytes bytes' : List ℕ) → AreAlike session other → Step limit session order answer new
+    (bytes bytes' : List ℕ) → AreChosenAlike session other → Step limit session order answer new
     → Step limit' other order answer' new' → Shows new answer bytes → Shows new' answer' bytes'
     → bytes ≡ bytes'
 
@@ -126,7 +126,7 @@ RepliesAlike order = (limit limit' : ℕ) (session other new new' : State) (answ
 abbrev pub FindsAlike : Type 0
 FindsAlike = (limit limit' : ℕ) (session other new new' : State) (from : Position)
     (answer answer' : Answer) (bytes bytes' : List ℕ) → AllHoldTexts session
-    → AreAlike session other → Step limit session (FindNext from) answer new
+    → AreChosenAlike session other → Step limit session (FindNext from) answer new
     → Step limit' other (FindNext from) answer' new' → answer ≢ Err Memory → answer' ≢ Err Memory
     → Shows new answer bytes → Shows new' answer' bytes' → bytes ≡ bytes'
 
@@ -185,7 +185,7 @@ OthersStay = (limit : ℕ) (old new : State) (order : Order) (answer : Answer) (
 -- boundary of the current text
 abbrev pub ListsBoundaries : Type 0
 ListsBoundaries = (limit : ℕ) (orders : List Order) (out : List ℕ) (cost : ℕ) (session : State)
-    (rows : List (List (ℕ × ℕ))) (line : ℕ) → Run limit first orders out cost session
+    (rows : List (List (ℕ × ℕ))) (line : ℕ) → Run limit first_state orders out cost session
     → IsReportIn (chosen_buffer session) rows
     → All (StandsAtBoundaries (current_text (chosen_buffer session)) line)
     (slice_index_or rows line [])
@@ -194,7 +194,7 @@ ListsBoundaries = (limit : ℕ) (orders : List Order) (out : List ℕ) (cost : �
 -- other, and each starts and ends at a boundary; all text outside them stays, in order
 pub record KeepsTheRest (old : BufferState) (template new : List ℕ) (count : ℕ) : Type 0 where
   pub matches : List Groups
-  pub are : AreAllMatches old matches
+  pub are : AreMatchesOfBuffer old matches
   pub counted : count ≡ length matches
   pub follow : FollowEachOther (bytes_of (current_text old)) 0 matches
   pub stays : AreChanges (changes_of (bytes_of (current_text old)) template 0 0 matches) 0 0

@@ -62,7 +62,7 @@ IsLine (ReplaceAll payload) line = IsWorded (codes "replace") line (length paylo
 IsLine (UseBuffer k) line = IsWorded (codes "use") line (k ∷ [])
 
 -- a command is spelled by its line, LF, and its payload
-pub record Spells (order : Order) (bytes : List ℕ) : Type 0 where
+pub record SpellsOrder (order : Order) (bytes : List ℕ) : Type 0 where
   pub line : List ℕ
   pub is_line : IsLine order line
   pub whole : bytes ≡ line ++ 10 ∷ payload_of order
@@ -71,7 +71,7 @@ pub record Spells (order : Order) (bytes : List ℕ) : Type 0 where
 pub record SpellsFirst (order : Order) (bytes : List ℕ) (Others : List ℕ → Type 0) : Type 0 where
   pub front : List ℕ
   pub back : List ℕ
-  pub first : Spells order front
+  pub first : SpellsOrder order front
   pub others : Others back
   pub whole : bytes ≡ front ++ back
 

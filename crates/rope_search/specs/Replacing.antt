@@ -8,7 +8,7 @@ use Rattle.rope_search_templates.specs.Laws.{ReplaceAlike}
 use Rattle.rope_search.specs.Session.{BufferState, current_text, with_edit}
 
 -- these are all matches of the buffer's pattern in its current text as a whole, by their groups
-pub record AreAllMatches (buffer : BufferState) (matches : List Groups) : Type 0 where
+pub record AreMatchesOfBuffer (buffer : BufferState) (matches : List Groups) : Type 0 where
   pub pattern : List ℕ
   pub is_pattern : buffer.pattern ≡ Some pattern
   pub are : AreGroups pattern (bytes_of (current_text buffer)) matches
@@ -23,21 +23,21 @@ text_with buffer template matches =
 pub record IsReplacement (old : BufferState) (template : List ℕ) (count : ℕ)
     (new : BufferState) : Type 0 where
   pub matches : List Groups
-  pub are : AreAllMatches old matches
+  pub are : AreMatchesOfBuffer old matches
   pub counted : count ≡ length matches
   pub changed : new ≡ with_edit old (text_with old template matches)
 
 -- with all matches replaced, the text would have more bytes than the limit
 pub record GetsTooLongWith (limit : ℕ) (buffer : BufferState) (template : List ℕ) : Type 0 where
   pub matches : List Groups
-  pub are : AreAllMatches buffer matches
+  pub are : AreMatchesOfBuffer buffer matches
   pub long : limit < byte_len (text_with buffer template matches)
 
 -- so many rows may be made: for each match as many as what takes its place has lines, which are its
 -- breaks plus one
 pub record RowsOfReplacement (buffer : BufferState) (template : List ℕ) (n : ℕ) : Type 0 where
   pub matches : List Groups
-  pub are : AreAllMatches buffer matches
+  pub are : AreMatchesOfBuffer buffer matches
   pub rows : n ≡ searched (bytes_of (current_text buffer)) template matches
 
 -- ---- in a text, for a pattern

@@ -16,7 +16,7 @@ use Rattle.rope_search.specs.declared.endings.Ended.TheVariants.{Input, Command,
 use Rattle.rope_search.specs.Order.{Order}
 use Rattle.rope_search.specs.Stands.{limit_on}
 use Rattle.rope_search.specs.Header.{IsHeaderOf}
-use Rattle.rope_search.specs.Reads.{HasNoLf, Spells, Ends, payload_of}
+use Rattle.rope_search.specs.Reads.{HasNoLf, SpellsOrder, Ends, payload_of}
 
 -- a line of at most 128 bytes and its LF; 129 bytes without one; or the bytes without one before
 -- the end
@@ -80,7 +80,7 @@ pub record TakesOrder (limit : ℕ) (header : CommandOf ℕ) (kept : Collected) 
     (source source' : SourceState) : Type 0 where
   pub order : Order
   pub bytes : List ℕ
-  pub spells : Spells order bytes
+  pub spells : SpellsOrder order bytes
   pub is : IsReadAs limit header kept order
   pub taken : Takes old new source source' bytes
 

@@ -10,9 +10,9 @@ use Rattle.rope_search.specs.declared.endings.Ended.{Ended}
 use Rattle.rope_search.specs.declared.endings.Ended.TheVariants.{Input, Command, Cut}
 use Rattle.rope_search.specs.Order.{Order}
 use Rattle.rope_search_reports.specs.Ticks.{Ticks, NeverFall}
-use Rattle.rope_search.specs.Session.{State, first}
+use Rattle.rope_search.specs.Session.{State, first_state}
 use Rattle.rope_search.specs.Step.{Answer, Step}
-use Rattle.rope_search.specs.Reads.{Spells, SpellAll, Reads}
+use Rattle.rope_search.specs.Reads.{SpellsOrder, SpellAll, Reads}
 use Rattle.rope_search.specs.Shows.{IsShown, closing}
 use Rattle.rope_search.specs.Cost.{Costs, whole_searches}
 use Rattle.rope_search.specs.Answers.{Run, Answers}
@@ -79,7 +79,7 @@ pub record StopsReading (limit : ℕ) (broken : Broken) (source source' : Source
   pub written : Appends sink.held sink'.held output
   pub reads : Reads input orders ending
   pub unfinished : ending ≢ Command
-  pub run : Run limit first orders output cost last
+  pub run : Run limit first_state orders output cost last
   pub searches : SearchesWithin orders cost ticks ticks'
   pub why : StopsFor broken source source'
   pub open_end : source'.ends ≡ source.ends
@@ -110,7 +110,7 @@ pub record StopsWriting (limit : ℕ) (source source' : SourceState) (sink sink'
   pub read : Consumes source.left source'.left input
   pub written : Appends sink.held sink'.held output
   pub reads : Reads input orders ending
-  pub run : Run limit first orders replies cost last
+  pub run : Run limit first_state orders replies cost last
   pub met : IsMet ending source source' line
   pub front : replies ++ line ≡ output ++ lost
   pub searches : SearchesWithin orders cost ticks ticks'
@@ -162,7 +162,7 @@ pub record Scene : Type 0 where
 -- before anything is read: the first session
 abbrev pub start : SourceState → SinkState → Ticks → Scene
 start source sink ticks = record {
-  session = first;
+  session = first_state;
   buffer = record { bytes = []; reads = 0 };
   source = source;
   sink = sink;
@@ -175,7 +175,7 @@ pub record Turned (limit : ℕ) (old new : Scene) (Written : List ℕ → Type 0
   pub bytes : List ℕ
   pub answer : Answer
   pub cost : ℕ
-  pub spells : Spells order bytes
+  pub spells : SpellsOrder order bytes
   pub taken : Takes old.buffer new.buffer old.source new.source bytes
   pub step : Step limit old.session order answer new.session
   pub costs : Costs limit old.session order cost

@@ -22,8 +22,8 @@ abbrev pub fresh : List ℕ → BufferState
 fresh text = record { texts = text ∷ []; current = 0; pattern = None }
 
 -- the first session has one buffer, chosen, with the empty text
-abbrev pub first : State
-first = record { buffers = fresh [] ∷ []; chosen = 0 }
+abbrev pub first_state : State
+first_state = record { buffers = fresh [] ∷ []; chosen = 0 }
 
 abbrev pub current_text : BufferState → List ℕ
 current_text buffer = slice_index_or buffer.texts buffer.current []
@@ -81,8 +81,8 @@ pub record LimitedSession : Type 0 where
   pub changed : List Stretch
 
 -- the first session, under a limit
-abbrev pub opened : ℕ → LimitedSession
-opened limit = record { limit = limit; state = first; changed = none ∷ [] }
+abbrev pub opened_session : ℕ → LimitedSession
+opened_session limit = record { limit = limit; state = first_state; changed = none ∷ [] }
 
 -- the limit of the chosen one of these buffers
 abbrev pub limit_in : List LimitedBuffer → ℕ → ℕ

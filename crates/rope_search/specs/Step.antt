@@ -11,7 +11,7 @@ use Rattle.rope_search.specs.Order.{Order, SetText, EditText, UndoEdit, RedoEdit
 use Rattle.rope_search.specs.Session.{BufferState, State, fresh, current_text, chosen_buffer, with_text, undone, redone, with_pattern, with_chosen}
 use Rattle.rope_search_reports.specs.Pattern.{IsTooHeavy, SpellsNone, pattern_limit}
 use Rattle.rope_search_reports.specs.Position.{IsNowhere}
-use Rattle.rope_search.specs.Finding.{TellsNext}
+use Rattle.rope_search.specs.Finding.{TellsPositions}
 use Rattle.rope_search.specs.Replacing.{IsReplacement, GetsTooLongWith}
 
 -- what a command is answered: a reply, or why it is refused
@@ -120,8 +120,8 @@ Does old DropPattern Done new = new ≡ with_chosen old (with_pattern (chosen_bu
 Does old ListMatches Listing new = new ≡ old
 -- what is found at the position or behind it, or that nothing is
 Does old (FindNext from) (Found start end) new =
-    TellsNext (chosen_buffer old) from (Some (start, end)) × (new ≡ old)
-Does old (FindNext from) NoMatch new = TellsNext (chosen_buffer old) from None × (new ≡ old)
+    TellsPositions (chosen_buffer old) from (Some (start, end)) × (new ≡ old)
+Does old (FindNext from) NoMatch new = TellsPositions (chosen_buffer old) from None × (new ≡ old)
 -- what the payload's text stands for takes the place of each match, of which the number is told; the
 -- texts that could be redone are dropped
 Does old (ReplaceAll payload) (Number k) new =

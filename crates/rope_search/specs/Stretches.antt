@@ -18,8 +18,8 @@ abbrev pub none : Stretch
 none = record { first = 0; removed = 0; added = 0 }
 
 -- all took the place of all, by how many there were and are
-abbrev pub whole : ℕ → ℕ → Stretch
-whole removed added = record { first = 0; removed = removed; added = added }
+abbrev pub whole_stretch : ℕ → ℕ → Stretch
+whole_stretch removed added = record { first = 0; removed = removed; added = added }
 
 -- it is such a part of the reports of two texts, for a pattern
 abbrev pub ReplacesIn : List ℕ → List ℕ → List ℕ → Stretch → Type 0

@@ -10,7 +10,7 @@ ghost use Rattle.str_indices.specs.Text.{byte_len};
 ghost use Rattle.rope_search_reports.specs.Pattern.{IsPattern, IsTooHeavy, SpellsNone, pattern_limit};
 ghost use Rattle.rope_search_reports.specs.Position.{IsAt, IsNowhere, position};
 ghost use Rattle.rope_search_reports.specs.Ticks.{MakesAsMany, MakesAtMost, NeverFall, SearchesOneWhole};
-ghost use Rattle.rope_search.specs.Finding.{TellsNext};
+ghost use Rattle.rope_search.specs.Finding.{TellsPositions};
 ghost use Rattle.rope_search.specs.GroupsAt.{AnswersGroups, SearchesRow};
 ghost use Rattle.rope_search.specs.Replacing.{IsReplacement, GetsTooLongWith, RowsOfReplacement};
 ghost use Rattle.rope_search.specs.Cost.{rows_anew};
@@ -18,7 +18,7 @@ ghost use Rattle.rope_search.specs.Histories.{LeadOn, KeepsEdit, KeepsReplacemen
 ghost use Rattle.rope_search.specs.Stretches.{lines_spanned};
 ghost use Rattle.rope_search.specs.Stretches as stretches;
 ghost use Rattle.rope_search.specs.Changed.{Replaces, SpansMatches};
-ghost use Rattle.rope_search_reports.specs.Turned.{turned};
+ghost use Rattle.rope_search_reports.specs.Turned.{turned_changes};
 ghost use Rattle.rope_search.specs.Edits.{AcceptsEdits, AreEdits, IsFirstAgainst, KeepsEdits, RefusesEdits, SpansEdits, in_full, rows_of_edits};
 
 use crate::edits::{Edit, edited};
@@ -326,7 +326,7 @@ impl Buffer {
         ensures changed { OnOk result (Replaces self.old.state self.new.state self.new.changed) }
         ensures added { OnOk result (self.new.changed.added ≤ lines_spanned
             (bytes_of (current_text (undone self.old.state)))
-            (turned 0 0 (changes_at self.old.changes self.old.state.current))) }
+            (turned_changes 0 0 (changes_at self.old.changes self.old.state.current))) }
         ensures limit { self.new.limit ≡ self.old.limit }
         ensures changes { self.new.changes ≡ self.old.changes }
         ensures nothing { (result ≡ Err Fault.Nothing) ↔ (self.old.state.current ≡ 0) }
@@ -538,7 +538,7 @@ impl Buffer {
         tick: &mut Lines,
         from: Position,
     ) -> Result<Option<(Position, Position)>, Fault>
-        ensures found { IfOk result (λ found. TellsNext self.old.state from found) }
+        ensures found { IfOk result (λ found. TellsPositions self.old.state from found) }
         ensures nothing { (result ≡ Err Fault.Nothing) ↔ (self.old.state.pattern ≡ None) }
         ensures range { (result ≡ Err Fault.Range)
             ↔ ((self.old.state.pattern ≡ None → ⊥)

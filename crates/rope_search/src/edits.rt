@@ -4,7 +4,7 @@ ghost use Rattle.ropey.specs.Chunks.{text_of};
 ghost use Rattle.rope_search_templates.specs.Substitutions.{told};
 ghost use Rattle.rope_search_templates.specs.Substitutions as places;
 ghost use Rattle.rope_search_reports.specs.Changes.{AreChanges};
-ghost use Rattle.rope_search.specs.Edits.{AcceptsEdits, AreUtf8, IsFirstAgainst, LieInOrder, LiesBehind, MakeOf, in_full, lines_of_edits};
+ghost use Rattle.rope_search.specs.Edits.{AcceptsEdits, PayloadsAreUtf8, IsFirstAgainst, LieInOrder, LiesBehind, MakeOf, in_full, lines_of_edits};
 
 use crate::limits::Limits;
 use rope_search_io::Fault;
@@ -68,10 +68,10 @@ fn substitutions_of<'a>(
     ensures lie { IfOk result (λ made.
         LieInOrder (text_of text.now) 0 (map in_full edits.now) (map told made.items)) }
     ensures texts { IfOk result (λ made. places.AreUtf8 made.items) }
-    ensures utf8 { OnOk result (AreUtf8 (map in_full edits.now)) }
+    ensures utf8 { OnOk result (PayloadsAreUtf8 (map in_full edits.now)) }
     ensures range { result ≡ Err Fault.Range → (all : List places.Substitution)
         → LieInOrder (text_of text.now) 0 (map in_full edits.now) all → ⊥ }
-    ensures broken { result ≡ Err Fault.Utf8 → ¬ (AreUtf8 (map in_full edits.now)) }
+    ensures broken { result ≡ Err Fault.Utf8 → ¬ (PayloadsAreUtf8 (map in_full edits.now)) }
     ensures placed { result ≡ Err Fault.Utf8 → (all : List places.Substitution)
         × LieInOrder (text_of text.now) 0 (map in_full edits.now) all }
     ensures fault { IfErr result (λ fault.

@@ -3,7 +3,7 @@ ghost use Rattle.std.specs.Prelude.{◌≡◌, ◌+◌, ◌-◌, ◌*◌, ◌^�
 ghost use Rattle.std.specs.Prelude.{IfSome, IfNone, SomeIff};
 ghost use Rattle.rope_search.specs.Order.{Order};
 ghost use Rattle.rope_search.specs.Reads.{AreSpelled, IsLine, IsNumber, IsWorded};
-ghost use Rattle.rope_search.specs.Header.{IsHeaderOf, IsDigit, HasNoSpace, EndsNumber, Begins};
+ghost use Rattle.rope_search.specs.Header.{IsHeaderOf, IsDigit, HasNoSpace, EndsNumber, SpellsFront};
 
 use crate::commands::Header;
 use rope_search_reports::Position;
@@ -94,7 +94,7 @@ fn edit_of(line: &[u8]) -> Option<(Position, Position, u64)>
 /// The position that comes first, as two numbers, and what follows it.
 fn next_position(bytes: &[u8]) -> Option<(Position, &[u8])>
     ensures found { IfSome result (λ told.
-        Begins bytes.now (told.0.line ∷ told.0.column ∷ []) told.1.now) }
+        SpellsFront bytes.now (told.0.line ∷ told.0.column ∷ []) told.1.now) }
     ensures none { IfNone result ((line column : ℕ) (others : List ℕ)
         → AreSpelled (line ∷ column ∷ others) bytes.now → ⊥) }
 {
@@ -109,7 +109,7 @@ fn next_position(bytes: &[u8]) -> Option<(Position, &[u8])>
 
 /// The number that comes first, behind one space, and what follows it.
 fn next_number(bytes: &[u8]) -> Option<(u64, &[u8])>
-    ensures found { IfSome result (λ told. Begins bytes.now (told.0 ∷ []) told.1.now) }
+    ensures found { IfSome result (λ told. SpellsFront bytes.now (told.0 ∷ []) told.1.now) }
     ensures none { IfNone result ((n : ℕ) (others : List ℕ)
         → AreSpelled (n ∷ others) bytes.now → ⊥) }
 {

@@ -1,5 +1,5 @@
 //! Reading a command's payload.
-ghost use Rattle.std.specs.Prelude.{◌≡◌, ◌<◌, ◌≤◌, ◌↔◌, ◌++◌, [], List, ℕ, OnOk, length, take};
+ghost use Rattle.std.specs.Prelude.{◌≡◌, ◌<◌, ◌≤◌, ◌++◌, [], List, ℕ, OnOk, length, take};
 ghost use Rattle.rope_search.specs.Stands.{StandsFor};
 ghost use Rattle.rope_search.specs.Requests.{Collects, CollectsMore, TakesPayload, TakesCollected};
 

@@ -13,7 +13,7 @@ ghost use Rattle.rope_search_templates.specs.Matches.{matched};
 ghost use Rattle.rope_search.specs.Finding.{TellsIn};
 ghost use Rattle.rope_search.specs.GroupsAt.{TellsGroupsIn};
 ghost use Rattle.rope_search.specs.Replacing.{AreEnough, IsReplacementIn, GetsTooLongIn, RowsOfReplacementIn};
-ghost use Rattle.rope_search.specs.Searched.{FitIn, HasRoom};
+ghost use Rattle.rope_search.specs.Searched.{FitIn, HasRoomFor};
 ghost use Rattle.rope_search_reports.specs.Turned.{Lead, listed, lines_put};
 ghost use Rattle.rope_search.specs.Histories.{AreReplacements};
 ghost use Rattle.rope_search.specs.Stretches.{ReplacesIn, lines_spanned};
@@ -84,7 +84,7 @@ fn room_for(
 ) -> Result<Option<Vec<Row>>, Fault>
     requires within { length (patched 0 rows.old.items patches.now) ≤ len }
     requires few { growth_by patches.now < 2 ^ 64 }
-    ensures room { IfOk result (λ room. HasRoom rows.new patches.now room) }
+    ensures room { IfOk result (λ room. HasRoomFor rows.new patches.now room) }
     ensures in_place { shift_count patches.now ≤ 1 → IfOk result (λ room. room ≡ None) }
     ensures anew { 2 ≤ shift_count patches.now → IfOk result (λ room. IsSome room) }
     ensures rows { rows.new.items ≡ rows.old.items }

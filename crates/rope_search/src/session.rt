@@ -1,7 +1,7 @@
 //! A session: buffers, of which one is chosen.
 ghost use Rattle.std.specs.Prelude.{◌≡◌, ◌+◌, ◌<◌, ◌≤◌, ◌↔◌, [], ◌∷◌, ◌++◌, List, ℕ, length, map, slice_index_or, Bool, Err, OnOk, OnErr, IfOk, IfErr, IsOk, None, Some};
 ghost use Rattle.rope_search.specs.Order.{SetText, EditText, UndoEdit, RedoEdit, SetPattern, DropPattern, ListMatches, FindNext, ReplaceAll};
-ghost use Rattle.rope_search.specs.Session.{opened, fresh, current_text, chosen_buffer, with_text, with_pattern, with_chosen};
+ghost use Rattle.rope_search.specs.Session.{opened_session, fresh, current_text, chosen_buffer, with_text, with_pattern, with_chosen};
 ghost use Rattle.rope_search_reports.specs.Pattern.{pattern_limit};
 ghost use Rattle.rope_search.specs.Laws.{HasCurrent, AllHoldTexts};
 ghost use Rattle.rope_search.specs.Step.{Step};
@@ -68,7 +68,7 @@ impl Session {
     ///
     /// Errors: `Fault::Memory`.
     pub fn new(alloc: Global, limits: Limits) -> Result<Session, Fault>
-        ensures ok { IfOk result (λ session. session ≡ opened limits.text) }
+        ensures ok { IfOk result (λ session. session ≡ opened_session limits.text) }
         ensures err { IfErr result (λ fault. fault ≡ Fault.Memory) }
     {
         let buffer = Buffer::new(alloc, limits)?;

@@ -39,7 +39,7 @@ impl Stretch {
 
     /// All rows of a report, by how many there were and are.
     pub(crate) fn whole(removed: usize, added: usize) -> Stretch
-        ensures { result ≡ stretches.whole removed added }
+        ensures { result ≡ stretches.whole_stretch removed added }
     {
         Stretch {
             first: 0,

@@ -3,7 +3,6 @@ pub mod Walks
 pub mod HandleSteps
 pub mod SpanLemmas
 pub mod CopyLemmas
-pub mod GroupLemmas
 pub mod PatternErrorLemmas
 pub mod TextLemmas
 pub mod EditLemmas

@@ -1,17 +1,15 @@
 -- What C is told of bytes that may be a pattern, by what is answered of them.
-use Rattle.std.proofs.Common.{◌≡◌, ◌↔◌, ◌⊎◌, ℕ, List, Ok, Err, IsSome, ap, inl, inr, refl, sym, subst, ◌∙◌}
+use Rattle.std.proofs.Common.{◌≡◌, ◌↔◌, ℕ, List, IsSome, ap, inl, inr, refl, sym, subst, ◌∙◌}
 use Rattle.std.specs.Prelude.{Option, None, Some}
-use Rattle.std.specs.Str.{IsCharBoundary, IsUtf8}
+use Rattle.std.specs.Str.{IsCharBoundary}
 use Rattle.rx_grammar.specs.declared.refusals.Refusal.{Refusal}
 use Rattle.rx_grammar.specs.Refusals.{IsRefusedAs}
 use Rattle.rx_grammar.specs.Settings.{default_settings}
-use Rattle.rope_search_io.specs.declared.faults.Fault.{Fault}
-use Rattle.rope_search_io.specs.declared.faults.Fault.TheVariants.{Utf8, Pattern, Memory}
-use Rattle.rope_search_io.specs.Faults.{rank_of}
+use Rattle.rope_search_io.specs.declared.faults.Fault.TheVariants.{Pattern}
 use Rattle.rope_search.specs.declared.commands.CommandOf.TheVariants.{Pattern as SetPattern}
-use Rattle.rope_search.specs.Session.{State, first}
+use Rattle.rope_search.specs.Session.{State, first_state}
 use Rattle.rope_search.specs.Step.{Refuses}
-use Rattle.rope_search_c.specs.PatternErrors.{AreNoPattern, TellsError, TellsNothing, TellsWhy, reason_number}
+use Rattle.rope_search_c.specs.PatternErrors.{AreNoPattern, TellsError, reason_number}
 use Rattle.rope_search_c.specs.declared.pattern_errors.PatternReason.{PatternReason}
 
 abbrev pub IsToldAlike : List ℕ → Option Refusal → Type 0
@@ -20,7 +18,7 @@ IsToldAlike bytes found = (limit : ℕ) (session : State) → IsSome found ↔ R
 pub nothing-told : (bytes : List ℕ) (status : ℕ) (old new : PatternReason) → IsToldAlike bytes None → status ≡ 0 → new ≡ record { reason = 0; place = 0 }
     → TellsError bytes status old new
 nothing-told bytes status old new alike done is =
-    let others : AreNoPattern bytes → ⊥ = λ none. let some = (alike 0 first).1 (none 0 first) in cc some in
+    let others : AreNoPattern bytes → ⊥ = λ none. let some = (alike 0 first_state).1 (none 0 first_state) in cc some in
     inl (done, inr (record { others = others; named = ap (λ (r : PatternReason). r.reason) is; place = ap (λ (r : PatternReason). r.place) is }))
 
 pub why-told : (bytes : List ℕ) (status number : ℕ) (old new : PatternReason) (refusal : Refusal) → IsToldAlike bytes (Some refusal)
@@ -37,11 +35,3 @@ why-told bytes status number old new refusal alike why place done named is =
         place = subst (IsCharBoundary bytes) (sym (ap (λ (r : PatternReason). r.place) is)) place;
       }),
     )
-
-pub fault-told : (bytes : List ℕ) (status : ℕ) (old new : PatternReason) (fault : Fault) → (fault ≡ Utf8) ⊎ (fault ≡ Memory) → (fault ≡ Utf8 → ¬ (IsUtf8 bytes))
-    → status ≡ rank_of fault → new ≡ old → TellsError bytes status old new
-fault-told bytes status old new fault which not told kept = inr (kept, by which)
-  where
-    by : (fault ≡ Utf8) ⊎ (fault ≡ Memory) → ((status ≡ 3) × ¬ (IsUtf8 bytes)) ⊎ (status ≡ 7)
-    by (inl utf8) = inl (told ∙ ap rank_of utf8, not utf8)
-    by (inr memory) = inr (told ∙ ap rank_of memory)

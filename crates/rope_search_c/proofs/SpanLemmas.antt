@@ -1,6 +1,6 @@
 -- The matches of rows, one after another, and buffers that have some of them at their front.
 use Rattle.std.proofs.Common.{◌≡◌, ℕ, suc, ◌+◌, ◌-◌, ◌<◌, ◌≤◌, List, [], ◌∷◌, ◌++◌, length, take, drop, map, set, get_or, ap, sym, ◌∙◌, append_assoc, append-nil, arith, refl}
-use Rattle.std.proofs.lemmas.List.{take_more, take_all, length-take, length-drop, length-take-le, length-append, map-append, length-map}
+use Rattle.std.proofs.lemmas.List.{take_more, take_all, length-take-le, length-append, map-append, length-map}
 use Rattle.std.proofs.lemmas.List.Sums.{sum_by_more, sum_by-cons, sum_by-take-le, sum_by-take-drop}
 use Rattle.rope_search_reports.specs.Report.{match_count}
 use Rattle.rope_search_c.specs.Reading.{rows_between, span_in, spans_from, with_front}
@@ -110,9 +110,6 @@ count-within rows i = sum_by-take-le length rows i
 -- rows between two lines have no more matches than all, and no line behind the last one
 pub count_between : (from to : ℕ) (rows : List (List (ℕ × ℕ))) → match_count (rows_between from to rows) ≤ match_count rows
 count_between from to rows = omega (arith, sum_by-take-le length (drop from rows) (to - from), sum_by-take-drop length rows from)
-
-pub lines_between : (from to most : ℕ) (rows : List (List (ℕ × ℕ))) → from < most → length rows < most → from + length (rows_between from to rows) < most
-lines_between from to most rows first all = omega (arith, first, all, length-take (to - from) (drop from rows), length-drop from rows)
 
 -- and stand behind those before them
 pub put-more : (from line i at : ℕ) (rows : List (List (ℕ × ℕ))) (d row : List (ℕ × ℕ)) (first out new : List Span) → i < length rows → row ≡ get_or rows i d

@@ -1,5 +1,5 @@
 -- A text whose bytes are put at the front of a buffer, chunk by chunk.
-use Rattle.std.proofs.Common.{◌≡◌, ℕ, zero, suc, ◌+◌, ◌-◌, ◌≤◌, ◌==◌, true, false, nat_lt, List, [], ◌∷◌, ◌++◌, length, take, drop, chars, ap, sym, ◌∙◌, append_assoc, append-nil, arith, refl}
+use Rattle.std.proofs.Common.{◌≡◌, ℕ, zero, suc, ◌+◌, ◌-◌, ◌≤◌, ◌==◌, true, false, nat_lt, List, [], ◌∷◌, ◌++◌, length, take, drop, chars, ap, sym, ◌∙◌, append_assoc, arith, refl}
 use Rattle.std.proofs.lemmas.Bool.{cond-true, cond-false}
 use Rattle.std.proofs.lemmas.Bool.Decides.{nat_tests}
 use Rattle.std.proofs.lemmas.List.{nil_from_length, length-append, length-drop, take_all, take_at, drop_at, drop-drop}
@@ -9,7 +9,6 @@ use Rattle.std.proofs.lemmas.Str.{encodes-append, encodes-chars}
 use Rattle.ropey_walk.specs.Chunks.{text_of}
 use Rattle.ropey_walk.specs.Clips.{pieces_from_char, pieces_to_char, clip}
 use Rattle.rope_search_reports.specs.Text.{bytes_of}
-use Rattle.rope_search_c.specs.Reading.{with_front}
 
 -- ---- a rope as a slice of itself
 
@@ -48,11 +47,6 @@ pub record HasPut (text : List ℕ) (left : List (List ℕ)) (first out : List �
   pub here : at ≡ length done
   pub put : out ≡ done ++ drop at first
   pub room : length (bytes_of text) ≤ length first
-
-pub HasPut-start : (pieces left : List (List ℕ)) (first : List ℕ) → left ≡ pieces → length (bytes_of (text_of pieces)) ≤ length first
-    → HasPut (text_of pieces) left first first 0
-HasPut-start pieces left first all room =
-    record { done = []; parts = ap (λ ps. bytes_of (text_of ps)) (sym all); here = refl; put = refl; room = room }
 
 -- the bytes of the next chunk, and those of the others
 next : (left after : List (List ℕ)) (chunk : List ℕ) → left ≡ chars chunk ∷ after → IsUtf8 chunk → bytes_of (text_of left) ≡ chunk ++ bytes_of (text_of after)
@@ -94,8 +88,3 @@ HasPut-step text left after first out chunk bytes at k so is utf8 same len =
           ∙ sym (append_assoc so.done chunk (drop (at + length chunk) first));
       room = so.room;
     }
-
-pub HasPut-end : (text : List ℕ) (left : List (List ℕ)) (first out : List ℕ) (at : ℕ) → HasPut text left first out at → left ≡ [] → out ≡ with_front (bytes_of text) first
-HasPut-end text left first out at so none =
-    let all : bytes_of text ≡ so.done = so.parts ∙ ap (λ ps. so.done ++ bytes_of (text_of ps)) none ∙ append-nil so.done in
-    so.put ∙ ap (λ n. so.done ++ drop n first) (so.here ∙ ap length (sym all)) ∙ ap (λ bs. bs ++ drop (length (bytes_of text)) first) (sym all ∙ sym (take_all (length first) (bytes_of text) so.room))

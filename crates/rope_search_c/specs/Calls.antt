@@ -21,9 +21,10 @@ number_of (Ok (Number number)) = number
 number_of answer = 0
 
 -- what is told of a match that is found: where it starts and where it ends; else that there is none
-abbrev pub Tells : Answer → Match → Type 0
-Tells (Ok (Found start end)) told = (told.found ≡ true) × (told.start ≡ start) × (told.stop ≡ end)
-Tells answer told = told.found ≡ false
+abbrev pub TellsFound : Answer → Match → Type 0
+TellsFound (Ok (Found start end)) told = (told.found ≡ true) × (told.start ≡ start)
+    × (told.stop ≡ end)
+TellsFound answer told = told.found ≡ false
 
 -- the command leads from one session to another by a step, which is answered so, and makes no more
 -- rows, and searches no more whole texts, than it costs; the limit stays, and the buffers tell which
@@ -37,14 +38,14 @@ pub record Carries (old : CountingSession) (order : Order) (answer : Answer)
       old.session.changed new.session.changed
 
 -- it does, and the status is that of the answer
-pub record Does (old : CountingSession) (order : Order) (status : ℕ)
+pub record DoesOrder (old : CountingSession) (order : Order) (status : ℕ)
     (new : CountingSession) : Type 0 where
   pub answer : Answer
   pub carries : Carries old order answer new
   pub told : status ≡ status_of answer
 
 -- it does, and the number is told too
-pub record Counts (old : CountingSession) (order : Order) (status number : ℕ)
+pub record DoesAndCounts (old : CountingSession) (order : Order) (status number : ℕ)
     (new : CountingSession) : Type 0 where
   pub answer : Answer
   pub carries : Carries old order answer new
@@ -52,18 +53,18 @@ pub record Counts (old : CountingSession) (order : Order) (status number : ℕ)
   pub numbered : number ≡ number_of answer
 
 -- it does, and the match is told too
-pub record Finds (old : CountingSession) (order : Order) (status : ℕ) (match : Match)
+pub record DoesAndFinds (old : CountingSession) (order : Order) (status : ℕ) (match : Match)
     (new : CountingSession) : Type 0 where
   pub answer : Answer
   pub carries : Carries old order answer new
   pub told : status ≡ status_of answer
-  pub tells : Tells answer match
+  pub tells : TellsFound answer match
 
 -- a call on a handle that holds a session leads to another in its place, as P has it; on a closed
 -- one it answers 8, and leaves it closed
-abbrev pub Leads : Option CountingSession → ℕ → Option CountingSession
+abbrev pub LeadsHandle : Option CountingSession → ℕ → Option CountingSession
     → (CountingSession → CountingSession → Type 0) → Type 0
-Leads old status new P =
+LeadsHandle old status new P =
     MatchOption old ((status ≡ 8) × (new ≡ None)) (λ before. MatchOption new ⊥ (λ after. P before after))
 
 -- the chosen buffer's history is dropped: of its texts the current one alone is left; its pattern,

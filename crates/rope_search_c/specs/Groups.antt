@@ -21,9 +21,9 @@ status_of (Ok groups) = 0
 status_of (Err fault) = rank_of fault
 
 -- they stand at the buffer's front, as many as fit; where they are refused the buffer is as it was
-abbrev pub Puts : ℕ → Result Groups Fault → List Group → List Group → Type 0
-Puts line (Ok groups) old new = new ≡ with_front (map (group_in line) groups) old
-Puts line (Err fault) old new = new ≡ old
+abbrev pub PutsGroups : ℕ → Result Groups Fault → List Group → List Group → Type 0
+PutsGroups line (Ok groups) old new = new ≡ with_front (map (group_in line) groups) old
+PutsGroups line (Err fault) old new = new ≡ old
 
 -- What a session answers that is asked for the groups of a match, by its line and its number in that
 -- row: the status and the buffer tell it. That row is searched, and the session is as it was.
@@ -32,6 +32,6 @@ pub record CopiesGroups (old : CountingSession) (line number status : ℕ)
   pub answer : Result Groups Fault
   pub is : AnswersGroups (chosen_buffer old.session.state) line number answer
   pub told : status ≡ status_of answer
-  pub put : Puts line answer out out'
+  pub put : PutsGroups line answer out out'
   pub session : new.session ≡ old.session
   pub searches : SearchesRow (chosen_buffer old.session.state) line old.lines new.lines

@@ -20,8 +20,8 @@ use Rattle.rope_search_c.specs.declared.matches.Span.{Span}
 abbrev pub text_in : CountingSession → List ℕ
 text_in session = current_text (chosen_buffer session.session.state)
 
-abbrev pub bytes_in : CountingSession → List ℕ
-bytes_in session = bytes_of (text_in session)
+abbrev pub text_bytes_in : CountingSession → List ℕ
+text_bytes_in session = bytes_of (text_in session)
 
 -- its report, which has no rows without a pattern
 abbrev pub AreRowsOf : CountingSession → List (List (ℕ × ℕ)) → Type 0
@@ -62,7 +62,7 @@ TellsByte session position status old new =
 abbrev pub TellsPosition : CountingSession → ℕ → ℕ → Position → Position → Type 0
 TellsPosition session byte status old new =
     ((status ≡ 0) × ((new.line, new.column) ≡ position (text_in session) byte))
-    ⊎ ((status ≡ 2) × (IsCharBoundary (bytes_in session) byte → ⊥) × (new ≡ old))
+    ⊎ ((status ≡ 2) × (IsCharBoundary (text_bytes_in session) byte → ⊥) × (new ≡ old))
 
 -- ---- columns in bytes and in characters
 
@@ -123,6 +123,6 @@ AreBytesIn session from to =
 abbrev pub CopiesText : CountingSession → ℕ → ℕ → Bool → List ℕ → List ℕ → Type 0
 CopiesText session from to true old new =
     AreBytesIn session from to × (to - from ≤ length old)
-    × (new ≡ with_front (between from to (bytes_in session)) old)
+    × (new ≡ with_front (between from to (text_bytes_in session)) old)
 CopiesText session from to false old new =
     (AreBytesIn session from to → length old < to - from) × (new ≡ old)

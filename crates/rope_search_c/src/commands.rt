@@ -1,8 +1,8 @@
 //! The calls for commands: one each, which answers 0, or why it is refused.
 ghost use Rattle.std.specs.Prelude.{◌≡◌, ◌^◌, ◌≤◌, ◌↔◌, ◌⊎◌, None, MatchOption};
 ghost use Rattle.rope_search.specs.declared.commands.CommandOf.TheVariants.{Text as SetText, Edit as EditText, Undo as UndoEdit, Redo as RedoEdit, Fork as ForkBuffer, Pattern as SetPattern, Off as DropPattern, Next as FindNext, Replace as ReplaceAll, Use as UseBuffer};
-ghost use Rattle.rope_search.specs.Session.{opened};
-ghost use Rattle.rope_search_c.specs.Calls.{Counts, Does, Finds, Forgets, Leads};
+ghost use Rattle.rope_search.specs.Session.{opened_session};
+ghost use Rattle.rope_search_c.specs.Calls.{DoesAndCounts, DoesOrder, DoesAndFinds, Forgets, LeadsHandle};
 ghost use Rattle.rope_search_c.specs.Edits.{MakesEdits};
 
 use crate::counting::CountingSession;
@@ -25,7 +25,7 @@ pub extern "C" fn rope_search_open(
     handle: &mut Handle,
 ) -> u32
     ensures ok { result ≡ 0 → MatchOption handle.new.held ⊥ (λ new.
-        (new.session ≡ opened limit) × (new.lines ≡ lines)) }
+        (new.session ≡ opened_session limit) × (new.lines ≡ lines)) }
     ensures size { (result ≡ 6) ↔ (2 ^ 63 ≤ limit) }
     ensures status { (result ≡ 0) ⊎ ((result ≡ 6) ⊎ (result ≡ 7)) }
     ensures refused { (result ≡ 0 → ⊥) → handle.new.held ≡ handle.old.held }
@@ -50,8 +50,8 @@ pub extern "C" fn rope_search_close(alloc: Global, handle: &mut Handle)
 /// Makes the bytes the chosen buffer's text, as `Command::Text` does.
 #[unsafe(no_mangle)]
 pub extern "C" fn rope_search_set_text(alloc: Global, handle: &mut Handle, text: &[u8]) -> u32
-    ensures { Leads handle.old.held result handle.new.held (λ old new.
-        Does old (SetText text.now) result new) }
+    ensures { LeadsHandle handle.old.held result handle.new.held (λ old new.
+        DoesOrder old (SetText text.now) result new) }
 {
     let Some(session) = handle.take(alloc) else {
         return CLOSED;
@@ -71,8 +71,8 @@ pub extern "C" fn rope_search_edit(
     to: Position,
     text: &[u8],
 ) -> u32
-    ensures { Leads handle.old.held result handle.new.held (λ old new.
-        Does old (EditText from to text.now) result new) }
+    ensures { LeadsHandle handle.old.held result handle.new.held (λ old new.
+        DoesOrder old (EditText from to text.now) result new) }
 {
     let Some(session) = handle.take(alloc) else {
         return CLOSED;
@@ -93,7 +93,7 @@ pub extern "C" fn rope_search_edit_all(
     edits: &[TextEdit],
     text: &[u8],
 ) -> u32
-    ensures { Leads handle.old.held result handle.new.held (λ old new.
+    ensures { LeadsHandle handle.old.held result handle.new.held (λ old new.
         MakesEdits old edits.now text.now result new) }
 {
     let Some(session) = handle.take(alloc) else {
@@ -108,8 +108,8 @@ pub extern "C" fn rope_search_edit_all(
 /// Goes one text back, as `Command::Undo` does.
 #[unsafe(no_mangle)]
 pub extern "C" fn rope_search_undo(alloc: Global, handle: &mut Handle) -> u32
-    ensures { Leads handle.old.held result handle.new.held (λ old new.
-        Does old UndoEdit result new) }
+    ensures { LeadsHandle handle.old.held result handle.new.held (λ old new.
+        DoesOrder old UndoEdit result new) }
 {
     let Some(session) = handle.take(alloc) else {
         return CLOSED;
@@ -123,8 +123,8 @@ pub extern "C" fn rope_search_undo(alloc: Global, handle: &mut Handle) -> u32
 /// Goes one text forward, as `Command::Redo` does.
 #[unsafe(no_mangle)]
 pub extern "C" fn rope_search_redo(alloc: Global, handle: &mut Handle) -> u32
-    ensures { Leads handle.old.held result handle.new.held (λ old new.
-        Does old RedoEdit result new) }
+    ensures { LeadsHandle handle.old.held result handle.new.held (λ old new.
+        DoesOrder old RedoEdit result new) }
 {
     let Some(session) = handle.take(alloc) else {
         return CLOSED;
@@ -138,8 +138,8 @@ pub extern "C" fn rope_search_redo(alloc: Global, handle: &mut Handle) -> u32
 /// Makes the bytes the chosen buffer's pattern, as `Command::Pattern` does.
 #[unsafe(no_mangle)]
 pub extern "C" fn rope_search_set_pattern(alloc: Global, handle: &mut Handle, pattern: &[u8]) -> u32
-    ensures { Leads handle.old.held result handle.new.held (λ old new.
-        Does old (SetPattern pattern.now) result new) }
+    ensures { LeadsHandle handle.old.held result handle.new.held (λ old new.
+        DoesOrder old (SetPattern pattern.now) result new) }
 {
     let Some(session) = handle.take(alloc) else {
         return CLOSED;
@@ -153,8 +153,8 @@ pub extern "C" fn rope_search_set_pattern(alloc: Global, handle: &mut Handle, pa
 /// Drops the chosen buffer's pattern, as `Command::Off` does.
 #[unsafe(no_mangle)]
 pub extern "C" fn rope_search_off(alloc: Global, handle: &mut Handle) -> u32
-    ensures { Leads handle.old.held result handle.new.held (λ old new.
-        Does old DropPattern result new) }
+    ensures { LeadsHandle handle.old.held result handle.new.held (λ old new.
+        DoesOrder old DropPattern result new) }
 {
     let Some(session) = handle.take(alloc) else {
         return CLOSED;
@@ -174,8 +174,8 @@ pub extern "C" fn rope_search_next(
     from: Position,
     found: &mut Match,
 ) -> u32
-    ensures { Leads handle.old.held result handle.new.held (λ old new.
-        Finds old (FindNext from) result found.new new) }
+    ensures { LeadsHandle handle.old.held result handle.new.held (λ old new.
+        DoesAndFinds old (FindNext from) result found.new new) }
 {
     let Some(session) = handle.take(alloc) else {
         return CLOSED;
@@ -195,8 +195,8 @@ pub extern "C" fn rope_search_replace(
     template: &[u8],
     count: &mut usize,
 ) -> u32
-    ensures { Leads handle.old.held result handle.new.held (λ old new.
-        Counts old (ReplaceAll template.now) result count.new new) }
+    ensures { LeadsHandle handle.old.held result handle.new.held (λ old new.
+        DoesAndCounts old (ReplaceAll template.now) result count.new new) }
 {
     let Some(session) = handle.take(alloc) else {
         return CLOSED;
@@ -211,8 +211,8 @@ pub extern "C" fn rope_search_replace(
 /// it is refused. `number` is written unless the handle is closed.
 #[unsafe(no_mangle)]
 pub extern "C" fn rope_search_fork(alloc: Global, handle: &mut Handle, number: &mut usize) -> u32
-    ensures { Leads handle.old.held result handle.new.held (λ old new.
-        Counts old ForkBuffer result number.new new) }
+    ensures { LeadsHandle handle.old.held result handle.new.held (λ old new.
+        DoesAndCounts old ForkBuffer result number.new new) }
 {
     let Some(session) = handle.take(alloc) else {
         return CLOSED;
@@ -226,8 +226,8 @@ pub extern "C" fn rope_search_fork(alloc: Global, handle: &mut Handle, number: &
 /// Chooses a buffer by its number, as `Command::Use` does.
 #[unsafe(no_mangle)]
 pub extern "C" fn rope_search_choose(alloc: Global, handle: &mut Handle, number: u64) -> u32
-    ensures { Leads handle.old.held result handle.new.held (λ old new.
-        Does old (UseBuffer number) result new) }
+    ensures { LeadsHandle handle.old.held result handle.new.held (λ old new.
+        DoesOrder old (UseBuffer number) result new) }
 {
     let Some(session) = handle.take(alloc) else {
         return CLOSED;
@@ -242,7 +242,8 @@ pub extern "C" fn rope_search_choose(alloc: Global, handle: &mut Handle, number:
 /// report stay. It takes no memory.
 #[unsafe(no_mangle)]
 pub extern "C" fn rope_search_forget(alloc: Global, handle: &mut Handle) -> u32
-    ensures { Leads handle.old.held result handle.new.held (λ old new. Forgets old result new) }
+    ensures { LeadsHandle handle.old.held result handle.new.held
+        (λ old new. Forgets old result new) }
 {
     let Some(session) = handle.take(alloc) else {
         return CLOSED;

@@ -1,9 +1,9 @@
 //! A session that counts its searches, and its commands with a status for an answer.
 ghost use Rattle.std.specs.Prelude.{◌≡◌, ◌^◌, ◌≤◌, ◌↔◌, ◌⊎◌, Err, IfOk, IfErr};
 ghost use Rattle.rope_search.specs.declared.commands.CommandOf.TheVariants.{Text as SetText, Edit as EditText, Undo as UndoEdit, Redo as RedoEdit, Fork as ForkBuffer, Pattern as SetPattern, Off as DropPattern, Next as FindNext, Replace as ReplaceAll, Use as UseBuffer};
-ghost use Rattle.rope_search.specs.Session.{opened};
+ghost use Rattle.rope_search.specs.Session.{opened_session};
 ghost use Rattle.rope_search.specs.Stands.{ForOrders};
-ghost use Rattle.rope_search_c.specs.Calls.{Carries, Counts, Does, Finds, Forgets, Tells};
+ghost use Rattle.rope_search_c.specs.Calls.{Carries, DoesAndCounts, DoesOrder, DoesAndFinds, Forgets, TellsFound};
 ghost use Rattle.rope_search_c.specs.Calls as calls;
 ghost use Rattle.rope_search_c.specs.Edits.{MakesEdits};
 ghost use Rattle.rope_search_c.specs.Edits as text_edits;
@@ -52,7 +52,7 @@ fn number_of(answer: Result<Reply, Fault>) -> usize
 
 /// The match that is found, or that there is none.
 fn match_of(answer: Result<Reply, Fault>) -> Match
-    ensures { Tells answer result }
+    ensures { TellsFound answer result }
 {
     match answer {
         Ok(Reply::Found(start, stop)) => Match {
@@ -80,7 +80,7 @@ impl CountingSession {
         limit: usize,
         lines: Lines,
     ) -> Result<Box<CountingSession>, Fault>
-        ensures session { IfOk result (λ new. new.value.session ≡ opened limit) }
+        ensures session { IfOk result (λ new. new.value.session ≡ opened_session limit) }
         ensures lines { IfOk result (λ new. new.value.lines ≡ lines) }
         ensures size { (result ≡ Err Fault.Size) ↔ (2 ^ 63 ≤ limit) }
         ensures fault { IfErr result (λ fault. (fault ≡ Fault.Size) ⊎ (fault ≡ Fault.Memory)) }
@@ -104,13 +104,13 @@ impl CountingSession {
     }
 
     pub(crate) fn set_text(&mut self, text: &[u8]) -> u32
-        ensures { Does self.old (SetText text.now) result self.new }
+        ensures { DoesOrder self.old (SetText text.now) result self.new }
     {
         status_of(self.apply(Command::Text(Payload::Kept(text))))
     }
 
     pub(crate) fn edit(&mut self, from: Position, to: Position, text: &[u8]) -> u32
-        ensures { Does self.old (EditText from to text.now) result self.new }
+        ensures { DoesOrder self.old (EditText from to text.now) result self.new }
     {
         status_of(self.apply(Command::Edit(from, to, Payload::Kept(text))))
     }
@@ -126,37 +126,37 @@ impl CountingSession {
     }
 
     pub(crate) fn undo(&mut self) -> u32
-        ensures { Does self.old UndoEdit result self.new }
+        ensures { DoesOrder self.old UndoEdit result self.new }
     {
         status_of(self.apply(Command::Undo))
     }
 
     pub(crate) fn redo(&mut self) -> u32
-        ensures { Does self.old RedoEdit result self.new }
+        ensures { DoesOrder self.old RedoEdit result self.new }
     {
         status_of(self.apply(Command::Redo))
     }
 
     pub(crate) fn set_pattern(&mut self, pattern: &[u8]) -> u32
-        ensures { Does self.old (SetPattern pattern.now) result self.new }
+        ensures { DoesOrder self.old (SetPattern pattern.now) result self.new }
     {
         status_of(self.apply(Command::Pattern(Payload::Kept(pattern))))
     }
 
     pub(crate) fn off(&mut self) -> u32
-        ensures { Does self.old DropPattern result self.new }
+        ensures { DoesOrder self.old DropPattern result self.new }
     {
         status_of(self.apply(Command::Off))
     }
 
     pub(crate) fn choose(&mut self, number: u64) -> u32
-        ensures { Does self.old (UseBuffer number) result self.new }
+        ensures { DoesOrder self.old (UseBuffer number) result self.new }
     {
         status_of(self.apply(Command::Use(number)))
     }
 
     pub(crate) fn next(&mut self, from: Position, found: &mut Match) -> u32
-        ensures { Finds self.old (FindNext from) result found.new self.new }
+        ensures { DoesAndFinds self.old (FindNext from) result found.new self.new }
     {
         let answer = self.apply(Command::Next(from));
         *found = match_of(answer);
@@ -164,7 +164,7 @@ impl CountingSession {
     }
 
     pub(crate) fn replace(&mut self, template: &[u8], count: &mut usize) -> u32
-        ensures { Counts self.old (ReplaceAll template.now) result count.new self.new }
+        ensures { DoesAndCounts self.old (ReplaceAll template.now) result count.new self.new }
     {
         let answer = self.apply(Command::Replace(Payload::Kept(template)));
         *count = number_of(answer);
@@ -172,7 +172,7 @@ impl CountingSession {
     }
 
     pub(crate) fn fork(&mut self, number: &mut usize) -> u32
-        ensures { Counts self.old ForkBuffer result number.new self.new }
+        ensures { DoesAndCounts self.old ForkBuffer result number.new self.new }
     {
         let answer = self.apply(Command::Fork);
         *number = number_of(answer);

@@ -4,9 +4,9 @@ ghost use Rattle.std.specs.Prelude.{◌≡◌, ◌+◌, ◌<◌, ◌↔◌, leng
 ghost use Rattle.rope_search.specs.Session.{chosen_buffer};
 ghost use Rattle.rope_search_reports.specs.Text.{line_count};
 ghost use Rattle.rope_search.specs.Stretches.{none};
-ghost use Rattle.rope_search_c.specs.Calls.{Leads};
+ghost use Rattle.rope_search_c.specs.Calls.{LeadsHandle};
 ghost use Rattle.rope_search_c.specs.Groups.{CopiesGroups};
-ghost use Rattle.rope_search_c.specs.Reading.{CopiesMatches, CopiesText, CountsMatches, CountsRows, TellsByte, TellsColumn, TellsPosition, TellsPositionIn, bytes_in, changed_in, text_in};
+ghost use Rattle.rope_search_c.specs.Reading.{CopiesMatches, CopiesText, CountsMatches, CountsRows, TellsByte, TellsColumn, TellsPosition, TellsPositionIn, text_bytes_in, changed_in, text_in};
 
 use crate::handles::{CLOSED, Handle};
 use crate::matches::{Group, Span};
@@ -27,7 +27,8 @@ pub struct Counted {
 #[unsafe(no_mangle)]
 pub extern "C" fn rope_search_text_len(alloc: Global, handle: &mut Handle) -> usize
     ensures same { handle.new.held ≡ handle.old.held }
-    ensures len { MatchOption handle.old.held (result ≡ 0) (λ old. result ≡ length (bytes_in old)) }
+    ensures len { MatchOption handle.old.held (result ≡ 0)
+        (λ old. result ≡ length (text_bytes_in old)) }
 {
     let Some(session) = handle.take(alloc) else {
         return 0;
@@ -123,7 +124,7 @@ pub extern "C" fn rope_search_groups_at(
     number: usize,
     out: &mut [Group],
 ) -> u32
-    ensures told { Leads handle.old.held result handle.new.held (λ old new.
+    ensures told { LeadsHandle handle.old.held result handle.new.held (λ old new.
         CopiesGroups old line number result out.old out.new new) }
     ensures closed { handle.old.held ≡ None → out.new ≡ out.old }
 {

@@ -3,7 +3,7 @@
 use Rattle.std.specs.Prelude.{ℕ, ◌+◌, ◌-◌, ◌≤◌, ◌==◌, ◌&&◌, nat_le, Bool, if◌then◌else◌, List, [], ◌∷◌, ◌++◌, take, drop, Option, None, Some, slice_index_or, sum_by, chars, All, IfSome}
 use Rattle.std.specs.Str.{IsCharBoundary}
 use Rattle.str_indices.specs.Text.{byte_len}
-use Rattle.rope_search_changes.specs.Text.{bytes_of, line_count}
+use Rattle.rope_search_changes.specs.Text.{line_count}
 use Rattle.rope_search_changes.specs.declared.Change.{Change}
 
 -- the groups of a match

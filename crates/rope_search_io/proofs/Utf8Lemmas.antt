@@ -6,7 +6,7 @@ use Rattle.std.proofs.lemmas.Grind.{common_steps, take-set_at}
 use Rattle.std.proofs.lemmas.List.{length-take}
 use Rattle.std.proofs.lemmas.Str.{IsUtf8-append, IsUtf8-nil, cons_from_encodes}
 use Rattle.std.proofs.Math.Utf8.{encode, encodes, scalar, scalars}
-use Rattle.rope_search_io.specs.Utf8Judge.{width_of, Judging, Continues}
+use Rattle.rope_search_io.specs.Utf8Judge.{len_by_first, Judging, Continues}
 
 -- two fronts of one length are the same front
 pub fronts_same : (a b x y : List ℕ) → length a ≡ length b → a ++ x ≡ b ++ y → (a ≡ b) × (x ≡ y)
@@ -20,7 +20,7 @@ both_true true y h = (refl, h)
 both_true false y h = cc
 
 -- a character has as many bytes as its first byte says
-pub width-encode : (c : ℕ) (rest : List ℕ) → width_of (get_or (encode c ++ rest) 0 0) ≡ length (encode c)
+pub width-encode : (c : ℕ) (rest : List ℕ) → len_by_first (get_or (encode c ++ rest) 0 0) ≡ length (encode c)
 unfolding encode
 width-encode c rest = grind (arith, nat_tests)
 
@@ -29,27 +29,27 @@ first_of : (part more : List ℕ) → 0 < length part → get_or (part ++ more) 
 first_of [] more h = absurd (omega arith)
 first_of (b ∷ part) more h = refl
 
-front_whole : (part more cs : List ℕ) → 0 < length part → length part ≡ width_of (get_or part 0 0) → scalars cs ≡ true → encodes cs ≡ part ++ more
+front_whole : (part more cs : List ℕ) → 0 < length part → length part ≡ len_by_first (get_or part 0 0) → scalars cs ≡ true → encodes cs ≡ part ++ more
     → IsUtf8 part × IsUtf8 more
 front_whole part more [] some width valid whole = absurd (omega (arith, ap length whole, length-append part more))
 front_whole part more (c ∷ cs) some width valid whole =
     let both = both_true (scalar c) (scalars cs) valid in
     let one : length (encode c) ≡ length part =
-    sym (width-encode c (encodes cs)) ∙ ap (λ bs. width_of (get_or bs 0 0)) whole ∙ ap width_of (first_of part more some) ∙ sym width in
+    sym (width-encode c (encodes cs)) ∙ ap (λ bs. len_by_first (get_or bs 0 0)) whole ∙ ap len_by_first (first_of part more some) ∙ sym width in
     let same = fronts_same (encode c) part (encodes cs) more one whole in
     ((c ∷ [], (ap (λ b. b && true) both.0, append-nil (encode c) ∙ same.0)), (cs, (both.1, same.1)))
 
 -- where a text begins with as many bytes as its first byte says, these are a character, and what follows is a text
-pub IsUtf8-split : (part more : List ℕ) → 0 < length part → length part ≡ width_of (get_or part 0 0) → IsUtf8 (part ++ more) → IsUtf8 part × IsUtf8 more
+pub IsUtf8-split : (part more : List ℕ) → 0 < length part → length part ≡ len_by_first (get_or part 0 0) → IsUtf8 (part ++ more) → IsUtf8 part × IsUtf8 more
 IsUtf8-split part more some width text = front_whole part more text.0 some width text.1.0 text.1.1
 
-short_part : (part cs : List ℕ) → 0 < length part → length part < width_of (get_or part 0 0) → encodes cs ≡ part → ⊥
+short_part : (part cs : List ℕ) → 0 < length part → length part < len_by_first (get_or part 0 0) → encodes cs ≡ part → ⊥
 short_part part [] some few whole = omega (arith, ap length whole)
 short_part part (c ∷ cs) some few whole =
-    omega (arith, ap length whole, length-append (encode c) (encodes cs), width-encode c (encodes cs), ap (λ bs. width_of (get_or bs 0 0)) whole)
+    omega (arith, ap length whole, length-append (encode c) (encodes cs), width-encode c (encodes cs), ap (λ bs. len_by_first (get_or bs 0 0)) whole)
 
 -- a part of a character is no text
-pub IsUtf8-part : (part : List ℕ) → 0 < length part → length part < width_of (get_or part 0 0) → IsUtf8 part → ⊥
+pub IsUtf8-part : (part : List ℕ) → 0 < length part → length part < len_by_first (get_or part 0 0) → IsUtf8 part → ⊥
 IsUtf8-part part some few text = short_part part text.0 some few text.1.1
 
 after_chars : (cs ds more : List ℕ) → scalars ds ≡ true → encodes ds ≡ encodes cs ++ more → IsUtf8 more
@@ -75,7 +75,7 @@ IsTrue-not false h = absurd (true≢false h)
 
 -- the last byte of a character, judged with it
 pub Continues-closed : (part : List ℕ) (byte : ℕ) (text : Bool) (more : List ℕ)
-    → length (part ++ byte ∷ []) ≡ width_of (get_or (part ++ byte ∷ []) 0 0) → (IsTrue text ↔ IsUtf8 (part ++ byte ∷ []))
+    → length (part ++ byte ∷ []) ≡ len_by_first (get_or (part ++ byte ∷ []) 0 0) → (IsTrue text ↔ IsUtf8 (part ++ byte ∷ []))
     → Continues (record { part = part; dead = false }) (byte ∷ more) ↔ Continues (record { part = []; dead = not text }) more
 Continues-closed part byte text more width judged =
     let whole = part ++ byte ∷ [] in
@@ -88,33 +88,33 @@ Continues-closed part byte text more width judged =
 same_first : (bytes : List ℕ) (n : ℕ) → 0 < n → get_or (take n bytes) 0 0 ≡ get_or bytes 0 0
 same_first bytes n some = grind (arith, common_steps)
 
-first_width : (bytes : List ℕ) (len byte : ℕ) → len < length bytes → (0 < len → len < width_of (get_or bytes 0 0))
-    → len + 1 ≤ width_of (get_or (set bytes len byte) 0 0)
+first_width : (bytes : List ℕ) (len byte : ℕ) → len < length bytes → (0 < len → len < len_by_first (get_or bytes 0 0))
+    → len + 1 ≤ len_by_first (get_or (set bytes len byte) 0 0)
 first_width bytes zero byte room few = omega arith
 first_width bytes (suc n) byte room few =
     let other : 0 ≢ suc n = omega arith in
     let first : get_or (set bytes (suc n) byte) 0 0 ≡ get_or bytes 0 0 = get_or-set_other bytes (suc n) 0 byte 0 other in
-    omega (arith, few (omega arith), ap width_of first)
+    omega (arith, few (omega arith), ap len_by_first first)
 
 -- the character that this byte ends has as many bytes as its first says
-pub width_reached : (bytes : List ℕ) (len byte : ℕ) → len < length bytes → (0 < len → len < width_of (get_or bytes 0 0))
-    → width_of (get_or (set bytes len byte) 0 0) ≤ len + 1
-    → length (take len bytes ++ byte ∷ []) ≡ width_of (get_or (take len bytes ++ byte ∷ []) 0 0)
+pub width_reached : (bytes : List ℕ) (len byte : ℕ) → len < length bytes → (0 < len → len < len_by_first (get_or bytes 0 0))
+    → len_by_first (get_or (set bytes len byte) 0 0) ≤ len + 1
+    → length (take len bytes ++ byte ∷ []) ≡ len_by_first (get_or (take len bytes ++ byte ∷ []) 0 0)
 width_reached bytes len byte room few reached =
     let grown : take (len + 1) (set bytes len byte) ≡ take len bytes ++ byte ∷ [] = take-set_at bytes len (len + 1) byte refl room in
-    let first : width_of (get_or (take len bytes ++ byte ∷ []) 0 0) ≡ width_of (get_or (set bytes len byte) 0 0) =
-    ap (λ l. width_of (get_or l 0 0)) (sym grown) ∙ ap width_of (same_first (set bytes len byte) (len + 1) (omega arith)) in
+    let first : len_by_first (get_or (take len bytes ++ byte ∷ []) 0 0) ≡ len_by_first (get_or (set bytes len byte) 0 0) =
+    ap (λ l. len_by_first (get_or l 0 0)) (sym grown) ∙ ap len_by_first (same_first (set bytes len byte) (len + 1) (omega arith)) in
     omega (arith, first, first_width bytes len byte room few, length-append (take len bytes) (byte ∷ []), length-take len bytes)
 
 -- the end, where a part of a character may be left
-pub Continues-end : (bytes : List ℕ) (len : ℕ) → len < length bytes → (0 < len → len < width_of (get_or bytes 0 0))
+pub Continues-end : (bytes : List ℕ) (len : ℕ) → len < length bytes → (0 < len → len < len_by_first (get_or bytes 0 0))
     → IsTrue (eqb len 0) ↔ Continues (record { part = take len bytes; dead = false }) []
 Continues-end bytes zero room few = (λ _. (refl, IsUtf8-nil), λ _. refl)
 Continues-end bytes (suc n) room few =
     let part = take (suc n) bytes in
     let size : length part ≡ suc n = omega (arith, length-take (suc n) bytes) in
     let first : get_or part 0 0 ≡ get_or bytes 0 0 = same_first bytes (suc n) (omega arith) in
-    let short : length part < width_of (get_or part 0 0) = omega (arith, ap width_of first, few (omega arith)) in (
+    let short : length part < len_by_first (get_or part 0 0) = omega (arith, ap len_by_first first, few (omega arith)) in (
       λ h. absurd (grind (arith, nat_tests)),
       λ h. absurd (IsUtf8-part part (omega arith) short (subst IsUtf8 (append-nil part) h.1)),
     )

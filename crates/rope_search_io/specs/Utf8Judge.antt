@@ -17,5 +17,5 @@ abbrev pub Feeds : Judging → Judging → List ℕ → Type 0
 Feeds old new bytes = (more : List ℕ) → Continues old (bytes ++ more) ↔ Continues new more
 
 -- as many bytes as a character has that begins with this one
-abbrev pub width_of : ℕ → ℕ
-width_of first = continuation_len first + 1
+abbrev pub len_by_first : ℕ → ℕ
+len_by_first first = continuation_len first + 1

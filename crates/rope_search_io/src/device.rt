@@ -1,8 +1,5 @@
 //! The readers and writers of std as sources and sinks.
-ghost use Rattle.std.specs.Prelude.{◌≡◌, ◌+◌, ◌<◌, IfOk, length};
-ghost use Rattle.std.specs.Io.{ReadsAtMost, WritesAtMost};
-ghost use Rattle.std.specs.Io.KnownBytes.{ReadConsumes, Keeps, WriteAppends};
-ghost use Rattle.rope_search_io.specs.Sources.{failures_in, ends_in};
+ghost use Rattle.std.specs.Prelude.{◌≡◌, ◌<◌};
 
 use crate::faults::Failed;
 use crate::read_buffer::READ_LEN;

@@ -1,6 +1,6 @@
 //! UTF-8 of bytes that aren't kept.
-ghost use Rattle.std.specs.Prelude.{◌≡◌, ◌+◌, ◌≤◌, ◌<◌, ◌↔◌, ◌++◌, ◌∷◌, [], List, ℕ, length, take, IsTrue, IsUtf8};
-ghost use Rattle.rope_search_io.specs.Utf8Judge.{Continues, Feeds, width_of};
+ghost use Rattle.std.specs.Prelude.{◌≡◌, ◌+◌, ◌≤◌, ◌<◌, ◌↔◌, ◌∷◌, [], List, ℕ, length, take, IsTrue, IsUtf8};
+ghost use Rattle.rope_search_io.specs.Utf8Judge.{Continues, Feeds, len_by_first};
 
 use std::marker::Model;
 
@@ -15,18 +15,19 @@ pub struct Utf8Judge {
 
 impl Model for Utf8Judge {
     ghost use Rattle.std.specs.Prelude.{◌<◌, slice_index, take};
-    ghost use Rattle.rope_search_io.specs.Utf8Judge.{Judging, width_of};
+    ghost use Rattle.rope_search_io.specs.Utf8Judge.{Judging, len_by_first};
 
     ghost Value = { Judging };
 
     ghost view = { λ j. record { part = take j.len j.part; dead = j.dead } };
 
-    ghost invariant = { λ j. (j.len < 4) × (0 < j.len → j.len < width_of (slice_index j.part 0)) };
+    ghost invariant = { λ j. (j.len < 4)
+        × (0 < j.len → j.len < len_by_first (slice_index j.part 0)) };
 }
 
 /// How many bytes a character has that begins with this byte.
 const fn width(first: u8) -> usize
-    ensures value { result ≡ width_of first }
+    ensures value { result ≡ len_by_first first }
     ensures few { result ≤ 4 }
 {
     match first {

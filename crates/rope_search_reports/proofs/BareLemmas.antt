@@ -14,7 +14,7 @@ use Rattle.rope_search_reports.specs.Pattern.{FindsMatch}
 use Rattle.rope_search_reports.specs.Position.{line_at, line_start, line_text, text_end}
 use Rattle.rope_search_reports.specs.Report.{line_texts, IsRow, AreRows}
 use Rattle.rope_search_reports.specs.Ticks.{Ticks, MakesAsMany, MakesAtMost}
-use Rattle.rope_search_reports.specs.Drafts.{AddsRows, AreBare, FindsNoneBetween, lines_between}
+use Rattle.rope_search_reports.specs.Drafts.{AddsRows, HaveNoMatches, FindsNoneBetween, lines_between}
 use Rattle.rope_search_reports.proofs.TextPlaces.{PlaceLaws}
 use Rattle.rope_search_reports.proofs.ChangeLemmas.{dropped, two}
 use Rattle.rope_search_reports.proofs.LineLemmas.{byte_len-one, lines-counted, lines-in-place}
@@ -98,7 +98,7 @@ bare-rows : (pattern : List ℕ) (owns : List (List ℕ)) → ((k : ℕ) → k <
 bare-rows pattern [] is = tt
 bare-rows pattern (own ∷ owns) is = (is 0 (omega arith), bare-rows pattern owns (λ k below. is (suc k) (omega (arith, below))))
 
-pub bare-added : (pattern text : List ℕ) (first end : ℕ) (rows rows' : List (List (ℕ × ℕ))) → first ≤ end → end ≤ line_count text → AreBare pattern text first end
+pub bare-added : (pattern text : List ℕ) (first end : ℕ) (rows rows' : List (List (ℕ × ℕ))) → first ≤ end → end ≤ line_count text → HaveNoMatches pattern text first end
     → rows' ≡ rows ++ replicate (end - first) [] → AddsRows pattern (lines_between text first end) rows rows'
 bare-added pattern text first end rows rows' low high bare is =
     let lines = drop first (line_texts text) in
@@ -141,25 +141,18 @@ pub bare-more : (rows rows' rows'' : List (List (ℕ × ℕ))) (row : List (ℕ 
 bare-more rows rows' rows'' row k so_far empty more =
     more ∙ ap (λ r. rows' ++ r ∷ []) empty ∙ ap (λ rs. rs ++ [] ∷ []) so_far ∙ append_assoc rows (replicate k []) ([] ∷ []) ∙ ap (λ rs. rows ++ rs) (replicate_more k [])
 
--- rows that were made, and then more of them
-pub at-most : (a b n : ℕ) (old mid new : Ticks) → MakesAtMost a old mid → MakesAtMost b mid new → a + b ≤ n → MakesAtMost n old new
-at-most a b n old mid new one other fits =
-    let made = one.made in
-    let more = other.made in
-    record { grows = omega (arith, one.grows, other.grows); made = omega (arith, made, more, fits); no_whole = other.no_whole ∙ one.no_whole }
-
 -- ---- lines of a chunk
 
 -- the lines of a text that end before a place up to which nothing matches
 pub bare-front : PlaceLaws → RisesWithIndex (break_ends is_break) → AllHaveFinds → (pattern bytes : List ℕ) (place count : ℕ) → IsUtf8 bytes
-    → count ≡ line_at (chars bytes) place → FindsNoneBetween pattern bytes 0 place → AreBare pattern (chars bytes) 0 count
+    → count ≡ line_at (chars bytes) place → FindsNoneBetween pattern bytes 0 place → HaveNoMatches pattern (chars bytes) 0 count
 bare-front law rises finds pattern bytes place count utf8 is none line low high =
     let own : FindsNoneBetween pattern (bytes_of (chars bytes)) 0 place = subst (λ bs. FindsNoneBetween pattern bs 0 place) (sym (encodes-chars bytes utf8)) none in
     bare-line law rises (chars bytes) finds pattern 0 place line low (omega (arith, high, is)) own
 
 -- they are lines of the text that the chunk shows
 pub bare-shown : (pattern text rest : List ℕ) (line count : ℕ) → ((k : ℕ) → k < breaks is_break rest → line_text text (line + k) ≡ line_text rest k)
-    → count ≤ breaks is_break rest → AreBare pattern rest 0 count → AreBare pattern text line (line + count)
+    → count ≤ breaks is_break rest → HaveNoMatches pattern rest 0 count → HaveNoMatches pattern text line (line + count)
 bare-shown pattern text rest line count shows inside bare l low high =
     let k = l - line in
     let there : line + k ≡ l = omega (arith, low) in
@@ -170,9 +163,9 @@ bare-shown pattern text rest line count shows inside bare l low high =
 -- so those that end there before such a place have no match
 pub bare-ahead : PlaceLaws → RisesWithIndex (break_ends is_break) → AllHaveFinds → (pattern bytes text rest : List ℕ) (line place count : ℕ) → IsUtf8 bytes → chars bytes ≡ rest
     → count ≡ line_at (chars bytes) place → FindsNoneBetween pattern bytes 0 place → ((k : ℕ) → k < breaks is_break rest → line_text text (line + k) ≡ line_text rest k)
-    → AreBare pattern text line (line + count)
+    → HaveNoMatches pattern text line (line + count)
 bare-ahead law rises finds pattern bytes text rest line place count utf8 same is none shows =
-    let own : AreBare pattern rest 0 count = subst (λ t. AreBare pattern t 0 count) same (bare-front law rises finds pattern bytes place count utf8 is none) in
+    let own : HaveNoMatches pattern rest 0 count = subst (λ t. HaveNoMatches pattern t 0 count) same (bare-front law rises finds pattern bytes place count utf8 is none) in
     let inside = line_inside (chars bytes) place in
     bare-shown pattern text rest line count shows (omega (arith, inside, is, ap (breaks is_break) same)) own
 
@@ -188,7 +181,7 @@ ahead-within bytes text rest line place count same is few =
 module _ (law : PlaceLaws) (pattern text : List ℕ) (line start place count : ℕ) (start_is : start ≡ line_start text line) (none : FindsNoneBetween pattern (bytes_of text) start place)
     (count_is : count ≡ line_at text place - line) where
   -- those that end before a place up to which nothing matches
-  pub bare-from : RisesWithIndex (break_ends is_break) → AllHaveFinds → AreBare pattern text line (line + count)
+  pub bare-from : RisesWithIndex (break_ends is_break) → AllHaveFinds → HaveNoMatches pattern text line (line + count)
   bare-from rises finds l low high =
       bare-line law rises text finds pattern line place l low (omega (arith, low, high, count_is)) (subst (λ n. FindsNoneBetween pattern (bytes_of text) n place) start_is none)
 
@@ -269,12 +262,6 @@ counted-few count n old new sofar fits =
     let made = sofar.made in
     record { grows = sofar.grows; made = omega (arith, made, fits); no_whole = sofar.no_whole }
 
--- at most so many are at most more
-pub most-grows : (a n : ℕ) (old new : Ticks) → MakesAtMost a old new → a ≤ n → MakesAtMost n old new
-most-grows a n old new most fits =
-    let made = most.made in
-    record { grows = most.grows; made = omega (arith, made, fits); no_whole = most.no_whole }
-
 -- what is looked through makes no row
 pub looked-most : (a n : ℕ) (old mid new : Ticks) → mid.count ≡ old.count → mid.wholes ≡ old.wholes → MakesAtMost a mid new → a ≤ n → MakesAtMost n old new
 looked-most a n old mid new count whole most fits =
@@ -286,12 +273,6 @@ looked-many a old mid new count whole many =
     let least = many.least in
     let made = many.made in
     record { grows = omega (arith, many.grows, count); least = omega (arith, least, count); made = omega (arith, made, count); no_whole = many.no_whole ∙ whole }
-
-pub most-both : (a b n : ℕ) (old mid new : Ticks) → MakesAsMany a old mid → MakesAtMost b mid new → a + b ≤ n → MakesAtMost n old new
-most-both a b n old mid new one other fits =
-    let made = one.made in
-    let more = other.made in
-    record { grows = omega (arith, one.grows, other.grows); made = omega (arith, made, more, fits); no_whole = other.no_whole ∙ one.no_whole }
 
 -- so many rows of lines in which nothing matches, from one line on
 pub rows-so : (rows rows' : List (List (ℕ × ℕ))) (line count : ℕ) → rows' ≡ rows ++ replicate count [] → rows' ≡ rows ++ replicate (line + count - line) []

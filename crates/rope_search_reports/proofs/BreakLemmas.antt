@@ -1,5 +1,5 @@
 -- A line's break left off, by its last characters.
-use Rattle.std.proofs.Common.{◌≡◌, ℕ, zero, suc, ◌-◌, ◌<◌, ◌==◌, ◌&&◌, not, Bool, true, false, ◌⊎◌, inl, inr, List, [], ◌∷◌, ◌++◌, length, take, get_or, refl, sym, ap, ◌∙◌, append-nil, append_assoc, arith, length-append}
+use Rattle.std.proofs.Common.{◌≡◌, ℕ, zero, suc, ◌-◌, ◌<◌, true, false, ◌⊎◌, inl, inr, List, [], ◌∷◌, ◌++◌, length, take, get_or, sym, ap, ◌∙◌, append-nil, append_assoc, arith, length-append}
 use Rattle.std.specs.Str.{NonePass}
 use Rattle.std.proofs.Math.Seq.{take-append_seam, get_or-append_seam}
 use Rattle.std.proofs.lemmas.List.{get_or_append_left}
@@ -70,28 +70,3 @@ one-by line own (c ∷ d ∷ e ∷ es) parts plain (inr is) some last not_both =
 pub without-one : (line own : List ℕ) → HasOwnText line own → 0 < length line → (get_or line (length line - 1) 0 ≡ 10) ⊎ (get_or line (length line - 1) 0 ≡ 13)
     → (get_or line (length line - 1) 0 ≡ 10 → 1 < length line → get_or line (length line - 2) 0 ≡ 13 → ⊥) → take (length line - 1) line ≡ own
 without-one line own is some last not_both = one-by line own is.one is.parts is.plain is.ended some (is_break-of _ last) not_both
-
--- neither stands last: there is no break
-none-by : (line own one : List ℕ) → line ≡ own ++ one → (one ≡ []) ⊎ IsBreak is_break one [] → (is_break (get_or line (length line - 1) 0) ≡ true → ⊥) → line ≡ own
-none-by line own one parts (inl none) not_last = parts ∙ ap (λ t. own ++ t) none ∙ append-nil own
-none-by line own [] parts (inr is) not_last = absurd is
-none-by line own (c ∷ []) parts (inr is) not_last =
-    let sizes = ap length parts ∙ length-append own (c ∷ []) in
-    let at : length line - 1 ≡ length own = omega (arith, sizes) in
-    let last : get_or line (length line - 1) 0 ≡ c = ap (λ n. get_or line n 0) at ∙ ap (λ t. get_or t (length own) 0) parts ∙ get_or-append_seam own c [] 0 in
-    absurd (not_last (ap is_break last ∙ in_set (is_break c) (c == 13) is))
-  where
-    in_set : (in_set cr : Bool) → ((in_set && not (cr && false)) ≡ true) → in_set ≡ true
-    in_set true cr is = refl
-    in_set false cr is = is
-none-by line own (c ∷ d ∷ []) parts (inr is) not_last =
-    let sizes = ap length parts ∙ length-append own (c ∷ d ∷ []) in
-    let at : length line - 1 ≡ length (own ++ c ∷ []) = omega (arith, sizes, length-append own (c ∷ [])) in
-    let lf : get_or line (length line - 1) 0 ≡ 10 =
-    ap (λ n. get_or line n 0) at ∙ ap (λ t. get_or t (length (own ++ c ∷ [])) 0) (parts ∙ sym (append_assoc own (c ∷ []) (d ∷ [])))
-    ∙ get_or-append_seam (own ++ c ∷ []) d [] 0 ∙ is.1 in
-    absurd (not_last (ap is_break lf))
-none-by line own (c ∷ d ∷ e ∷ es) parts (inr is) not_last = absurd is
-
-pub without-none : (line own : List ℕ) → HasOwnText line own → (is_break (get_or line (length line - 1) 0) ≡ true → ⊥) → line ≡ own
-without-none line own is not_last = none-by line own is.one is.parts is.ended not_last

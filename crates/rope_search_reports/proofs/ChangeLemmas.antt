@@ -6,7 +6,7 @@ use Rattle.str_indices.specs.Text.{byte_len, breaks, ends_break}
 use Rattle.ropey.specs.Chunks.{is_break}
 use Rattle.rope_search_reports.specs.Report.{line_texts}
 use Rattle.rope_search_reports.specs.Position.{line_at}
-use Rattle.rope_search_reports.specs.Changes.{IsAtStart, StandsAt, IsInStep, ChangesKeepLines, TailsKeepLines}
+use Rattle.rope_search_reports.specs.Changes.{IsAtStart, StandsAtLines, IsInStep, ChangesKeepLines, TailsKeepLines}
 use Rattle.rope_search_reports.proofs.SpliceLemmas.{put, ended, line_texts-put, front, rear, ended-append, few, near, line_at-is}
 
 -- ---- a line behind each break
@@ -116,15 +116,6 @@ record Kept (old new : List (List ℕ)) (kept done start e g k k' : ℕ) : Type 
   pub high : start ≤ g + k + 1
   pub low : g + k ≤ start
 
-max-low : (a b : ℕ) → b ≤ a → max a b ≡ a
-max-low a b l = omega (arith, l)
-
-max-high : (a b : ℕ) → a ≤ b → max a b ≡ b
-max-high a b l = omega (arith, l)
-
-max-zero : (a : ℕ) → max a 0 ≡ a
-max-zero a = max-low a 0 (omega arith)
-
 minus-none : (n : ℕ) → n - 0 ≡ n
 minus-none n = omega arith
 
@@ -172,7 +163,7 @@ keeps-start : (gap after after' : List ℕ) → Keeps [] [] gap after after' 0 0
 keeps-start gap after after' = keeps-first gap after after' (max (0 + ended gap after') 0) (omega arith)
 
 keeps-at : (before before' gap after after' : List ℕ) (kept done : ℕ)
-    → StandsAt (before ++ (gap ++ after)) (before' ++ (gap ++ after')) (byte_len before) (byte_len before') kept done → Keeps before before' gap after after' kept done
+    → StandsAtLines (before ++ (gap ++ after)) (before' ++ (gap ++ after')) (byte_len before) (byte_len before') kept done → Keeps before before' gap after after' kept done
 keeps-at before before' gap after after' kept done stands =
     let e : kept ≡ suc (ended before (gap ++ after)) = omega (arith, stands.old_is, line_at-is (byte_len before) before (gap ++ after) refl) in
     let g : done ≡ suc (ended before' (gap ++ after')) = omega (arith, stands.new_is, line_at-is (byte_len before') before' (gap ++ after') refl) in
@@ -238,7 +229,7 @@ tail-start before before' tail kept done none =
     ∙ ap (λ n. take n (line_texts (before' ++ tail)) ++ line_texts (before ++ tail)) (sym none.none_new)
     ∙ ap (λ n. take done (line_texts (before' ++ tail)) ++ drop n (line_texts (before ++ tail))) (sym none.none)
 
-tail-at : (before before' tail : List ℕ) (kept done : ℕ) → StandsAt (before ++ tail) (before' ++ tail) (byte_len before) (byte_len before') kept done
+tail-at : (before before' tail : List ℕ) (kept done : ℕ) → StandsAtLines (before ++ tail) (before' ++ tail) (byte_len before) (byte_len before') kept done
     → line_texts (before' ++ tail) ≡ take done (line_texts (before' ++ tail)) ++ drop kept (line_texts (before ++ tail))
 tail-at before before' tail kept done stands =
     let e : suc (ended before tail) ≡ kept = omega (arith, stands.old_is, line_at-is (byte_len before) before tail refl) in

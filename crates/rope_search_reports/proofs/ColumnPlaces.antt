@@ -110,8 +110,3 @@ pub place-chars : (told : Option Place) (text : List ℕ) (line column : ℕ) �
     → IfSome told (λ place. (place.char_idx ≤ length text) × (byte_len (take place.char_idx text) ≡ place.byte_idx))
 place-chars None text line column nowhere = tt
 place-chars (Some place) text line column is = (is.within, is.bytes)
-
-pub place-is : (told : Option Place) (text : List ℕ) (line column : ℕ) → MatchOption told (IsNowhere text (line, column)) (λ place. IsAt text (line, column) place.byte_idx)
-    → IfSome told (λ place. (place.char_idx ≤ length text) × (byte_len (take place.char_idx text) ≡ place.byte_idx)) → IfSome told (IsPlaceOf text (line, column))
-place-is None text line column nowhere none = tt
-place-is (Some place) text line column at chars = record { at = at; within = chars.0; bytes = chars.1 }

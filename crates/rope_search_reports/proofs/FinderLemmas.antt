@@ -7,8 +7,8 @@ use Rattle.ropey.specs.Slices.{clip}
 use Rattle.regex_cursor.specs.Patterns.{Tree, SpellsTree, FoundMatch, TreeFinds, answer_slots}
 use Rattle.regex_cursor.specs.PatternLaws.{HasNotedGroups}
 use Rattle.rope_search_reports.specs.Matches.{both}
-use Rattle.rope_search_reports.specs.Finders.{IsTold, group_told}
-use Rattle.rope_search_reports.specs.Pattern.{SpellsNone, Finds, span_of}
+use Rattle.rope_search_reports.specs.Finders.{FinderTells, group_told}
+use Rattle.rope_search_reports.specs.Pattern.{SpellsNone, FindsSpan, span_of}
 use Rattle.rope_search_reports.proofs.PartLemmas.{clipped}
 
 pub short-none : (text pattern : List ℕ) → length text ≤ 65536 → (65536 < length text) ⊎ SpellsNone pattern → (length text ≤ 65536) × SpellsNone pattern
@@ -17,7 +17,7 @@ short-none text pattern short (inr none) = (short, none)
 
 -- what is told of a search is what the pattern finds
 pub finds-told : (pattern content : List ℕ) (from : ℕ) (tree : Tree) (span : Option (ℕ × ℕ)) (slots : List (Option ℕ)) → SpellsTree pattern tree
-    → IsTold (TreeFinds tree content from) span slots → Finds pattern content from span
+    → FinderTells (TreeFinds tree content from) span slots → FindsSpan pattern content from span
 finds-told pattern content from tree span slots spells told = record {
   found = told.out;
   is = record { tree = tree; spells = spells; finds = told.is };

@@ -14,7 +14,7 @@ use Rattle.rope_search_reports.specs.Text.{IsText, bytes_of}
 use Rattle.rope_search_reports.specs.Pattern.{span_of}
 use Rattle.rope_search_reports.specs.Matches.{both, group_of, groups_of}
 use Rattle.rope_search_reports.specs.Replacement.{Groups, whole, alone, between, text_of_span, group_text, is_digit, expand, replaced, FollowEachOther, IsSpanIn, HasSpansIn, AreMatchesIn}
-use Rattle.rope_search_reports.specs.Laws.{HasOneListOfGroups, HasGroups, HasFewGroups, GroupsFollowEachOther, ReplacedIsText}
+use Rattle.rope_search_reports.specs.Laws.{HasOneListOfGroups, HasGroups, MatchesAreFew, GroupsFollowEachOther, ReplacedIsText}
 use Rattle.rope_search_reports.proofs.MatchLemmas.{AllHaveFinds, AllNote}
 use Rattle.rope_search_reports.proofs.PlaceLemmas.{scalars-joined}
 use Rattle.rope_search_reports.proofs.ReportLaws.{matches-one}
@@ -32,7 +32,7 @@ has-groups finds pattern content is =
       record { matches = list.0; are = record { tree = is.0; spells = is.1.spells; are = list.1 }; groups_are = refl },
     )
 
-pub groups-few : AllHaveFinds → HasFewGroups
+pub groups-few : AllHaveFinds → MatchesAreFew
 groups-few finds pattern content groups is =
     let few = ((finds is.are.tree).rise (search_from content 0) is.matches is.are.are).few in
     omega (arith, few, ap length is.groups_are, length-map is.matches groups_of)

@@ -7,7 +7,6 @@ pub mod ColumnLemmas
 pub mod BreakLemmas
 pub mod FinderLemmas
 pub mod RowLemmas
-pub mod DraftLemmas
 pub mod LineLemmas
 pub mod PlaceLemmas
 pub mod PartLemmas

@@ -5,7 +5,7 @@ use Rattle.std.proofs.lemmas.List.Sums.{sum_by-append}
 use Rattle.rope_search_reports.specs.Text.{line_count}
 use Rattle.rope_search_reports.specs.Report.{line_texts, AreRows}
 use Rattle.rope_search_reports.specs.Patches.{made_by}
-use Rattle.rope_search_reports.specs.Drafts.{IsAdded}
+use Rattle.rope_search_reports.specs.Drafts.{IsPatchAdded}
 use Rattle.rope_search_reports.specs.Ticks.{Ticks, MakesAsMany}
 use Rattle.rope_search_reports.specs.declared.patches.Patch.{Patch}
 use Rattle.rope_search_reports.proofs.LineLemmas.{lines-counted}
@@ -24,7 +24,7 @@ made-more patches patches' patch is =
     omega (arith, ap made_by is, sum_by-append (λ (p : Patch). length p.made.items) patches (patch ∷ []))
 
 -- also where it goes into the last one
-pub made-added : (patches patches' : List Patch) (patch : Patch) → IsAdded patches patch patches' → made_by patches' ≡ made_by patches + length patch.made.items
+pub made-added : (patches patches' : List Patch) (patch : Patch) → IsPatchAdded patches patch patches' → made_by patches' ≡ made_by patches + length patch.made.items
 made-added patches patches' patch (inl is) = made-more patches patches' patch is
 made-added patches patches' patch (inr g) =
     omega (arith, made-more g.others patches' g.joined g.new_is, made-more g.others patches g.last g.old_is, ap length g.rows, length-append g.last.made.items patch.made.items)

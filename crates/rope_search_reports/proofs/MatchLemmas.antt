@@ -6,9 +6,9 @@ use Rattle.std.specs.Str.{IsUtf8, IsCharBoundary}
 use Rattle.std.proofs.lemmas.Bool.{cases_lt}
 use Rattle.std.proofs.lemmas.List.{map-append}
 use Rattle.regex_cursor.specs.Patterns as patterns
-use Rattle.regex_cursor.specs.Patterns.{Tree, FoundMatch, TreeFinds, TreeMatches, FirstTreeMatches, ComesBehind, BehindLast, search_from, pattern_weight, start_of, end_of}
+use Rattle.regex_cursor.specs.Patterns.{Tree, FoundMatch, TreeFinds, TreeFindsIn, TreeMatches, FirstTreeMatches, ComesBehind, BehindLast, finds_on, search_from, pattern_weight, start_of, end_of}
 use Rattle.regex_cursor.specs.PatternLaws.{HasFinds, HasNotedGroups, SpellsOneTree, SpellsTreeOrNone}
-use Rattle.rope_search_reports.specs.Pattern.{IsPattern, FindsMatch, Finds, span_of, weight_limit}
+use Rattle.rope_search_reports.specs.Pattern.{IsPattern, FindsMatch, FindsSpan, span_of, weight_limit}
 use Rattle.regex_cursor.specs.NextMatches.{TreeFindsNext, nothing, at_once, passed}
 use Rattle.rope_search_reports.specs.Finders.{start_behind}
 use Rattle.rope_search_reports.specs.Text.{IsText, bytes_of}
@@ -51,11 +51,11 @@ match-one trees finds pattern content from a b one other =
     let moved_to : TreeFinds one.tree content from b = subst (λ tree. TreeFinds tree content from b) same other.finds in
     (finds one.tree).one_find (search_from content from) a b one.finds moved_to
 
-pub find-one : SpellsOneTree → AllHaveFinds → (pattern content : List ℕ) (from : ℕ) (a b : Option (ℕ × ℕ)) → Finds pattern content from a → Finds pattern content from b → a ≡ b
+pub find-one : SpellsOneTree → AllHaveFinds → (pattern content : List ℕ) (from : ℕ) (a b : Option (ℕ × ℕ)) → FindsSpan pattern content from a → FindsSpan pattern content from b → a ≡ b
 find-one trees finds pattern content from a b one other =
     one.span_is ∙ ap (option_map span_of) (match-one trees finds pattern content from one.found other.found one.is other.is) ∙ sym other.span_is
 
-pub has-find : AllHaveFinds → (pattern content : List ℕ) (from : ℕ) → IsPattern pattern → (span : Option (ℕ × ℕ)) × Finds pattern content from span
+pub has-find : AllHaveFinds → (pattern content : List ℕ) (from : ℕ) → IsPattern pattern → (span : Option (ℕ × ℕ)) × FindsSpan pattern content from span
 has-find finds pattern content from is =
     let found = (finds is.0).has_find (search_from content from) in (
       option_map span_of found.0,
@@ -115,7 +115,7 @@ some-same a b e = cc
 
 -- in the words of the list of matches
 pub comes-behind : (tree : Tree) (content : List ℕ) (last : Option FoundMatch) (out : Option FoundMatch) → TreeFindsNext tree content (option_map end_of last) out
-    → BehindLast (TreeFinds tree content) start_of end_of 0 last out
+    → BehindLast (finds_on (TreeFindsIn tree) (search_from content 0)) 0 last out
 comes-behind tree content None None (nothing finds) = finds
 comes-behind tree content None (Some t) (at_once finds other) = finds
 comes-behind tree content None out (passed found empty later) = absurd (cc (empty.1))

@@ -3,7 +3,7 @@ use Rattle.std.proofs.Common.{◌≡◌, ℕ, List, Option, None, Some, length, 
 use Rattle.std.specs.Prelude.{option_map}
 use Rattle.regex_cursor.specs.Patterns.{Asked, AsksFrom, InputState, FoundMatch, answer_slots}
 use Rattle.rope_search_reports.specs.Pattern.{span_of}
-use Rattle.rope_search_reports.specs.Finders.{IsTold}
+use Rattle.rope_search_reports.specs.Finders.{FinderTells}
 
 some-is : {A : Type 0} (a b : A) → Some a ≡ Some b → a ≡ b
 some-is a b e = cc
@@ -22,14 +22,14 @@ pub record ToldMatch (P : Option FoundMatch → Type 0) (span : ℕ × ℕ) (slo
   pub span_is : span ≡ span_of t
   pub slots_are : slots ≡ answer_slots (length slots) (Some t)
 
-pub some-told : (P : Option FoundMatch → Type 0) (span : ℕ × ℕ) (slots : List (Option ℕ)) → IsTold P (Some span) slots → ToldMatch P span slots
+pub some-told : (P : Option FoundMatch → Type 0) (span : ℕ × ℕ) (slots : List (Option ℕ)) → FinderTells P (Some span) slots → ToldMatch P span slots
 some-told P span slots told = by told.out told.is told.span_is told.slots_are
   where
     by : (out : Option FoundMatch) → P out → Some span ≡ option_map span_of out → slots ≡ answer_slots (length slots) out → ToldMatch P span slots
     by None is e same = absurd (cc e)
     by (Some t) is e same = record { t = t; is = is; span_is = some-is span (span_of t) e; slots_are = same }
 
-pub none-told : (P : Option FoundMatch → Type 0) (slots : List (Option ℕ)) → IsTold P None slots → P None
+pub none-told : (P : Option FoundMatch → Type 0) (slots : List (Option ℕ)) → FinderTells P None slots → P None
 none-told P slots told = by told.out told.is told.span_is
   where
     by : (out : Option FoundMatch) → P out → None ≡ option_map span_of out → P None

@@ -1,6 +1,5 @@
 -- The lines of a rope as its slices, and their texts.
-use Rattle.std.proofs.Common.{◌≡◌, ℕ, zero, suc, ◌+◌, ◌-◌, ◌<◌, ◌≤◌, ◌==◌, Bool, true, false, not, ◌&&◌, inl, inr, List, [], ◌∷◌, ◌++◌, length, map, take, drop, slice_index_or, nat_lt, refl, sym, ap, subst, ◌∙◌, arith, append-nil, append_assoc}
-use Rattle.std.specs.List.{range_with_len}
+use Rattle.std.proofs.Common.{◌≡◌, ℕ, zero, suc, ◌+◌, ◌-◌, ◌<◌, ◌≤◌, ◌==◌, Bool, true, false, not, ◌&&◌, inl, inr, List, [], ◌∷◌, ◌++◌, length, take, drop, nat_lt, refl, sym, ap, ◌∙◌, arith, append-nil, append_assoc}
 use Rattle.std.proofs.Math.Seq.{take-append_seam, drop-append_seam}
 use Rattle.std.proofs.lemmas.Bool.{cases_Bool, cond-true, cond-false}
 use Rattle.std.proofs.lemmas.Bool.Decides.{nat_tests}
@@ -8,14 +7,13 @@ use Rattle.std.proofs.lemmas.List.{take_all, drop_all, drop-append-le, get_or_pa
 use Rattle.str_indices.specs.Text.{byte_len, break_ends, char_ends, ends_up_to}
 use Rattle.str_indices.specs.FirstBreak.{IsBreak}
 use Rattle.ropey.specs.Chunks.{is_break, text_of}
-use Rattle.ropey.specs.Iter.{line_pieces, lines_of}
+use Rattle.ropey.specs.Iter.{line_pieces}
 use Rattle.ropey.specs.Slices.{pieces_from_char, pieces_to_char, clip, char_of_line}
 use Rattle.rope_search_reports.specs.Text.{line_count}
-use Rattle.rope_search_reports.specs.Report.{line_texts}
 use Rattle.rope_search_reports.specs.Position.{line_start, line_text}
 use Rattle.rope_search_reports.specs.Drafts.{HasOwnText}
 use Rattle.rope_search_reports.proofs.TextPlaces.{PlaceLaws}
-use Rattle.rope_search_reports.proofs.LineLemmas.{lines-counted, byte_len-append, lines-in-place}
+use Rattle.rope_search_reports.proofs.LineLemmas.{byte_len-append, lines-in-place}
 use Rattle.rope_search_reports.proofs.PlaceLemmas.{front_of}
 
 -- ---- pieces that are clipped
@@ -132,41 +130,3 @@ module _ (law : PlaceLaws) where
               ended = inr (break-last one broken.rest broken.is);
             }
       ]
-
--- ---- all lines
-
--- of each of these lines, given as pieces, this is the text
-abbrev pub AreLines : List (List (List ℕ)) → List (List ℕ) → Type 0
-AreLines [] [] = Unit {0}
-AreLines (line ∷ lines) (own ∷ owns) = HasOwnText (text_of line) own × AreLines lines owns
-AreLines lines owns = ⊥
-
-each-line : (pieces_at : ℕ → List (List ℕ)) (owns : List (List ℕ)) (from count : ℕ) → count ≡ length owns
-    → ((k : ℕ) → k < length owns → HasOwnText (text_of (pieces_at (from + k))) (slice_index_or owns k []))
-    → AreLines (map pieces_at (range_with_len from count)) owns
-each-line pieces_at [] from zero counted is = tt
-each-line pieces_at [] from (suc count) counted is = absurd (omega (arith, counted))
-each-line pieces_at (own ∷ owns) from zero counted is = absurd (omega (arith, counted))
-each-line pieces_at (own ∷ owns) from (suc count) counted is =
-    let P : ℕ → ℕ → Type 0 = λ i k. HasOwnText (text_of (pieces_at i)) (slice_index_or (own ∷ owns) k []) in
-    let here : from + 0 ≡ from = omega arith in (
-      subst (λ i. P i 0) here (is 0 (omega arith)),
-      each-line pieces_at owns (from + 1) count (omega (arith, counted)) (λ k below.
-          let there : from + suc k ≡ from + 1 + k = omega arith in
-          subst (λ i. P i (suc k)) there (is (suc k) (omega (arith, below)))),
-    )
-
-pub lines-are : PlaceLaws → (pieces : List (List ℕ)) → AreLines (lines_of pieces) (line_texts (text_of pieces))
-lines-are law pieces =
-    let text = text_of pieces in
-    let counted = lines-counted text in
-    each-line (line_pieces pieces) (line_texts text) 0 (line_count text) (sym counted) (λ k below.
-    let here : k ≡ 0 + k = omega arith in
-    subst (λ i. HasOwnText (text_of (line_pieces pieces i)) (slice_index_or (line_texts text) k [])) here (line-is law pieces k (omega (arith, below, counted))))
-
-pub lines-from : (n : ℕ) (lines : List (List (List ℕ))) (owns : List (List ℕ)) → AreLines lines owns → AreLines (drop n lines) (drop n owns)
-lines-from zero lines owns are = are
-lines-from (suc n) [] [] are = tt
-lines-from (suc n) [] (own ∷ owns) are = absurd are
-lines-from (suc n) (line ∷ lines) [] are = absurd are
-lines-from (suc n) (line ∷ lines) (own ∷ owns) are = lines-from n lines owns are.1

@@ -7,7 +7,7 @@ use Rattle.regex_cursor.specs.PatternLaws.{HasFinds}
 use Rattle.regex_cursor.specs.Regexes.{EngineFinds, IsRegexOf, RegexView}
 use Rattle.regex_cursor.specs.NextMatches.{TreeFindsNext}
 use Rattle.regex_cursor.proofs.TreeLaws.{finds_of_trees, next_of_trees, regexes_have_trees}
-use Rattle.rope_search_reports.specs.Finders.{IsTold, PassState, group_told, start_behind}
+use Rattle.rope_search_reports.specs.Finders.{FinderTells, PassState, group_told, start_behind}
 use Rattle.rope_search_reports.specs.Pattern.{span_of}
 use Rattle.rope_search_reports.proofs.FinderLemmas.{whole-told}
 use Rattle.rope_search_reports.proofs.MatchLemmas.{comes-from, lies-behind}
@@ -67,7 +67,7 @@ came-of text re built content m n pattern slots step on asks two =
 -- ---- what is told of it
 
 pub came-told : (tree : Tree) (content : List ℕ) (m n : LinearState) (pattern : Option ℕ) (slots : List (Option ℕ)) → Came tree content m n pattern slots
-    → IsTold (TreeFindsNext tree content m.last_end) (group_told slots 0) slots
+    → FinderTells (TreeFindsNext tree content m.last_end) (group_told slots 0) slots
 came-told tree content m n pattern slots came = record { out = came.out; is = came.comes; span_is = came.whole; slots_are = came.slots_are }
 
 -- ---- what is left

@@ -1,6 +1,6 @@
 -- Places of a text between its characters: what stands before one in characters, in code units and
 -- in lines, and the line's start before it.
-use Rattle.std.proofs.Common.{◌≡◌, ℕ, nat_le, ◌+◌, ◌-◌, ◌<◌, ◌≤◌, true, List, [], ◌∷◌, ◌++◌, length, take, drop, min, get_or, slice_index_or, refl, ap, arith, sym, ◌∙◌, subst, append-nil, append_assoc, length-append, chars}
+use Rattle.std.proofs.Common.{◌≡◌, ℕ, nat_le, ◌+◌, ◌-◌, ◌<◌, ◌≤◌, true, List, [], ◌∷◌, ◌++◌, length, take, drop, min, get_or, slice_index_or, refl, ap, arith, sym, ◌∙◌, subst, append-nil, append_assoc, chars}
 use Rattle.std.specs.Str.{all_scalars, IsUtf8, IsCharBoundary}
 use Rattle.std.proofs.Math.Seq.{take-append_seam, drop-append_seam}
 use Rattle.std.proofs.lemmas.Bool.{and_parts, and_from}
@@ -186,33 +186,6 @@ pub record Reached (text : List ℕ) (place line start_char start at_char at : �
   pub at_within : at_char ≤ length text
   pub order : start ≤ at
   pub column : at - start ≡ column_at text place
-
-pub reached : PlaceLaws → (text : List ℕ) (place line start_char start at_char at : ℕ) → all_scalars text ≡ true → IsCharBoundary (bytes_of text) place
-    → line ≡ line_at text place
-    → start_char ≡ ends_up_to (line_start text line) (char_ends text) → start ≡ ends_up_to (end_place (char_ends text) start_char (byte_len text)) (unit_ends text)
-    → at_char ≡ ends_up_to place (char_ends text) → at ≡ ends_up_to (end_place (char_ends text) at_char (byte_len text)) (unit_ends text)
-    → Reached text place line start_char start at_char at
-reached law text place line start_char start at_char at scalars boundary line_is start_char_is start_is at_char_is at_is =
-    let h = in_line law text scalars place boundary in
-    let own = front_of law text h.before (h.mid ++ h.back) (h.parts ∙ append_assoc h.before h.mid h.back) in
-    let all = front_of law text (h.before ++ h.mid) h.back h.parts in
-    let starts : line_start text line ≡ byte_len h.before = ap (line_start text) line_is ∙ h.line.starts ∙ ap byte_len h.same in
-    let chars : start_char ≡ length h.before = start_char_is ∙ chars_there law text h.before (line_start text line) own starts in
-    let chars' : at_char ≡ length (h.before ++ h.mid) = at_char_is ∙ chars_there law text (h.before ++ h.mid) place all h.place_is in
-    let units_of_start : start ≡ units h.before =
-    start_is ∙ ap (λ n. ends_up_to (end_place (char_ends text) n (byte_len text)) (unit_ends text)) start_char_is ∙ units_there law text h.before (line_start text line) own starts in
-    let units_of_place : at ≡ units (h.before ++ h.mid) =
-    at_is ∙ ap (λ n. ends_up_to (end_place (char_ends text) n (byte_len text)) (unit_ends text)) at_char_is ∙ units_there law text (h.before ++ h.mid) place all h.place_is in
-    let sum : units (h.before ++ h.mid) ≡ units h.before + units h.mid = sum_by-append units_of h.before h.mid in
-    let sizes = ap length h.parts ∙ length-append (h.before ++ h.mid) h.back in
-    let size = length-append h.before h.mid in
-    let column = h.column in
-    record {
-      start_within = omega (arith, chars, sizes, size);
-      at_within = omega (arith, chars', sizes);
-      order = omega (arith, units_of_start, units_of_place, sum);
-      column = omega (arith, units_of_start, units_of_place, sum, column);
-    }
 
 -- the code units before the line's start, and those before the place
 pub record CountsColumn (text : List ℕ) (place : ℕ) : Type 0 where

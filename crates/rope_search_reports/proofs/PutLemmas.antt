@@ -1,7 +1,7 @@
 -- Rows that are moved one by one, and patches put in their places.
 use Rattle.std.proofs.Common.{◌≡◌, MatchOption, ℕ, zero, suc, ◌+◌, ◌-◌, ◌<◌, ◌≤◌, List, [], ◌∷◌, ◌++◌, length, take, drop, Option, None, Some, sym, ap, ◌∙◌, subst, arith, append_assoc, length-append, length-take, length-drop}
 use Rattle.std.specs.Option.{option_to_list}
-use Rattle.std.proofs.lemmas.List.{drop-drop, take_all, drop-append-le, take-append-le, take-take, drop-take, length-take-le}
+use Rattle.std.proofs.lemmas.List.{drop-drop, drop-append-le, take-append-le, take-take, drop-take, length-take-le}
 use Rattle.std.proofs.lemmas.List.Sums.{sum_by-append, sum_by-cons}
 use Rattle.rope_search_reports.specs.declared.patches.Patch.{Patch}
 use Rattle.rope_search_reports.specs.Patches.{patched, AreInTurn, growth_by, growth_of}
@@ -45,15 +45,6 @@ pub record IsPut (rows : List (List (ℕ × ℕ))) (patches : List Patch) (out l
   pub turn : AreInTurn at (length rows) rest
   pub whole : out ++ patched at rows rest ≡ patched 0 rows patches
   pub fits : length (patched 0 rows patches) ≤ room
-
-pub IsPut-start : (rows : List (List (ℕ × ℕ))) (patches : List Patch) (out left : List (List (ℕ × ℕ))) (rest : List Patch) (room : ℕ) → AreInTurn 0 (length rows) patches
-    → out ≡ [] → left ≡ rows → rest ≡ patches → length (patched 0 rows patches) ≤ room → IsPut rows patches out left 0 rest room
-IsPut-start rows patches out left rest room turn empty is all fits = record {
-  left_is = is;
-  turn = subst (AreInTurn 0 (length rows)) (sym all) turn;
-  whole = ap (λ xs. xs ++ patched 0 rows rest) empty ∙ ap (patched 0 rows) all;
-  fits = fits;
-}
 
 -- what the next patch needs
 pub record NextFits (left out : List (List (ℕ × ℕ))) (at first end made most : ℕ) : Type 0 where
@@ -111,12 +102,6 @@ IsPut-step rows patches out left out' left' at p ps rest room is put out-is left
           ∙ ap (λ xs. out ++ patched at rows xs) (sym is) ∙ put.whole;
       fits = put.fits;
     }
-
-pub IsPut-end : (rows : List (List (ℕ × ℕ))) (patches : List Patch) (out left out' : List (List (ℕ × ℕ))) (at count : ℕ) (rest : List Patch) (room : ℕ)
-    → rest ≡ [] → IsPut rows patches out left at rest room → count ≡ length left → out' ≡ out ++ take count left → out' ≡ patched 0 rows patches
-IsPut-end rows patches out left out' at count rest room is put long out-is =
-    out-is ∙ ap (λ xs. out ++ xs) (take_all count left (omega (arith, long)) ∙ put.left_is)
-    ∙ ap (λ xs. out ++ patched at rows xs) (sym is) ∙ put.whole
 
 pub IsPut-room : (rows : List (List (ℕ × ℕ))) (patches : List Patch) (out left : List (List (ℕ × ℕ))) (at : ℕ) (rest : List Patch) (room room' : ℕ) → room ≤ room'
     → IsPut rows patches out left at rest room → IsPut rows patches out left at rest room'

@@ -10,7 +10,7 @@ use Rattle.rope_search_reports.specs.Pattern.{span_of}
 use Rattle.rope_search_reports.specs.Matches.{AreGroups, IsMatches, both, group_of, groups_of}
 use Rattle.rope_search_reports.specs.Report.{IsRow, column, columns}
 use Rattle.regex_cursor.specs.NextMatches.{TreeFindsNext, at_once, passed}
-use Rattle.rope_search_reports.specs.Finders.{AreGroupsOf, AreSpansOf, IsRowOf, IsTold, group_told, start_behind}
+use Rattle.rope_search_reports.specs.Finders.{AreGroupsOf, AreSpansOf, IsRowOf, FinderTells, group_told, start_behind}
 use Rattle.rope_search_reports.proofs.MatchLemmas.{AllNote, Searched, Searched-more, Searched-end, comes-from, comes-further, lies-behind, room_behind, stands}
 use Rattle.rope_search_reports.proofs.NextLemmas.{ToldMatch, none-told, some-told}
 
@@ -19,10 +19,10 @@ abbrev pub NextMatch : Tree → List ℕ → Option ℕ → ℕ × ℕ → List 
 NextMatch tree content last span slots = ToldMatch (TreeFindsNext tree content last) span slots
 
 pub next-told : (tree : Tree) (content content' : List ℕ) (last : Option ℕ) (told : Option (ℕ × ℕ)) (span : ℕ × ℕ) (slots : List (Option ℕ)) → content' ≡ content
-    → IsTold (TreeFindsNext tree content' last) told slots → told ≡ Some span → NextMatch tree content last span slots
+    → FinderTells (TreeFindsNext tree content' last) told slots → told ≡ Some span → NextMatch tree content last span slots
 next-told tree content content' last told span slots same next is =
-    let next' = subst (λ cs. IsTold (TreeFindsNext tree cs last) told slots) same next in
-    some-told (TreeFindsNext tree content last) span slots (subst (λ s. IsTold (TreeFindsNext tree content last) s slots) is next')
+    let next' = subst (λ cs. FinderTells (TreeFindsNext tree cs last) told slots) same next in
+    some-told (TreeFindsNext tree content last) span slots (subst (λ s. FinderTells (TreeFindsNext tree content last) s slots) is next')
 
 -- it lies in the content, at boundaries of its characters
 pub record Stands (content : List ℕ) (span : ℕ × ℕ) : Type 0 where
@@ -37,11 +37,6 @@ next-stands tree content last span slots has utf8 next =
     let at = stands tree content from.0 next.t has utf8 from.1 in
     let inside = (lies-behind tree content from.0 next.t has from.1).inside in
     subst (Stands content) (sym next.span_is) (record { starts = at.0; ends = at.1; inside = inside })
-
-pub next-inside : (tree : Tree) (content : List ℕ) (last : Option ℕ) (span : ℕ × ℕ) (slots : List (Option ℕ)) → HasFinds tree → NextMatch tree content last span slots → span.1 ≤ length content
-next-inside tree content last span slots has next =
-    let from = comes-from tree content last next.t next.is in
-    subst (λ (s : ℕ × ℕ). s.1 ≤ length content) (sym next.span_is) (lies-behind tree content from.0 next.t has from.1).inside
 
 -- it starts behind the last one, and ends behind its start
 pub record Follows (last : Option ℕ) (span : ℕ × ℕ) : Type 0 where
@@ -78,10 +73,10 @@ next-shown shows tree content last span slots items item has next is sofar =
 
 -- and where none comes next, all are shown
 pub none-next : (tree : Tree) (content content' : List ℕ) (last : Option ℕ) (told : Option (ℕ × ℕ)) (slots : List (Option ℕ)) → content' ≡ content
-    → IsTold (TreeFindsNext tree content' last) told slots → told ≡ None → TreeFindsNext tree content last None
+    → FinderTells (TreeFindsNext tree content' last) told slots → told ≡ None → TreeFindsNext tree content last None
 none-next tree content content' last told slots same next is =
-    let next' = subst (λ cs. IsTold (TreeFindsNext tree cs last) told slots) same next in
-    none-told (TreeFindsNext tree content last) slots (subst (λ s. IsTold (TreeFindsNext tree content last) s slots) is next')
+    let next' = subst (λ cs. FinderTells (TreeFindsNext tree cs last) told slots) same next in
+    none-told (TreeFindsNext tree content last) slots (subst (λ s. FinderTells (TreeFindsNext tree content last) s slots) is next')
 
 -- ---- rows
 

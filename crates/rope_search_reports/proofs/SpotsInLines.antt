@@ -1,18 +1,13 @@
 -- Where a position is, by its line's text.
-use Rattle.std.proofs.Common.{◌≡◌, ℕ, ◌+◌, ◌<◌, ◌≤◌, true, List, [], ◌∷◌, ◌++◌, length, take, slice_index_or, refl, sym, ap, subst, ◌∙◌, arith, append_assoc, length-append}
+use Rattle.std.proofs.Common.{◌≡◌, ℕ, ◌<◌, ◌≤◌, true, List, [], ◌∷◌, ◌++◌, length, take, sym, ap, subst, ◌∙◌, arith, append_assoc}
 use Rattle.std.specs.Str.{all_scalars}
-use Rattle.std.proofs.Math.Seq.{take-append_seam}
-use Rattle.std.proofs.lemmas.List.Sums.{sum_by-append}
 use Rattle.std.proofs.lemmas.Str.{len_utf8_bounds}
-use Rattle.str_indices.specs.Text.{byte_len, units, units_of, char_ends, unit_ends, unit_starts, ends_up_to, end_place}
+use Rattle.str_indices.specs.Text.{byte_len, units}
 use Rattle.rope_search_reports.specs.Text.{line_count}
 use Rattle.rope_search_reports.proofs.TextPlaces.{PlaceLaws}
-use Rattle.rope_search_reports.specs.Position.{line_at, line_start, line_text, text_end, IsAt, IsNowhere}
-use Rattle.rope_search_reports.proofs.BoundaryLemmas.{at_column, own_scalars}
-use Rattle.rope_search_reports.proofs.ColumnLemmas.{char-column}
-use Rattle.rope_search_reports.proofs.LineLemmas.{byte_len-append, byte_len-one, lines-in-place}
-use Rattle.rope_search_reports.proofs.PlaceLemmas.{front_of, chars_there, cut_off, front_within, in_line, line_inside}
-use Rattle.rope_search_reports.proofs.SpotLemmas.{led}
+use Rattle.rope_search_reports.specs.Position.{line_at, line_text, text_end, IsAt, IsNowhere}
+use Rattle.rope_search_reports.proofs.LineLemmas.{byte_len-append, byte_len-one}
+use Rattle.rope_search_reports.proofs.PlaceLemmas.{cut_off, front_within, in_line, line_inside}
 
 -- a text has no more characters than bytes
 pub few-chars : (t : List ℕ) → length t ≤ byte_len t
@@ -57,63 +52,8 @@ module _ (law : PlaceLaws) (text : List ℕ) (scalars : all_scalars text ≡ tru
   pub no_line : line_count text ≤ line → IsNowhere text (line, column)
   no_line past place at = let inside = (in_own place at).inside in omega (arith, past, inside)
 
-  -- it is behind its line's text
-  pub too_far : units (line_text text line) < column → IsNowhere text (line, column)
-  too_far far place at =
-      let h = in_own place at in
-      let so_many = h.units_are in
-      omega (arith, far, so_many, ap units h.parts, sum_by-append units_of h.front h.back)
-
-  -- it is inside a surrogate pair
-  pub in_pair : (char unit : ℕ) → let own = line_text text line in
-      char ≡ ends_up_to (slice_index_or (unit_starts own) column (byte_len own)) (char_ends own)
-      → unit ≡ ends_up_to (end_place (char_ends own) char (byte_len own)) (unit_ends own) → (unit ≡ column → ⊥) → IsNowhere text (line, column)
-  in_pair char unit char_is unit_is other place at =
-      let own = line_text text line in
-      let h = in_own place at in
-      let f = front_of law own h.front h.back h.parts in
-      let chars : char ≡ length h.front =
-      char_is ∙ ap (λ n. ends_up_to (slice_index_or (unit_starts own) n (byte_len own)) (char_ends own)) h.units_are ∙ ap (λ n. ends_up_to n (char_ends own)) f.back_from_units ∙ f.chars_are in
-      other (unit_is ∙ ap (λ n. ends_up_to (end_place (char_ends own) n (byte_len own)) (unit_ends own)) chars ∙ ap (λ n. ends_up_to n (unit_ends own)) f.back_from_chars ∙ f.units_are ∙ sym h.units_are)
-
-  -- the character that a code unit leads to is one of the line's text, or its end
-  pub char_within : (inside : line < line_count text) (char : ℕ) → let own = line_text text line in
-      char ≡ ends_up_to (slice_index_or (unit_starts own) column (byte_len own)) (char_ends own) → char ≤ length own
-  char_within inside char char_is =
-      let own = line_text text line in
-      (led law own (own_scalars law text scalars line inside) column char (end_place (char_ends own) char (byte_len own)) char_is refl).within
-
   -- its place, by the line's start
   pub record IsFoundAt (byte_idx char_idx : ℕ) : Type 0 where
     pub at : IsAt text (line, column) byte_idx
     pub within : char_idx ≤ length text
     pub bytes : byte_len (take char_idx text) ≡ byte_idx
-
-  pub is_found : (inside : line < line_count text) (start_char char byte : ℕ) → let own = line_text text line in
-      char ≡ ends_up_to (slice_index_or (unit_starts own) column (byte_len own)) (char_ends own)
-      → ends_up_to (end_place (char_ends own) char (byte_len own)) (unit_ends own) ≡ column
-      → byte ≡ end_place (char_ends own) char (byte_len own) → start_char ≡ ends_up_to (line_start text line) (char_ends text)
-      → IsFoundAt (line_start text line + byte) (start_char + char)
-  is_found inside start_char char byte char_is column_is byte_is start_is =
-      let own = line_text text line in
-      let own_is = own_scalars law text scalars line inside in
-      let l = led law own own_is column char byte char_is byte_is in
-      let f = front_of law own l.front l.back l.parts in
-      let chars : char ≡ ends_up_to byte (char_ends own) = l.char_is ∙ sym (chars_there law own l.front byte f l.byte_is) in
-      let columns = (char-column law own byte char own_is l.boundary chars).1 in
-      let h = lines-in-place text line inside in
-      let front = h.before ++ l.front in
-      let parts : text ≡ front ++ (l.back ++ h.behind) =
-      h.parts ∙ ap (λ o. h.before ++ (o ++ h.behind)) l.parts ∙ ap (λ t. h.before ++ t) (append_assoc l.front l.back h.behind) ∙ sym (append_assoc h.before l.front (l.back ++ h.behind)) in
-      let b = front_of law text h.before (own ++ h.behind) h.parts in
-      let starts = h.starts in
-      let start_chars = start_is ∙ chars_there law text h.before (line_start text line) b starts in
-      let byte_len_is = l.byte_is in
-      let char_len_is = l.char_is in
-      let place : line_start text line + byte ≡ byte_len front = omega (arith, starts, byte_len_is, byte_len-append h.before l.front) in
-      let count : start_char + char ≡ length front = omega (arith, start_chars, char_len_is, length-append h.before l.front) in
-      record {
-        at = subst (λ n. IsAt text (line, n) (line_start text line + byte)) (sym columns ∙ column_is) (at_column law text scalars line inside byte l.boundary);
-        within = omega (arith, count, ap length parts, length-append front (l.back ++ h.behind));
-        bytes = ap (λ n. byte_len (take n text)) count ∙ ap (λ t. byte_len (take (length front) t)) parts ∙ ap byte_len (take-append_seam front (l.back ++ h.behind)) ∙ sym place;
-      }

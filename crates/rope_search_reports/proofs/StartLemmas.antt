@@ -12,7 +12,7 @@ use Rattle.rope_search_reports.specs.declared.line_start.LineStart.{LineStart}
 use Rattle.rope_search_reports.specs.Text.{bytes_of, line_count}
 use Rattle.rope_search_reports.specs.Report.{line_texts}
 use Rattle.rope_search_reports.specs.Position.{line_start, line_text}
-use Rattle.rope_search_reports.specs.Drafts.{IsRestOf, IsWalk, StartsIn}
+use Rattle.rope_search_reports.specs.Drafts.{IsRestOfChunk, IsWalk, StartsIn}
 use Rattle.rope_search_reports.proofs.LineLemmas.{byte_len-append, cut-lines, first_line, line-last, lines-counted}
 use Rattle.rope_search_reports.proofs.PartLemmas.{past-last}
 use Rattle.rope_search_reports.proofs.PlaceLemmas.{front_of, rope-scalars, split_at}
@@ -117,7 +117,7 @@ walk-from text line start s within =
           let at_is : place - start.byte_idx ≡ start.at = omega arith in
           let shown = subst (λ n. chars (drop n bytes) ≡ at.rest) at_is (rest-chars bytes at.mid at.rest (place - start.byte_idx) s.utf8 at.parts at.within_is) in
           walk-behind text line place (drop start.at bytes) s.scalars (few-lines text s.fits) s.fits (IsUtf8-drop bytes start.at s.utf8 s.between) below h place_is
-          (subst (IsRestOf h.behind) (sym shown) at.shown)
+          (subst (IsRestOfChunk h.behind) (sym shown) at.shown)
       | inr past ↦
           let end : line ≡ line_count text = omega (arith, within, past) in
           let last : line_start text (breaks is_break text + 1) ≡ byte_len text = past-last text (breaks is_break text) refl in

@@ -6,7 +6,7 @@ use Rattle.std.proofs.lemmas.Str.{IsUtf8-nil, IsUtf8-take, IsUtf8-drop, chars-ap
 use Rattle.std.specs.Str.{IsCharBoundary}
 use Rattle.str_indices.specs.Laws.{EndsAddUp, EndsBehind}
 use Rattle.str_indices.specs.Text.{breaks, break_ends, byte_len, ends_up_to, ends_with_cr, starts_with_lf, NoCrLfBetween}
-use Rattle.ropey.specs.Chunks.{IsCutting, IsPiece, ShowsChunk, is_break, piece_of, text_of}
+use Rattle.ropey.specs.Chunks.{IsCutting, IsPiece, ShowsChunk, is_break, lone_piece, text_of}
 use Rattle.rope_search_reports.specs.Text.{line_count}
 use Rattle.rope_search_reports.specs.Drafts.{IsTeller}
 use Rattle.rope_search_reports.specs.Position.{line_at}
@@ -39,7 +39,7 @@ pub record IsShown (text chunk : List ℕ) (start char line : ℕ) : Type 0 wher
   pub whole : NoCrLfBetween before chunk
   pub whole_behind : NoCrLfBetween (before ++ chunk) after
 
-alone-text : (chunk : List ℕ) → text_of (piece_of chunk) ≡ chunk
+alone-text : (chunk : List ℕ) → text_of (lone_piece chunk) ≡ chunk
 alone-text [] = refl
 alone-text (c ∷ cs) = append-nil (c ∷ cs)
 
@@ -47,8 +47,8 @@ module _ (count : List ℕ → ℕ) where
   shown-parts : (pieces : List (List ℕ)) (place start char line : ℕ) (chunk : List ℕ) → (s : ShowsChunk pieces count place chunk start char line)
       → text_of pieces ≡ text_of s.before ++ chunk ++ text_of s.after
   shown-parts pieces place start char line chunk s =
-      ap text_of s.parts ∙ concat-append (s.before ++ piece_of chunk) s.after
-      ∙ ap (λ t. t ++ text_of s.after) (concat-append s.before (piece_of chunk) ∙ ap (λ t. text_of s.before ++ t) (alone-text chunk))
+      ap text_of s.parts ∙ concat-append (s.before ++ lone_piece chunk) s.after
+      ∙ ap (λ t. t ++ text_of s.after) (concat-append s.before (lone_piece chunk) ∙ ap (λ t. text_of s.before ++ t) (alone-text chunk))
 
   pub is-shown : (pieces : List (List ℕ)) (place start char line : ℕ) (chunk : List ℕ) → IsCutting pieces → (s : ShowsChunk pieces count place chunk start char line)
       → (h : IsShown (text_of pieces) chunk start char line) × (h.before ≡ text_of s.before) × (h.after ≡ text_of s.after)
@@ -86,7 +86,7 @@ module _ (count : List ℕ → ℕ) where
         refl,
       )
     where
-      assoc : (bs ps : List (List ℕ)) → bs ++ piece_of (c ∷ cs) ++ ps ≡ bs ++ ((c ∷ cs) ∷ ps)
+      assoc : (bs ps : List (List ℕ)) → bs ++ lone_piece (c ∷ cs) ++ ps ≡ bs ++ ((c ∷ cs) ∷ ps)
       assoc [] ps = refl
       assoc (b ∷ bs) ps = ap (λ l. b ∷ l) (assoc bs ps)
 

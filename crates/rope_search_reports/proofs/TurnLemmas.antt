@@ -8,7 +8,7 @@ use Rattle.str_indices.specs.Text.{byte_len}
 use Rattle.rope_search_reports.specs.Text.{bytes_of, line_count}
 use Rattle.rope_search_reports.specs.Changes.{AreChanges}
 use Rattle.rope_search_reports.specs.Replacement.{between}
-use Rattle.rope_search_reports.specs.Turned.{Lead, turned_from, turned, lines_put, ChangesLeadBack, ChangesTurnTwice, ChangesPutLines}
+use Rattle.rope_search_reports.specs.Turned.{Lead, turned_from, turned_changes, lines_put, ChangesLeadBack, ChangesTurnTwice, ChangesPutLines}
 use Rattle.rope_search_changes.specs.declared.Change.{Change}
 use Rattle.rope_search_reports.proofs.LineLemmas.{byte_len-append}
 use Rattle.rope_search_reports.proofs.PlaceLemmas.{scalars-parts}
@@ -17,7 +17,7 @@ use Rattle.rope_search_reports.proofs.WeaveLemmas.{change_at, drop-cons}
 -- ---- turned about
 
 back-from : (changes : List Change) (at_old at_new : ℕ) (old new : List ℕ) (n : ℕ) → AreChanges changes at_old at_new old new n
-    → (m : ℕ) × AreChanges (turned at_old at_new changes) at_new at_old new old m
+    → (m : ℕ) × AreChanges (turned_changes at_old at_new changes) at_new at_old new old m
 back-from [] at_old at_new old new n are = (0, (sym are.0, refl))
 back-from (c ∷ cs) at_old at_new old new n one =
     let later = back-from cs c.old_end c.new_end one.old_behind one.new_behind one.left one.further in (
@@ -43,11 +43,11 @@ pub lead_back : ChangesLeadBack
 lead_back changes old new lead = back-from changes 0 0 old new lead.0 lead.1
 
 twice-from : (changes : List Change) (at_old at_new : ℕ) (old new : List ℕ) (n : ℕ) → AreChanges changes at_old at_new old new n
-    → turned at_new at_old (turned at_old at_new changes) ≡ changes
+    → turned_changes at_new at_old (turned_changes at_old at_new changes) ≡ changes
 twice-from [] at_old at_new old new n are = refl
 twice-from (c ∷ cs) at_old at_new old new n one =
     let start : at_new + (at_old + (c.new_start - at_new) - at_old) ≡ c.new_start = omega (arith, one.new_start) in
-    ap (λ s. record { old_end = c.old_end; new_start = s; new_end = c.new_end } ∷ turned c.new_end c.old_end (turned c.old_end c.new_end cs)) start
+    ap (λ s. record { old_end = c.old_end; new_start = s; new_end = c.new_end } ∷ turned_changes c.new_end c.old_end (turned_changes c.old_end c.new_end cs)) start
     ∙ ap (λ xs. c ∷ xs) (twice-from cs c.old_end c.new_end one.old_behind one.new_behind one.left one.further)
 
 pub turn_twice : ChangesTurnTwice
@@ -104,15 +104,15 @@ pub record TurnsOn (at_old at_new : ℕ) (changes back all : List Change) : Type
   pub new : List ℕ
   pub n : ℕ
   pub left : AreChanges changes at_old at_new old new n
-  pub are : back ++ turned at_old at_new changes ≡ all
+  pub are : back ++ turned_changes at_old at_new changes ≡ all
 
-pub turns-start : (changes back : List Change) (old new : List ℕ) → back ≡ [] → Lead changes old new → TurnsOn 0 0 changes back (turned 0 0 changes)
+pub turns-start : (changes back : List Change) (old new : List ℕ) → back ≡ [] → Lead changes old new → TurnsOn 0 0 changes back (turned_changes 0 0 changes)
 turns-start changes back old new none lead = record {
   old = old;
   new = new;
   n = lead.0;
   left = lead.1;
-  are = ap (λ cs. cs ++ turned 0 0 changes) none;
+  are = ap (λ cs. cs ++ turned_changes 0 0 changes) none;
 }
 
 pub turns-at : (at_old at_new : ℕ) (changes : List Change) (i : ℕ) (back all : List Change) → i < length changes
@@ -131,10 +131,10 @@ turns-more at_old at_new c changes back back' all t more = record {
   n = t.left.left;
   left = t.left.further;
   are =
-      ap (λ cs. cs ++ turned c.old_end c.new_end changes) more
-      ∙ append_assoc back (turned_from at_old at_new c ∷ []) (turned c.old_end c.new_end changes) ∙ t.are;
+      ap (λ cs. cs ++ turned_changes c.old_end c.new_end changes) more
+      ∙ append_assoc back (turned_from at_old at_new c ∷ []) (turned_changes c.old_end c.new_end changes) ∙ t.are;
 }
 
 pub turns-all : (at_old at_new : ℕ) (changes back all : List Change) → changes ≡ [] → TurnsOn at_old at_new changes back all → back ≡ all
 turns-all at_old at_new changes back all none t =
-    sym (append-nil back) ∙ ap (λ cs. back ++ turned at_old at_new cs) (sym none) ∙ t.are
+    sym (append-nil back) ∙ ap (λ cs. back ++ turned_changes at_old at_new cs) (sym none) ∙ t.are

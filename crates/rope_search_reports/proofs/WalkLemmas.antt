@@ -9,11 +9,11 @@ use Rattle.std.proofs.lemmas.List.Folds.{concat-append}
 use Rattle.std.proofs.lemmas.Str.{IsCharBoundary-from_drop, IsUtf8-drop, IsUtf8-nil, chars-nil, chars-encodes, chars_from_encodes, encodes-append, encodes-chars, scalars-chars}
 use Rattle.str_indices.specs.Text.{breaks, break_ends, byte_len, end_place, ends_with_cr, starts_with_lf, NoCrLfBetween}
 use Rattle.str_indices.specs.FirstBreak.{IsBreak, IsFirstBreak}
-use Rattle.ropey.specs.Chunks.{is_break, text_of, piece_of, IsCutting, ShowsChunk}
+use Rattle.ropey.specs.Chunks.{is_break, text_of, lone_piece, IsCutting, ShowsChunk}
 use Rattle.rope_search_reports.specs.Text.{bytes_of, line_count}
 use Rattle.rope_search_reports.specs.Report.{line_texts}
 use Rattle.rope_search_reports.specs.Position.{line_start, line_text}
-use Rattle.rope_search_reports.specs.Drafts.{IsRestOf, IsWalk, StartsLine, WalkState}
+use Rattle.rope_search_reports.specs.Drafts.{IsRestOfChunk, IsWalk, StartsLine, WalkState}
 use Rattle.rope_search_reports.proofs.FurtherLemmas.{there-further}
 use Rattle.rope_search_reports.proofs.LineLemmas.{IsCutOff, byte_len-append, cut-ends, cut-lines, ends-joined_cr, ends_at, first_line, line-last, line_texts-nil, lines-counted, lines-cut, start-is, start-later, start_at}
 use Rattle.rope_search_reports.proofs.PartLemmas.{past-last}
@@ -206,7 +206,7 @@ pub record ChunkIn (text chunk : List ℕ) (start : ℕ) : Type 0 where
   pub start_is : start ≡ byte_len first
   pub whole : NoCrLfBetween chunk others
 
-pub chunk-in : (pieces bs ps : List (List ℕ)) (chunk : List ℕ) (start : ℕ) → IsCutting pieces → pieces ≡ bs ++ (piece_of chunk ++ ps) → start ≡ byte_len (text_of bs)
+pub chunk-in : (pieces bs ps : List (List ℕ)) (chunk : List ℕ) (start : ℕ) → IsCutting pieces → pieces ≡ bs ++ (lone_piece chunk ++ ps) → start ≡ byte_len (text_of bs)
     → ChunkIn (text_of pieces) chunk start
 chunk-in pieces bs ps [] start cut parts start_is = record {
   first = text_of bs;
@@ -229,7 +229,7 @@ pub record RestAt (chunk behind : List ℕ) (within : ℕ) : Type 0 where
   pub rest : List ℕ
   pub parts : chunk ≡ mid ++ rest
   pub within_is : within ≡ byte_len mid
-  pub shown : IsRestOf behind rest
+  pub shown : IsRestOfChunk behind rest
 
 pub rest-at : (text chunk before behind : List ℕ) (start place : ℕ) → ChunkIn text chunk start → text ≡ before ++ behind → place ≡ byte_len before
     → start ≤ place → place ≤ start + byte_len chunk → RestAt chunk behind (place - start)
@@ -384,7 +384,7 @@ skip-walk text line byte rest count place w inside is =
 
 -- a walk before a line, by what its chunk shows of it
 pub walk-behind : (text : List ℕ) (line byte : ℕ) (rest : List ℕ) → all_scalars text ≡ true → line_count text < 2 ^ 64 → byte_len text < 2 ^ 63 → IsUtf8 rest → line < line_count text
-    → (h : Behind text line (line_start text line)) → byte ≡ byte_len h.before → IsRestOf h.behind (chars rest) → IsWalk text line byte rest
+    → (h : Behind text line (line_start text line)) → byte ≡ byte_len h.before → IsRestOfChunk h.behind (chars rest) → IsWalk text line byte rest
 walk-behind text line byte rest scalars fits bytes_fit utf8 below h place shown = record {
   text_is = scalars;
   fits = fits;
@@ -506,21 +506,21 @@ reaches pieces place start char line chunk s within =
         | inl inside ↦ omega (arith, inside, start_is, byte_len-append (text_of s.before) chunk)
         | inr none ↦
             let all : text_of pieces ≡ text_of s.before ++ chunk =
-            ap text_of (s.parts ∙ ap (λ ps. (s.before ++ piece_of chunk) ++ ps) none ∙ append-nil (s.before ++ piece_of chunk)) ∙ concat-append s.before (piece_of chunk) ∙ ap (λ t. text_of s.before ++ t) (alone-text chunk) in
+            ap text_of (s.parts ∙ ap (λ ps. (s.before ++ lone_piece chunk) ++ ps) none ∙ append-nil (s.before ++ lone_piece chunk)) ∙ concat-append s.before (lone_piece chunk) ∙ ap (λ t. text_of s.before ++ t) (alone-text chunk) in
             omega (arith, within, start_is, ap byte_len all, byte_len-append (text_of s.before) chunk)
       ],
     )
   where
-    alone-text : (chunk : List ℕ) → text_of (piece_of chunk) ≡ chunk
+    alone-text : (chunk : List ℕ) → text_of (lone_piece chunk) ≡ chunk
     alone-text [] = refl
     alone-text (c ∷ cs) = append-nil (c ∷ cs)
 
 pub shown-rest : (pieces : List (List ℕ)) (bytes : List ℕ) (place start char line : ℕ) → IsCutting pieces → IsUtf8 bytes → ShowsChunk pieces byte_len place (chars bytes) start char line
     → (before behind : List ℕ) → text_of pieces ≡ before ++ behind → place ≡ byte_len before
-    → IsCharBoundary bytes (place - start) × IsRestOf behind (chars (drop (place - start) bytes)) × (start ≤ place)
+    → IsCharBoundary bytes (place - start) × IsRestOfChunk behind (chars (drop (place - start) bytes)) × (start ≤ place)
 shown-rest pieces bytes place start char line cut utf8 s before behind parts place_is =
     let text = text_of pieces in
-    let h = chunk-in pieces s.before s.after (chars bytes) start cut (s.parts ∙ append_assoc s.before (piece_of (chars bytes)) s.after) s.byte_is in
+    let h = chunk-in pieces s.before s.after (chars bytes) start cut (s.parts ∙ append_assoc s.before (lone_piece (chars bytes)) s.after) s.byte_is in
     let within : place ≤ byte_len text = omega (arith, place_is, ap byte_len parts, byte_len-append before behind) in
     let r = reaches pieces place start char line (chars bytes) s within in
     let at = rest-at text (chars bytes) before behind start place h parts place_is r.0 r.1 in
@@ -528,7 +528,7 @@ shown-rest pieces bytes place start char line cut utf8 s before behind parts pla
     let own = (scalars-parts at.mid at.rest (sym (ap all_scalars at.parts) ∙ scalars-chars bytes utf8)).1 in
     let far : place - start ≤ length bytes = let width = at.within_is in omega (arith, width, ap byte_len at.parts, byte_len-append at.mid at.rest, length-chars bytes utf8) in (
       IsCharBoundary-from_drop bytes (place - start) far (subst IsUtf8 (sym left) (at.rest, (own, refl))),
-      subst (IsRestOf behind) (sym (rest-chars bytes at.mid at.rest (place - start) utf8 at.parts at.within_is)) at.shown,
+      subst (IsRestOfChunk behind) (sym (rest-chars bytes at.mid at.rest (place - start) utf8 at.parts at.within_is)) at.shown,
       r.0,
     )
 

@@ -15,7 +15,7 @@ use Rattle.rope_search_reports.specs.Changes.{AreChanges}
 use Rattle.rope_search_changes.specs.declared.Change.{Change}
 use Rattle.rope_search_reports.specs.declared.patches.Patch.{Patch}
 use Rattle.rope_search_reports.specs.Patches.{patched, AreInTurn}
-use Rattle.rope_search_reports.specs.Drafts.{GoOnAlike, IsAdded}
+use Rattle.rope_search_reports.specs.Drafts.{GoOnAlike, IsPatchAdded}
 use Rattle.rope_search_reports.proofs.LineLemmas.{byte_len-append}
 use Rattle.rope_search_reports.proofs.ReportLaws.{AreRows-join}
 use Rattle.rope_search_reports.proofs.SpliceLemmas.{AreRows-take, AreRows-drop}
@@ -236,7 +236,7 @@ rows-joined at all [] last joined p touches first rows =
 rows-joined at all (q ∷ qs) last joined p touches first rows =
     ap (λ rs. take (q.first - at) (drop at all) ++ (q.made.items ++ rs)) (rows-joined q.end all qs last joined p touches first rows)
 
-pub Woven-added : (pattern old new : List ℕ) (changes : List Change) (n kept done : ℕ) (patches patches' : List Patch) (p : Patch) → IsAdded patches p patches'
+pub Woven-added : (pattern old new : List ℕ) (changes : List Change) (n kept done : ℕ) (patches patches' : List Patch) (p : Patch) → IsPatchAdded patches p patches'
     → Woven pattern old new changes n kept done (patches ++ p ∷ []) → Woven pattern old new changes n kept done patches'
 Woven-added pattern old new changes n kept done patches patches' p (inl is) w = subst (Woven pattern old new changes n kept done) (sym is) w
 Woven-added pattern old new changes n kept done patches patches' p (inr g) w =

@@ -14,14 +14,14 @@ pub record IsAtStart (before before' : List ℕ) (kept done : ℕ) : Type 0 wher
   pub none : kept ≡ 0
   pub none_new : done ≡ 0
 
-pub record StandsAt (old new : List ℕ) (at_old at_new kept done : ℕ) : Type 0 where
+pub record StandsAtLines (old new : List ℕ) (at_old at_new kept done : ℕ) : Type 0 where
   pub old_is : kept ≡ line_at old at_old + 1
   pub new_is : done ≡ line_at new at_new + 1
 
 abbrev pub IsInStep : List ℕ → List ℕ → List ℕ → List ℕ → ℕ → ℕ → Type 0
 IsInStep before before' after after' kept done =
     IsAtStart before before' kept done
-    ⊎ StandsAt (before ++ after) (before' ++ after')
+    ⊎ StandsAtLines (before ++ after) (before' ++ after')
     (byte_len before) (byte_len before') kept done
 
 -- One change more. Lines `done` to `start` of the new text are those of the old one from `kept` on;

@@ -31,8 +31,8 @@ FindsNoneBetween pattern content from to =
     → FindsMatch pattern (between start end content) 0 None
 
 -- no line of a text from one up to another has a match
-abbrev pub AreBare : List ℕ → List ℕ → ℕ → ℕ → Type 0
-AreBare pattern text first end =
+abbrev pub HaveNoMatches : List ℕ → List ℕ → ℕ → ℕ → Type 0
+HaveNoMatches pattern text first end =
     (line : ℕ) → first ≤ line → line < end → IsRow pattern (line_text text line) []
 
 -- the lines of a text from one up to another
@@ -110,7 +110,7 @@ pub record WalkState : Type 0 where
   pub rest : List ℕ
 
 -- a text begins with what is left of a chunk, and no CR LF is cut behind that
-pub record IsRestOf (text rest : List ℕ) : Type 0 where
+pub record IsRestOfChunk (text rest : List ℕ) : Type 0 where
   pub after : List ℕ
   pub parts : text ≡ rest ++ after
   pub whole : NoCrLfBetween rest after
@@ -123,7 +123,7 @@ pub record StartsLine (text : List ℕ) (line byte : ℕ) (rest : List ℕ) : Ty
   pub place : byte ≡ byte_len before
   pub there : byte ≡ line_start text line
   pub lines : drop line (line_texts text) ≡ line_texts behind
-  pub shown : IsRestOf behind rest
+  pub shown : IsRestOfChunk behind rest
 
 -- such a walk: behind the last line nothing is left
 pub record IsWalk (text : List ℕ) (line byte : ℕ) (rest : List ℕ) : Type 0 where
@@ -188,5 +188,5 @@ pub record GoesInto (old : List Patch) (patch : Patch) (new : List Patch) : Type
   pub rows : joined.made.items ≡ last.made.items ++ patch.made.items
 
 -- so it does, or it stands behind them
-abbrev pub IsAdded : List Patch → Patch → List Patch → Type 0
-IsAdded old patch new = (new ≡ old ++ patch ∷ []) ⊎ GoesInto old patch new
+abbrev pub IsPatchAdded : List Patch → Patch → List Patch → Type 0
+IsPatchAdded old patch new = (new ≡ old ++ patch ∷ []) ⊎ GoesInto old patch new

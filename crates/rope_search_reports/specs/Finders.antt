@@ -47,7 +47,8 @@ abbrev pub group_told : List (Option ℕ) → ℕ → Option (ℕ × ℕ)
 group_told slots k = both (slice_index_or slots (2 * k) None) (slice_index_or slots (2 * k + 1) None)
 
 -- something is found, of which the span is told, and in slots the places of its groups
-pub record IsTold (P : Option FoundMatch → Type 0) (span : Option (ℕ × ℕ)) (slots : List (Option ℕ))
+pub record FinderTells (P : Option FoundMatch → Type 0) (span : Option (ℕ × ℕ))
+    (slots : List (Option ℕ))
     : Type 0 where
   pub out : Option FoundMatch
   pub is : P out

@@ -2,7 +2,7 @@
 use Rattle.std.specs.Prelude.{◌≡◌, ◌⊎◌, ℕ, ◌+◌, ◌<◌, ◌≤◌, List, [], length, Option, Some, All, slice_index_or}
 use Rattle.std.specs.Str.{IsCharBoundary}
 use Rattle.rope_search_reports.specs.Text.{IsText, bytes_of, line_count}
-use Rattle.rope_search_reports.specs.Pattern.{IsPattern, IsTooHeavy, SpellsNone, Finds}
+use Rattle.rope_search_reports.specs.Pattern.{IsPattern, IsTooHeavy, SpellsNone, FindsSpan}
 use Rattle.rope_search_reports.specs.Matches.{AreGroups, IsMatches}
 use Rattle.rope_search_reports.specs.Position.{line_at, IsAt, StandsAtBoundaries, LiesInPlace}
 use Rattle.rope_search_reports.specs.Report.{IsReport, match_count}
@@ -21,12 +21,12 @@ pub record IsOneOfThree : Type 0 where
 -- a search for a pattern from a place on finds at most one thing
 abbrev pub FindsOne : Type 0
 FindsOne = (pattern content : List ℕ) (from : ℕ) (span span' : Option (ℕ × ℕ))
-    → Finds pattern content from span → Finds pattern content from span' → span ≡ span'
+    → FindsSpan pattern content from span → FindsSpan pattern content from span' → span ≡ span'
 
 -- and one: a match, or that there is none
 abbrev pub HasFind : Type 0
 HasFind = (pattern content : List ℕ) (from : ℕ) → IsPattern pattern
-    → (span : Option (ℕ × ℕ)) × Finds pattern content from span
+    → (span : Option (ℕ × ℕ)) × FindsSpan pattern content from span
 
 -- a match in a text lies behind the place from which it is searched, and is whole characters
 pub record IsInText (text : List ℕ) (from : ℕ) (span : ℕ × ℕ) : Type 0 where
@@ -38,7 +38,7 @@ pub record IsInText (text : List ℕ) (from : ℕ) (span : ℕ × ℕ) : Type 0 
 -- what is found in a text is such a match
 abbrev pub FindsAreInText : Type 0
 FindsAreInText = (text pattern : List ℕ) (from : ℕ) (span : ℕ × ℕ)
-    → IsText text → Finds pattern (bytes_of text) from (Some span) → IsInText text from span
+    → IsText text → FindsSpan pattern (bytes_of text) from (Some span) → IsInText text from span
 
 -- a pattern has at most one list of matches in a content
 abbrev pub HasOneListOfMatches : Type 0
@@ -61,8 +61,8 @@ HasGroups = (pattern content : List ℕ) → IsPattern pattern
     → (groups : List Groups) × AreGroups pattern content groups
 
 -- they are at most one match more than the content has bytes
-abbrev pub HasFewGroups : Type 0
-HasFewGroups = (pattern content : List ℕ) (groups : List Groups)
+abbrev pub MatchesAreFew : Type 0
+MatchesAreFew = (pattern content : List ℕ) (groups : List Groups)
     → AreGroups pattern content groups → length groups ≤ length content + 1
 
 -- in a text they follow each other, between characters

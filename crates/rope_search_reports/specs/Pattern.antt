@@ -39,7 +39,7 @@ pub record FindsMatch (pattern content : List ℕ) (from : ℕ) (found : Option 
   pub finds : TreeFinds tree content from found
 
 -- its span alone
-pub record Finds (pattern content : List ℕ) (from : ℕ) (span : Option (ℕ × ℕ)) : Type 0 where
+pub record FindsSpan (pattern content : List ℕ) (from : ℕ) (span : Option (ℕ × ℕ)) : Type 0 where
   pub found : Option FoundMatch
   pub is : FindsMatch pattern content from found
   pub span_is : span ≡ option_map span_of found

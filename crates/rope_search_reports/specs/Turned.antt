@@ -26,10 +26,10 @@ turned_from at_old at_new change = record {
 }
 
 -- the changes turned about, from two places on
-abbrev pub turned : ℕ → ℕ → List Change → List Change
-turned at_old at_new [] = []
-turned at_old at_new (change ∷ changes) =
-    turned_from at_old at_new change ∷ turned change.old_end change.new_end changes
+abbrev pub turned_changes : ℕ → ℕ → List Change → List Change
+turned_changes at_old at_new [] = []
+turned_changes at_old at_new (change ∷ changes) =
+    turned_from at_old at_new change ∷ turned_changes change.old_end change.new_end changes
 
 -- how many lines the changes may have searched in the new text, of this content: for each the lines
 -- of what it puts there, which are its breaks plus one
@@ -41,12 +41,12 @@ lines_put content changes =
 -- changes turned about lead from the new text to the old one
 abbrev pub ChangesLeadBack : Type 0
 ChangesLeadBack = (changes : List Change) (old new : List ℕ)
-    → Lead changes old new → Lead (turned 0 0 changes) new old
+    → Lead changes old new → Lead (turned_changes 0 0 changes) new old
 
 -- and turned about again they are the changes that they were
 abbrev pub ChangesTurnTwice : Type 0
 ChangesTurnTwice = (changes : List Change) (old new : List ℕ)
-    → Lead changes old new → turned 0 0 (turned 0 0 changes) ≡ changes
+    → Lead changes old new → turned_changes 0 0 (turned_changes 0 0 changes) ≡ changes
 
 -- the lines that changes may have searched are those of what they put
 abbrev pub ChangesPutLines : Type 0

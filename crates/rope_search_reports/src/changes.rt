@@ -1,6 +1,6 @@
 //! Changes of a text, the way back from them, and the rows that they make anew.
-ghost use Rattle.std.specs.Prelude.{◌≡◌, ℕ, ◌+◌, ◌-◌, ◌^◌, ◌<◌, ◌≤◌, List, [], true, IfOk, IfErr};
-ghost use Rattle.std.specs.Prelude.{length, take, drop, slice_index_or};
+ghost use Rattle.std.specs.Prelude.{◌≡◌, ℕ, ◌+◌, ◌-◌, ◌^◌, ◌<◌, ◌≤◌, List, true, IfOk, IfErr};
+ghost use Rattle.std.specs.Prelude.{length, slice_index_or};
 ghost use Rattle.rope_search_reports.specs.Report.{IsReport};
 ghost use Rattle.rope_search_reports.specs.Text.{line_count};
 ghost use Rattle.ropey.specs.Chunks.{text_of};
@@ -10,7 +10,7 @@ ghost use Rattle.rope_search_reports.specs.Drafts.{GoOnAlike};
 ghost use Rattle.str_indices.specs.Text.{byte_len};
 ghost use Rattle.rope_search_reports.specs.Patches.{patched, AreInTurn, made_by};
 ghost use Rattle.rope_search_reports.specs.Ticks.{LooksAtMost, MakesAsMany, MakesAtMost};
-ghost use Rattle.rope_search_reports.specs.Turned.{Lead, listed, turned, turned_from};
+ghost use Rattle.rope_search_reports.specs.Turned.{Lead, listed, turned_changes, turned_from};
 
 use crate::line_teller::LineTeller;
 use crate::patches::{Patch, add_patch};
@@ -49,7 +49,7 @@ fn turned_from(change: Change, at_old: usize, at_new: usize) -> Change
 /// Changes turned about, in a list of their own.
 fn turned(alloc: Global, changes: &[Change]) -> Result<Vec<Change>, Fault>
     requires { (old : List ℕ) × (new : List ℕ) × Lead changes.now old new }
-    ensures changes { IfOk result (λ back. back.items ≡ turned 0 0 changes.now) }
+    ensures changes { IfOk result (λ back. back.items ≡ turned_changes 0 0 changes.now) }
     ensures fault { IfErr result (λ fault. fault ≡ Fault.Memory) }
 {
     let mut back = Vec::with_capacity(alloc, changes.len())?;
@@ -79,7 +79,7 @@ impl Changes {
     /// Errors: `Fault::Memory`, which one change never meets.
     pub fn turned(&self, alloc: Global) -> Result<Changes, Fault>
         requires { (old : List ℕ) × (new : List ℕ) × Lead (listed self.now) old new }
-        ensures changes { IfOk result (λ back. listed back ≡ turned 0 0 (listed self.now)) }
+        ensures changes { IfOk result (λ back. listed back ≡ turned_changes 0 0 (listed self.now)) }
         ensures fault { IfErr result (λ fault. fault ≡ Fault.Memory) }
     {
         match self {

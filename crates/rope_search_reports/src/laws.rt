@@ -1,7 +1,7 @@
 //! Laws of the definitions that the contracts of this crate cite. Each function does nothing: its
 //! contract is the law.
 
-ghost use Rattle.rope_search_reports.specs.Laws.{IsPatternOrNot, IsOneOfThree, FindsOne, HasFind, FindsAreInText, HasOneListOfMatches, HasMatches, HasOneListOfGroups, HasGroups, HasFewGroups, GroupsFollowEachOther, ReplacedIsText, HasFewMatches, HasOneReport, HasReport, HasARowALine, PlacesAreInLines, HasOnePlace, MatchesStandAtBoundaries, HasLinesInPlace};
+ghost use Rattle.rope_search_reports.specs.Laws.{IsPatternOrNot, IsOneOfThree, FindsOne, HasFind, FindsAreInText, HasOneListOfMatches, HasMatches, HasOneListOfGroups, HasGroups, MatchesAreFew, GroupsFollowEachOther, ReplacedIsText, HasFewMatches, HasOneReport, HasReport, HasARowALine, PlacesAreInLines, HasOnePlace, MatchesStandAtBoundaries, HasLinesInPlace};
 ghost use Rattle.rope_search_reports.specs.LineGroups.{GroupsAreOfRows};
 ghost use Rattle.rope_search_reports.specs.Splice.{EditsSpliceLines, KeepsRows};
 ghost use Rattle.rope_search_reports.specs.Changes.{ChangesKeepLines, TailsKeepLines};
@@ -57,7 +57,7 @@ pub fn has_groups()
 
 /// They are at most one match more than the content has bytes.
 pub fn few_groups()
-    ensures { HasFewGroups }
+    ensures { MatchesAreFew }
 {}
 
 /// What `groups_at` tells of a match begins with what the row of its line shows of it; there is

@@ -1,9 +1,9 @@
 //! Rows put in the place of others, at several places of a list.
 ghost use Rattle.std.specs.Prelude.{◌≡◌, ◌+◌, ◌-◌, ◌^◌, ◌<◌, ◌≤◌, ◌↔◌, ◌++◌, []};
 ghost use Rattle.std.specs.Prelude.{length, take, drop};
-ghost use Rattle.std.specs.Prelude.{vec_len, vec_capacity, IsTrue, OnOk, IfErr};
-ghost use Rattle.std.specs.Vec.Iter.{into_iter_items, into_iter_len};
-ghost use Rattle.rope_search_reports.specs.Drafts.{IsAdded};
+ghost use Rattle.std.specs.Prelude.{vec_capacity, IsTrue, OnOk, IfErr};
+ghost use Rattle.std.specs.Vec.Iter.{into_iter_items};
+ghost use Rattle.rope_search_reports.specs.Drafts.{IsPatchAdded};
 ghost use Rattle.rope_search_reports.specs.Patches.{patched, AreInTurn, growth_by, growth_of};
 ghost use Rattle.rope_search_reports.specs.Patches.{shift_count, shifts};
 
@@ -50,7 +50,7 @@ impl Patch {
 ///
 /// Errors: `Fault::Memory`.
 pub(crate) fn add_patch(patches: &mut Vec<Patch>, patch: Patch) -> Result<(), Fault>
-    ensures added { OnOk result (IsAdded patches.old.items patch patches.new.items) }
+    ensures added { OnOk result (IsPatchAdded patches.old.items patch patches.new.items) }
     ensures fault { IfErr result (λ fault. fault ≡ Fault.Memory) }
 {
     let Some(mut last) = patches.pop() else {

@@ -5,7 +5,7 @@ ghost use Rattle.std.specs.Str.{IsCharBoundary};
 ghost use Rattle.ropey.specs.Chunks.{text_of};
 ghost use Rattle.ropey_walk.specs.Slices.{slice_text};
 ghost use Rattle.rope_search_reports.specs.Text.{bytes_of, line_count};
-ghost use Rattle.rope_search_reports.specs.Pattern.{Finds};
+ghost use Rattle.rope_search_reports.specs.Pattern.{FindsSpan};
 ghost use Rattle.rope_search_reports.specs.Position.{line_text};
 ghost use Rattle.rope_search_reports.specs.LineGroups.{TellsGroups};
 ghost use Rattle.rope_search_reports.specs.Report.{IsRow};
@@ -220,7 +220,7 @@ pub fn find_from(
 ) -> Result<Option<(usize, usize)>, Fault>
     requires { IsCharBoundary (bytes_of (text_of text.now)) from }
     ensures found { IfOk result (λ span.
-        Finds finder.old (bytes_of (text_of text.now)) from span) }
+        FindsSpan finder.old (bytes_of (text_of text.now)) from span) }
     ensures fault { IfErr result (λ fault. fault ≡ Fault.Memory) }
     ensures finder { finder.new ≡ finder.old }
     ensures count { tick.new.count ≡ tick.old.count }

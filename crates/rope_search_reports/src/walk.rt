@@ -1,14 +1,14 @@
 //! A walk over the lines of a text, forwards alone: chunk by chunk, and line by line in a chunk.
 ghost use Rattle.std.specs.Prelude.{◌≡◌, ◌+◌, ◌-◌, ◌^◌, ◌<◌, ◌≤◌, ℕ, List, ◌++◌, take};
 ghost use Rattle.std.specs.Str.{chars, IsUtf8, IsCharBoundary};
-ghost use Rattle.str_indices.specs.Text.{breaks, break_ends, byte_len, ends_up_to, NoCrLfBetween};
+ghost use Rattle.str_indices.specs.Text.{breaks, break_ends, byte_len, ends_up_to};
 ghost use Rattle.ropey.specs.Chunks.{is_break, text_of};
 ghost use Rattle.ropey_walk.specs.Comparing.{slice_bytes};
 ghost use Rattle.ropey_walk.specs.Slices.{slice_text};
 ghost use Rattle.rope_search_reports.specs.Text.{line_count};
 ghost use Rattle.rope_search_reports.specs.Report.{line_texts};
 ghost use Rattle.rope_search_reports.specs.Position.{line_at, line_start, line_text};
-ghost use Rattle.rope_search_reports.specs.Drafts.{HasOwnText, HoldsText, IsRestOf, ShowsLines};
+ghost use Rattle.rope_search_reports.specs.Drafts.{HasOwnText, HoldsText, IsRestOfChunk, ShowsLines};
 ghost use Rattle.rope_search_reports.specs.Drafts.{own_text};
 
 use crate::line::Line;
@@ -69,7 +69,7 @@ fn chunk_from<'a>(text: &RopeSlice<'a>, byte_idx: usize) -> &'a str
     requires { IsCharBoundary (slice_bytes text.now) byte_idx }
     ensures utf8 { IsUtf8 result.now }
     ensures rest { (before behind : List ℕ) → slice_text text.now ≡ before ++ behind
-        → byte_idx ≡ byte_len before → IsRestOf behind (chars result.now) }
+        → byte_idx ≡ byte_len before → IsRestOfChunk behind (chars result.now) }
 {
     let (chunk, start, _, _) = text.chunk_at_byte(byte_idx);
     &chunk[byte_idx - start..]

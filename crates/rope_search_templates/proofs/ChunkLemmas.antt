@@ -6,7 +6,7 @@ use Rattle.std.proofs.lemmas.List.Folds.{concat-append}
 use Rattle.std.proofs.lemmas.List.{drop-drop, drop-append-le, take-append-le}
 use Rattle.std.proofs.lemmas.Str.{encodes-append, encodes-chars}
 use Rattle.str_indices.specs.Text.{byte_len}
-use Rattle.ropey.specs.Chunks.{ShowsChunk, piece_of, text_of}
+use Rattle.ropey.specs.Chunks.{ShowsChunk, lone_piece, text_of}
 use Rattle.rope_search_changes.specs.Text.{bytes_of}
 use Rattle.rope_search_templates.proofs.LeftLemmas.{boundary-front, boundary-behind}
 
@@ -17,7 +17,7 @@ pub record ChunkIn (content chunk : List ℕ) (start : ℕ) : Type 0 where
   pub parts : content ≡ front ++ (chunk ++ back)
   pub start_is : start ≡ length front
 
-alone-text : (chunk : List ℕ) → text_of (piece_of chunk) ≡ chunk
+alone-text : (chunk : List ℕ) → text_of (lone_piece chunk) ≡ chunk
 alone-text [] = refl
 alone-text (c ∷ cs) = append-nil (c ∷ cs)
 
@@ -27,8 +27,8 @@ chunk-in pieces chunk place start char line utf8 s =
     let before = text_of s.before in
     let after = text_of s.after in
     let text_is : text_of pieces ≡ (before ++ chars chunk) ++ after =
-    ap text_of s.parts ∙ concat-append (s.before ++ piece_of (chars chunk)) s.after
-    ∙ ap (λ t. t ++ after) (concat-append s.before (piece_of (chars chunk)) ∙ ap (λ t. before ++ t) (alone-text (chars chunk))) in
+    ap text_of s.parts ∙ concat-append (s.before ++ lone_piece (chars chunk)) s.after
+    ∙ ap (λ t. t ++ after) (concat-append s.before (lone_piece (chars chunk)) ∙ ap (λ t. before ++ t) (alone-text (chars chunk))) in
     record {
       front = bytes_of before;
       back = bytes_of after;

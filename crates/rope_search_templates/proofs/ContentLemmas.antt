@@ -117,9 +117,3 @@ all-left content matches utf8 are = record { here = IsCharBoundary-start content
 -- so do those behind the first of them
 pub left-behind : (content : List ℕ) (at : ℕ) (match : Groups) (matches : List Groups) → AreLeft content at (match ∷ matches) → AreLeft content (whole match).1 matches
 left-behind content at match matches left = record { here = left.follow.3; follow = left.follow.4 }
-
--- and those behind any number of them, from some place on
-pub left-further : (content : List ℕ) (matches : List Groups) (k at : ℕ) → AreLeft content at matches → (at' : ℕ) × AreLeft content at' (drop k matches)
-left-further content matches zero at left = (at, left)
-left-further content [] (suc k) at left = (at, record { here = left.here; follow = tt })
-left-further content (match ∷ matches) (suc k) at left = left-further content matches k (whole match).1 (left-behind content at match matches left)

@@ -43,10 +43,6 @@ pub replaced-next : (content template : List ℕ) (at at_new : ℕ) (matches : L
 replaced-next content template at at_new matches k text all inside is =
     subst (λ ms. IsReplacedBefore content template at at_new ms text all) (drop_more matches k [] inside) is
 
--- behind the last everything stays
-pub replaced-all : (content template : List ℕ) (at at_new : ℕ) (text all : List ℕ) → IsReplacedBefore content template at at_new [] text all → text ≡ all
-replaced-all content template at at_new text all is = is.text_is ∙ is.built.text_is
-
 module _ (content template : List ℕ) (utf8 : IsUtf8 content) (at at_new : ℕ) (match : Groups) (matches : List Groups) (old all : List ℕ)
     (is : IsReplacedBefore content template at at_new (match ∷ matches) old all) where
   -- where the next match stands

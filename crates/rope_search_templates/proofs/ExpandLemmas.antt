@@ -33,10 +33,6 @@ pub expand-lone : (content : List ℕ) (groups : Groups) (cs : List ℕ) → Sta
 expand-lone content groups [] plain = refl
 expand-lone content groups (c ∷ cs) plain = rw (plain.0, plain.1) refl
 
-pub expand-dollar : (content : List ℕ) (groups : Groups) (cs : List ℕ)
-    → expand content groups (36 ∷ 36 ∷ cs) ≡ 36 ∷ expand content groups cs
-expand-dollar content groups cs = refl
-
 pub expand-group : (content : List ℕ) (groups : Groups) (d : ℕ) (cs : List ℕ) → 48 ≤ d → d ≤ 57
     → expand content groups (36 ∷ d ∷ cs) ≡ group_text content groups (d - 48) ++ expand content groups cs
 expand-group content groups d cs low high =

@@ -2,7 +2,6 @@
 use Rattle.std.proofs.Common.{◌≡◌, ℕ, ◌+◌, ◌-◌, ◌<◌, ◌≤◌, true, List, [], ◌∷◌, ◌++◌, length, take, drop, get_or, chars, refl, sym, ap, subst, ◌∙◌, arith, append_assoc, length-append, length-take, IsUtf8}
 use Rattle.std.specs.Str.{IsCharBoundary, all_scalars}
 use Rattle.std.proofs.Math.ListN.{get_or-append}
-use Rattle.std.proofs.Math.Seq.{take-append_seam, drop-append_seam}
 use Rattle.std.proofs.lemmas.List.{get_or-append-add, take-append-drop}
 use Rattle.std.proofs.lemmas.Str.{IsUtf8-append, encodes-append, encodes-chars, IsUtf8-nil}
 use Rattle.ropey.specs.Chunks.{text_of}
@@ -67,10 +66,3 @@ taken-more all now taken part now' len left is parts utf8 low = record {
   count = omega (arith, is.count, length-append taken part, low);
   here = boundary-behind part now' left (subst (λ bs. IsCharBoundary bs left) parts is.here) low;
 }
-
-pub taken-all : (all now taken : List ℕ) (len left : ℕ) → IsTaken all now taken len left → left ≤ 0 → (taken ≡ take len all) × (now ≡ drop len all)
-taken-all all now taken len left is none =
-    let len_is : length taken ≡ len = omega (arith, is.count, none) in (
-      sym (ap (λ n. take n all) (sym len_is) ∙ ap (take (length taken)) is.parts ∙ take-append_seam taken now),
-      sym (ap (λ n. drop n all) (sym len_is) ∙ ap (drop (length taken)) is.parts ∙ drop-append_seam taken now),
-    )

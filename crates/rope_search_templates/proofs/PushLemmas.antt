@@ -1,5 +1,5 @@
 -- A text that is put behind another, part by part.
-use Rattle.std.proofs.Common.{◌≡◌, ℕ, List, [], ◌++◌, length, take, drop, ap, sym, ◌∙◌, append_assoc, append-nil}
+use Rattle.std.proofs.Common.{◌≡◌, ℕ, List, ◌++◌, length, take, drop, ap, sym, ◌∙◌, append_assoc}
 use Rattle.std.proofs.Math.Seq.{take-append_seam}
 use Rattle.std.proofs.Common.{string_bytes, Result, Ok, Err, OnErr, OnOk, is_ok, if◌then◌else◌}
 use Rattle.std.specs.Str.{chars}
@@ -18,9 +18,6 @@ pub record IsPushed (old new left whole : List ℕ) : Type 0 where
 abbrev pub HasFront : List ℕ → List ℕ → List ℕ → Type 0
 HasFront old new whole = (len : ℕ) × (new ≡ old ++ take len whole)
 
-pub pushed-start : (old left whole : List ℕ) → left ≡ whole → IsPushed old old left whole
-pushed-start old left whole is = record { front = []; new_is = sym (append-nil old); parts = sym is }
-
 pub pushed-next : (old new left whole part behind new' : List ℕ) → IsPushed old new left whole → left ≡ part ++ behind → new' ≡ new ++ part
     → IsPushed old new' behind whole
 pushed-next old new left whole part behind new' pushed is new-is = record {
@@ -28,10 +25,6 @@ pushed-next old new left whole part behind new' pushed is new-is = record {
   new_is = new-is ∙ ap (λ xs. xs ++ part) pushed.new_is ∙ append_assoc old pushed.front part;
   parts = pushed.parts ∙ ap (λ xs. pushed.front ++ xs) is ∙ sym (append_assoc pushed.front part behind);
 }
-
-pub pushed-end : (old new left whole : List ℕ) → IsPushed old new left whole → left ≡ [] → new ≡ old ++ whole
-pushed-end old new left whole pushed is =
-    pushed.new_is ∙ ap (λ xs. old ++ xs) (sym (pushed.parts ∙ ap (λ xs. pushed.front ++ xs) is ∙ append-nil pushed.front))
 
 pub pushed-front : (old new left whole : List ℕ) → IsPushed old new left whole → HasFront old new whole
 pushed-front old new left whole pushed =

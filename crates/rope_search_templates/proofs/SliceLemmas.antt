@@ -1,10 +1,10 @@
 -- The texts of slices of a rope.
-use Rattle.std.proofs.Common.{◌≡◌, ℕ, zero, suc, ◌+◌, ◌-◌, ◌≤◌, ◌==◌, true, false, List, [], ◌∷◌, ◌++◌, length, take, drop, nat_lt, chars, refl, sym, ap, ◌∙◌, arith, length-append, IsUtf8}
+use Rattle.std.proofs.Common.{◌≡◌, ℕ, zero, suc, ◌+◌, ◌-◌, ◌≤◌, ◌==◌, true, false, List, [], ◌∷◌, ◌++◌, length, take, drop, nat_lt, refl, sym, ap, ◌∙◌, arith, length-append, IsUtf8}
 use Rattle.std.specs.Str.{IsCharBoundary}
 use Rattle.std.proofs.lemmas.Bool.{cond-true, cond-false}
 use Rattle.std.proofs.lemmas.Bool.Decides.{nat_tests}
 use Rattle.std.proofs.lemmas.List.{take_all, drop-take, nil_from_length}
-use Rattle.std.proofs.lemmas.Str.{IsUtf8-between, IsUtf8-drop, chars_from_encodes}
+use Rattle.std.proofs.lemmas.Str.{IsUtf8-between, chars_from_encodes}
 use Rattle.ropey.specs.Chunks.{text_of}
 use Rattle.ropey.specs.Slices.{pieces_from_char, pieces_to_char, clip}
 use Rattle.rope_search_changes.specs.Text.{bytes_of}
@@ -43,9 +43,3 @@ part-is content part start end utf8 ordered starts ends is =
     let bytes : bytes_of part ≡ take (end - start) (drop start content) =
     is ∙ ap (λ n. drop start (take n content)) (sym same) ∙ drop-take start (end - start) content in
     chars_from_encodes part (take (end - start) (drop start content)) (IsUtf8-between content start end utf8 ordered starts ends) bytes
-
--- from a place on
-pub rest-is : (content part : List ℕ) (start end : ℕ) → IsUtf8 content → IsCharBoundary content start → length content ≤ end
-    → bytes_of part ≡ walk.between start end content → part ≡ chars (drop start content)
-rest-is content part start end utf8 starts high is =
-    chars_from_encodes part (drop start content) (IsUtf8-drop content start utf8 starts) (is ∙ ap (drop start) (take_all end content high))

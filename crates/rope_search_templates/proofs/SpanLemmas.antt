@@ -1,16 +1,14 @@
 -- The texts of groups.
-use Rattle.std.proofs.Common.{◌≡◌, ℕ, zero, suc, ◌+◌, ◌-◌, ◌<◌, ◌≤◌, List, [], ◌∷◌, refl, length, take, drop, Option, Some, None, slice_index_or, ap, sym, subst, ◌∙◌, arith, IsUtf8, IfSome}
+use Rattle.std.proofs.Common.{◌≡◌, ℕ, zero, suc, ◌+◌, ◌-◌, ◌<◌, ◌≤◌, List, [], ◌∷◌, refl, length, take, drop, Option, Some, None, slice_index_or, ap, subst, ◌∙◌, arith, IsUtf8, IfSome}
 use Rattle.std.proofs.lemmas.List.{length-take-le, length-drop}
 use Rattle.std.proofs.lemmas.Str.{encodes-chars, IsUtf8-between}
 use Rattle.str_indices.specs.Text.{byte_len}
 use Rattle.ropey_walk.specs.Ranges.{IsByteRangeIn}
-use Rattle.ropey_walk.specs.Clips as walk
 use Rattle.rope_search_changes.specs.Text.{IsText, bytes_of}
-use Rattle.rope_search_changes.specs.Replacement.{Groups, IsSpanIn, HasSpansIn, text_of_span, group_text, expand}
+use Rattle.rope_search_changes.specs.Replacement.{Groups, IsSpanIn, HasSpansIn, text_of_span, expand}
 use Rattle.rope_search_templates.specs.Pieces.{IsFirstPiece, shown}
 use Rattle.rope_search_templates.specs.declared.pieces.Piece.{Piece}
 use Rattle.rope_search_templates.proofs.ContentLemmas.{byte_len-append}
-use Rattle.rope_search_templates.proofs.SliceLemmas.{part-is}
 
 -- a text's UTF-8
 pub utf8-of : (text : List ℕ) → IsText text → IsUtf8 (bytes_of text)
@@ -51,11 +49,3 @@ range-in text span is = record {
   starts = is.starts;
   stops = is.stops;
 }
-
--- a slice that was cut at a group's span has that group's text
-pub group-is : (text part : List ℕ) (groups : Groups) (number : ℕ) (span : ℕ × ℕ) → IsUtf8 (bytes_of text) → IsSpanIn (bytes_of text) span
-    → slice_index_or groups number None ≡ Some span → bytes_of part ≡ walk.between span.0 span.1 (bytes_of text)
-    → part ≡ group_text (bytes_of text) groups number
-group-is text part groups number span utf8 in-text is bytes =
-    part-is (bytes_of text) part span.0 span.1 utf8 in-text.ordered in-text.starts in-text.stops bytes
-    ∙ sym (ap (text_of_span (bytes_of text)) is)

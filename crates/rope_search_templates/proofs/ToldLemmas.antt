@@ -1,6 +1,6 @@
 -- The changes of matches that are told one after the other.
-use Rattle.std.proofs.Common.{◌≡◌, ℕ, ◌+◌, ◌<◌, ◌≤◌, List, [], ◌∷◌, ◌++◌, length, drop, get_or, ap, sym, subst, ◌∙◌, arith, append_assoc, append-nil, vec_len, vec_capacity, IsUtf8}
-use Rattle.std.proofs.lemmas.List.{drop_all, drop_more}
+use Rattle.std.proofs.Common.{◌≡◌, ℕ, ◌+◌, ◌<◌, List, [], ◌∷◌, ◌++◌, length, drop, get_or, ap, sym, subst, ◌∙◌, arith, append_assoc, vec_len, vec_capacity, IsUtf8}
+use Rattle.std.proofs.lemmas.List.{drop_more}
 use Rattle.str_indices.specs.Text.{byte_len}
 use Rattle.rope_search_changes.specs.Replacement.{Groups, replaced, changes_of}
 use Rattle.rope_search_changes.specs.declared.Change.{Change}
@@ -82,10 +82,3 @@ module _ (content template : List ℕ) (matches : List Groups) where
         len = next.len ∙ ap (λ n. n + 1) is.len;
         capacity = next.capacity ∙ is.capacity;
       }
-
-  -- all of them
-  pub told-all : (count : ℕ) (told : Told) → length matches ≤ count → AreToldUpTo content template matches count told → told.changes.items ≡ changes_of content template 0 0 matches
-  told-all count told none is =
-      sym (append-nil told.changes.items)
-      ∙ ap (λ ms. told.changes.items ++ changes_of content template told.at told.at_new ms) (sym (drop_all count matches none))
-      ∙ is.are.changes_are

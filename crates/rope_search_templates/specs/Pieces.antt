@@ -16,13 +16,13 @@ is_group test (Text text) = false
 is_group test (Group number) = test number
 
 -- a text is UTF-8, and a group has one digit
-abbrev pub IsPiece : Piece → Type 0
-IsPiece (Text text) = IsUtf8 text.now
-IsPiece (Group number) = number < 10
+abbrev pub IsTemplatePiece : Piece → Type 0
+IsTemplatePiece (Text text) = IsUtf8 text.now
+IsTemplatePiece (Group number) = number < 10
 
 -- the first piece of what is left of a template, and what is left behind it
 pub record IsFirstPiece (left : List ℕ) (piece : Piece) (behind : List ℕ) : Type 0 where
-  pub is_one : IsPiece piece
+  pub is_one : IsTemplatePiece piece
   pub expands : (content : List ℕ) (groups : Groups)
       → expand content groups left ≡ shown content groups piece ++ expand content groups behind
   pub names_it : (test : ℕ → Bool) → names test left ≡ (is_group test piece || names test behind)

@@ -23,11 +23,11 @@ impl Piece<'_> {
     ghost use Rattle.rope_search_changes.specs.Text.{IsText, bytes_of};
     ghost use Rattle.rope_search_changes.specs.Replacement.{HasSpansIn};
     ghost use Rattle.rope_search_templates.specs.Matches.{groups_in};
-    ghost use Rattle.rope_search_templates.specs.Pieces.{IsPiece, shown};
+    ghost use Rattle.rope_search_templates.specs.Pieces.{IsTemplatePiece, shown};
 
     /// How many bytes of UTF-8 it stands for at a match.
     pub fn len(self, found: Match<'_>) -> usize
-        requires piece { IsPiece self }
+        requires piece { IsTemplatePiece self }
         requires spans { (text : List ℕ) × IsText text
             × HasSpansIn (bytes_of text) (groups_in found) }
         ensures { (text : List ℕ) → IsText text → HasSpansIn (bytes_of text) (groups_in found.entry)

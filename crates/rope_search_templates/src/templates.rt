@@ -8,7 +8,7 @@ ghost use Rattle.rope_search_changes.specs.Text.{IsText, bytes_of};
 ghost use Rattle.rope_search_changes.specs.Replacement.{Groups, HasSpansIn, IsSpanIn, between, expand};
 ghost use Rattle.rope_search_templates.specs.Templates.{names_explicit_groups, names_groups};
 ghost use Rattle.rope_search_templates.specs.Matches.{groups_in};
-ghost use Rattle.rope_search_templates.specs.Pieces.{IsPiece, shown};
+ghost use Rattle.rope_search_templates.specs.Pieces.{IsTemplatePiece, shown};
 
 use crate::matches::Match;
 use crate::pieces::{Piece, Pieces};
@@ -82,7 +82,7 @@ fn push_piece(
     found: Match<'_>,
     out: &mut String,
 ) -> Result<(), AllocError>
-    requires piece { IsPiece piece }
+    requires piece { IsTemplatePiece piece }
     requires spans { HasSpansIn (bytes_of (text_of text.now)) (groups_in found) }
     ensures pushed { OnOk result (chars (string_bytes out.new) ≡ chars (string_bytes out.old)
         ++ shown (bytes_of (text_of text.now)) (groups_in found.entry) piece.entry) }

@@ -1,7 +1,7 @@
 //! A regex whose searches are counted as they begin, and go forward alone. Nothing else of the crate
 //! has a regex, an input or a cache: a search that isn't begun here can't be made. What else the
 //! crate takes of `regex_cursor` is handed on from here.
-ghost use Rattle.std.specs.Prelude.{◌≡◌, ℕ, Option, ◌+◌, ◌-◌, ◌*◌, ◌^◌, min, ◌<◌, ◌≤◌, ◌↔◌, List, length, Some, None, true, false, IsTrue, IfOk, IfErr, IfSome, IfNone, OnErr};
+ghost use Rattle.std.specs.Prelude.{◌≡◌, ℕ, Option, ◌+◌, ◌-◌, ◌*◌, ◌^◌, min, ◌<◌, ◌≤◌, List, length, Some, None, true, false, IfOk, IfErr, IfSome, IfNone, OnErr};
 ghost use Rattle.str_indices.specs.Text.{byte_len};
 ghost use Rattle.ropey_walk.specs.Comparing.{slice_bytes};
 ghost use Rattle.ropey_walk.specs.Slices.{slice_text};
@@ -10,7 +10,7 @@ ghost use Rattle.regex_cursor.specs.PatternLaws.{SaysOfText};
 ghost use Rattle.regex_cursor.specs.Regexes.{IsCacheOf, IsRegexOf};
 ghost use Rattle.regex_cursor.specs.NextMatches.{TreeFindsNext};
 ghost use Rattle.rope_search_reports.specs.Text.{IsText};
-ghost use Rattle.rope_search_reports.specs.Finders.{IsTold, group_told, start_behind};
+ghost use Rattle.rope_search_reports.specs.Finders.{FinderTells, group_told, start_behind};
 
 use super::Lines;
 use counters::Counter;
@@ -113,7 +113,7 @@ fn find<C: Cursor>(
     requires slots { 2 ≤ length slots.old }
     ensures found { (text content : List ℕ) (from : ℕ) → (built : IsRegexOf text regex.now)
         → AsksFrom content from input.old → IfOk result (λ span.
-        IsTold (TreeFinds built.tree content from) span slots.new) }
+        FinderTells (TreeFinds built.tree content from) span slots.new) }
     ensures asks { (content : List ℕ) (from : ℕ) → AsksFrom content from input.old
         → AsksFrom content from input.new }
     ensures made { IsCacheOf regex.now cache.new }
@@ -169,7 +169,7 @@ impl CountedRegex {
         requires { from ≤ byte_len (slice_text text) }
         ensures found { (text' : List ℕ) → (built : IsRegexOf text' self.old)
             → IfOk result (λ span. (slots : List (Option ℕ)) ×
-            IsTold (TreeFinds built.tree (slice_bytes text.entry) from) span slots) }
+            FinderTells (TreeFinds built.tree (slice_bytes text.entry) from) span slots) }
         ensures same { self.new ≡ self.old }
         ensures fault { IfErr result (λ fault. fault ≡ Fault.Memory) }
         ensures count { tick.new.count ≡ tick.old.count }
@@ -250,7 +250,7 @@ impl CountedRegex {
         requires by { pass.old.by ≡ self.old }
         ensures found { pass.old.is_over ≡ false
             → (text : List ℕ) → (built : IsRegexOf text self.old) → IfOk result (λ span.
-            IsTold (TreeFindsNext built.tree pass.old.content pass.old.last) span slots.new) }
+            FinderTells (TreeFindsNext built.tree pass.old.content pass.old.last) span slots.new) }
         ensures goes_on { IfOk result (λ span. IfSome span (λ span. pass.new ≡ record {
           content = pass.old.content;
           last = Some span.1;

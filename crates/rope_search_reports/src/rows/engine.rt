@@ -1,19 +1,19 @@
 //! A pattern that is ready to search, and what its searches tell: rows, matches, groups, and the
 //! lines in which no match can begin.
-ghost use Rattle.std.specs.Prelude.{◌≡◌, ◌+◌, ◌-◌, ◌^◌, ◌<◌, ◌≤◌, ◌⊎◌, ℕ, List, [], length, map, min, chars, IfOk, IfErr, IfSome, OnOk, Err};
-ghost use Rattle.std.specs.Str.{IsCharBoundary, IsUtf8};
-ghost use Rattle.str_indices.specs.Text.{breaks, byte_len};
-ghost use Rattle.ropey.specs.Chunks.{is_break, text_of};
+ghost use Rattle.std.specs.Prelude.{◌≡◌, ◌+◌, ◌-◌, ◌^◌, ◌<◌, ◌≤◌, ◌⊎◌, ℕ, List, [], length, map, min, chars, IfOk, IfErr, IfSome, Err};
+ghost use Rattle.std.specs.Str.{IsCharBoundary};
+ghost use Rattle.str_indices.specs.Text.{byte_len};
+ghost use Rattle.ropey.specs.Chunks.{text_of};
 ghost use Rattle.ropey_walk.specs.Comparing.{slice_bytes};
 ghost use Rattle.ropey_walk.specs.Slices.{slice_text};
 ghost use Rattle.rope_search_reports.specs.Text.{bytes_of, line_count};
-ghost use Rattle.rope_search_reports.specs.Pattern.{IsPattern, IsTooHeavy, SpellsNone, Finds, pattern_limit};
+ghost use Rattle.rope_search_reports.specs.Pattern.{IsPattern, IsTooHeavy, SpellsNone, FindsSpan, pattern_limit};
 ghost use Rattle.rope_search_reports.specs.LineGroups.{TellsGroups};
 ghost use Rattle.rope_search_reports.specs.Report.{IsRow};
 ghost use Rattle.rope_search_reports.specs.Matches.{AreGroups, IsMatches};
 ghost use Rattle.rope_search_reports.specs.Replacement.{AreMatchesIn, alone};
 ghost use Rattle.rope_search_reports.specs.Finders.{matches_in};
-ghost use Rattle.rope_search_reports.specs.Drafts.{AreBare, FindsNoneBetween, HoldsText, own_text};
+ghost use Rattle.rope_search_reports.specs.Drafts.{HaveNoMatches, FindsNoneBetween, HoldsText, own_text};
 
 use super::Lines;
 use super::counted::{BuildError, CountedRegex, RopeyCursor};
@@ -142,7 +142,7 @@ impl Finder {
         ensures text { walk.new.text ≡ walk.old.text }
         ensures line { walk.new.line ≡ walk.old.line + result }
         ensures within { walk.old.line + result < line_count walk.old.text }
-        ensures bare { AreBare self.now walk.old.text walk.old.line (walk.old.line + result) }
+        ensures bare { HaveNoMatches self.now walk.old.text walk.old.line (walk.old.line + result) }
         ensures empty { 0 < result → IsRow self.now [] [] }
     {
         let text = walk.text();
@@ -160,7 +160,7 @@ impl Finder {
         ensures line { walk.new.line ≡ walk.old.line + result }
         ensures within { walk.old.line + result < line_count walk.old.text }
         ensures fits { result + 1 < 2 ^ 64 }
-        ensures bare { AreBare self.now walk.old.text walk.old.line (walk.old.line + result) }
+        ensures bare { HaveNoMatches self.now walk.old.text walk.old.line (walk.old.line + result) }
         ensures empty { 0 < result → IsRow self.now [] [] }
     {
         let rest = walk.rest();
@@ -188,7 +188,7 @@ impl Finder {
         ensures text { walk.new.text ≡ walk.old.text }
         ensures line { walk.new.line ≡ walk.old.line + result }
         ensures within { result ≤ left }
-        ensures bare { AreBare self.now walk.old.text walk.old.line (walk.old.line + result) }
+        ensures bare { HaveNoMatches self.now walk.old.text walk.old.line (walk.old.line + result) }
         ensures empty { 0 < result → IsRow self.now [] [] }
         ensures count { tick.new.count ≡ tick.old.count }
         ensures wholes { tick.new.wholes ≡ tick.old.wholes }
@@ -251,7 +251,7 @@ impl Finder {
     ) -> Result<Option<(usize, usize)>, Fault>
         requires { IsCharBoundary (bytes_of (text_of text.now)) from }
         ensures found { IfOk result (λ span.
-            Finds self.old (bytes_of (text_of text.now)) from span) }
+            FindsSpan self.old (bytes_of (text_of text.now)) from span) }
         ensures fault { IfErr result (λ fault. fault ≡ Fault.Memory) }
         ensures finder { self.new ≡ self.old }
         ensures count { tick.new.count ≡ tick.old.count }

@@ -1,4 +1,4 @@
-use Rattle.std.proofs.Common.{◌<◌, ◌≤◌, inl, inr, arith}
+use Rattle.std.proofs.Common.{inl, inr, arith}
 use Rattle.ropey.specs.Chunks.{text_of}
 use Rattle.rope_search.specs.Edits.{in_full}
 use Rattle.rope_search.proofs.PartLaws.{cutting_scalars}

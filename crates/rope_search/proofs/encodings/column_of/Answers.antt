@@ -1,7 +1,6 @@
-use Rattle.std.proofs.Common.{◌≡◌, ◌-◌, ◌≤◌, sym, ap, subst, ◌∙◌, arith}
+use Rattle.std.proofs.Common.{◌-◌, ◌≤◌, ap, ◌∙◌, arith}
 use Rattle.ropey.specs.Chunks.{text_of, is_break}
 use Rattle.rope_search_reports.specs.Position.{line_start}
-use Rattle.rope_search.specs.Encodings.{column_in}
 use Rattle.rope_search.proofs.EncodingLemmas.{chars_up_to}
 use Rattle.rope_search.proofs.encodings.column_of.Goals as goal
 

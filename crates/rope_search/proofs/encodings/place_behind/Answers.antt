@@ -1,9 +1,7 @@
-use Rattle.std.proofs.Common.{◌≡◌, ◌+◌, ◌^◌, ◌<◌, ◌≤◌, length, sym, ap, subst, ◌∙◌, arith}
-use Rattle.std.specs.Prelude.{Some, None}
+use Rattle.std.proofs.Common.{◌≡◌, ◌+◌, ◌^◌, ◌<◌, ap, ◌∙◌, arith}
+use Rattle.std.specs.Prelude.{Some}
 use Rattle.ropey.specs.Chunks.{text_of}
 use Rattle.rope_search_reports.specs.Position.{line_start}
-use Rattle.rope_search.specs.Encodings.{before_place}
-use Rattle.rope_search.specs.declared.encodings.Encoding.TheVariants.{Utf32}
 use Rattle.rope_search.proofs.PartLaws.{cutting_scalars}
 use Rattle.rope_search.proofs.EncodingLemmas.{chars_up_to, chars-within, char-within, chars-before, char-starts}
 use Rattle.rope_search.proofs.encodings.place_behind.Goals as goal

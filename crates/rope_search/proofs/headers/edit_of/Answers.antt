@@ -1,7 +1,7 @@
 use Rattle.std.proofs.Common.{◌≡◌, [], ◌∷◌, length, codes, Some, refl, ap, arith}
 use Rattle.std.proofs.lemmas.Slice.Eq.{strip_prefix_is}
 use Rattle.std.proofs.lemmas.Bool.Decides.{Decides-eqb, nat_tests}
-use Rattle.rope_search.specs.Header.{Begins}
+use Rattle.rope_search.specs.Header.{SpellsFront}
 use Rattle.rope_search.proofs.HeaderLemmas.{Begins-then, Begins-rest, IsWorded-told, IsWorded-none, IsWorded-more, nothing_left, edit_numbers}
 use Rattle.rope_search.proofs.headers.edit_of.Goals as goal
 
@@ -31,7 +31,7 @@ returns-in_err-len-clause-none c =
     let from = c.in_ok-from.from in
     let to = c.in_ok-to.to in
     let whole = strip_prefix_is Decides-eqb line (codes "edit") (Some c.in_ok-strip_prefix.field-0) c.in_ok-strip_prefix.ensures.cases in
-    let both : Begins rest (from.line ∷ from.column ∷ to.line ∷ to.column ∷ []) c.in_ok-to.others.now =
+    let both : SpellsFront rest (from.line ∷ from.column ∷ to.line ∷ to.column ∷ []) c.in_ok-to.others.now =
     Begins-then rest c.in_ok-from.others.now c.in_ok-to.others.now (from.line ∷ from.column ∷ []) (to.line ∷ to.column ∷ []) c.in_ok-from.ensures.found c.in_ok-to.ensures.found in
     rw c.from_residual-in_err-len.ensures
     (λ l k m j n h. IsWorded-none (codes "edit") line rest (l ∷ k ∷ m ∷ j ∷ n ∷ []) whole
@@ -46,9 +46,9 @@ returns-then-is_empty-clause-found c =
     let to = c.in_ok-to.to in
     let others = c.in_ok-len.others.now in
     let whole = strip_prefix_is Decides-eqb line (codes "edit") (Some c.in_ok-strip_prefix.field-0) c.in_ok-strip_prefix.ensures.cases in
-    let both : Begins rest (from.line ∷ from.column ∷ to.line ∷ to.column ∷ []) c.in_ok-to.others.now =
+    let both : SpellsFront rest (from.line ∷ from.column ∷ to.line ∷ to.column ∷ []) c.in_ok-to.others.now =
     Begins-then rest c.in_ok-from.others.now c.in_ok-to.others.now (from.line ∷ from.column ∷ []) (to.line ∷ to.column ∷ []) c.in_ok-from.ensures.found c.in_ok-to.ensures.found in
-    let all : Begins rest (edit_numbers from to c.in_ok-len.len) others =
+    let all : SpellsFront rest (edit_numbers from to c.in_ok-len.len) others =
     Begins-then rest c.in_ok-to.others.now others (from.line ∷ from.column ∷ to.line ∷ to.column ∷ []) (c.in_ok-len.len ∷ []) both c.in_ok-len.ensures.found in
     let none : length others ≡ 0 = grind (arith, nat_tests, c.if-is_empty.ensures, c.if-is_empty.true, c.is_empty.ensures) in
     IsWorded-told (codes "edit") line rest others (edit_numbers from to c.in_ok-len.len) whole all (nothing_left others none)
@@ -61,9 +61,9 @@ returns-else-is_empty-clause-none c =
     let to = c.in_ok-to.to in
     let others = c.in_ok-len.others.now in
     let whole = strip_prefix_is Decides-eqb line (codes "edit") (Some c.in_ok-strip_prefix.field-0) c.in_ok-strip_prefix.ensures.cases in
-    let both : Begins rest (from.line ∷ from.column ∷ to.line ∷ to.column ∷ []) c.in_ok-to.others.now =
+    let both : SpellsFront rest (from.line ∷ from.column ∷ to.line ∷ to.column ∷ []) c.in_ok-to.others.now =
     Begins-then rest c.in_ok-from.others.now c.in_ok-to.others.now (from.line ∷ from.column ∷ []) (to.line ∷ to.column ∷ []) c.in_ok-from.ensures.found c.in_ok-to.ensures.found in
-    let all : Begins rest (edit_numbers from to c.in_ok-len.len) others =
+    let all : SpellsFront rest (edit_numbers from to c.in_ok-len.len) others =
     Begins-then rest c.in_ok-to.others.now others (from.line ∷ from.column ∷ to.line ∷ to.column ∷ []) (c.in_ok-len.len ∷ []) both c.in_ok-len.ensures.found in
     let some : length others ≡ 0 → ⊥ = λ none. grind (arith, nat_tests, none, c.if-is_empty.ensures, c.if-is_empty.false, c.is_empty.ensures) in
     λ l k m j n h. IsWorded-more (codes "edit") line rest others (edit_numbers from to c.in_ok-len.len) whole all (λ e. some (ap length e)) (l ∷ k ∷ m ∷ j ∷ n ∷ []) refl h

@@ -1,4 +1,4 @@
-use Rattle.std.proofs.Common.{◌≡◌, ◌-◌, ◌∷◌, [], length, sym, ap, subst, ◌∙◌, arith}
+use Rattle.std.proofs.Common.{◌≡◌, ◌-◌, ◌∷◌, [], length, ap, subst, ◌∙◌, arith}
 use Rattle.ropey.specs.Chunks.{text_of}
 use Rattle.rope_search_reports.specs.Patches.{made_by}
 use Rattle.rope_search_reports.specs.Text.{bytes_of}

@@ -1,6 +1,6 @@
 use Rattle.std.proofs.Common.{chars, sym, subst}
 use Rattle.ropey_walk.specs.Slices.{slice_pieces, slice_text}
-use Rattle.rope_search_reports.specs.Drafts.{IsRestOf}
+use Rattle.rope_search_reports.specs.Drafts.{IsRestOfChunk}
 use Rattle.rope_search_reports.proofs.PlaceLemmas.{rope-scalars, split_at}
 use Rattle.rope_search_reports.proofs.WalkLemmas.{shown-rest}
 use Rattle.rope_search_reports.proofs.walk.chunk_from.Goals as goal
@@ -20,5 +20,5 @@ range_from-requires c = λ _.
 pub returns-clause-rest : goal.returns-clause-rest
 returns-clause-rest c = λ before behind parts place.
     let e = c.chunk_at_byte-start.ensures in
-    subst (λ bs. IsRestOf behind (chars bs)) (sym c.range_from.ensures.value)
+    subst (λ bs. IsRestOfChunk behind (chars bs)) (sym c.range_from.ensures.value)
     (shown-rest (slice_pieces c.args.text.now) _ c.args.byte_idx _ _ _ e.cut.cut e.utf8 e.chunk before behind parts place).1

@@ -2,7 +2,7 @@ use Rattle.std.proofs.Common.{◌≡◌, refl, sym, ap, ◌∙◌, subst}
 use Rattle.std.specs.Prelude.{Option, Some, option_map}
 use Rattle.rope_search.specs.declared.search.Search.{Search}
 use Rattle.rope_search.specs.Session.{BufferState, LimitedBuffer, current_text}
-use Rattle.rope_search.specs.Finding.{TellsIn, TellsNext}
+use Rattle.rope_search.specs.Finding.{TellsIn, TellsPositions}
 use Rattle.rope_search.proofs.NextLemmas.{told_in}
 use Rattle.rope_search.proofs.buffer.Buffer.next_from.Goals as goal
 
@@ -17,4 +17,4 @@ returns-clause-found c =
     let same : state ≡ c.args.self.now.state =
     ap (λ (o : Option Search). record { texts = history.texts; current = history.current; pattern = option_map (λ (s : Search). s.finder) o }) (sym one)
     ∙ ap (λ (v : LimitedBuffer). v.state) c.self.view_is in
-    subst (λ b. TellsNext b c.args.from found) same (told_in state finder c.args.from found refl tells)
+    subst (λ b. TellsPositions b c.args.from found) same (told_in state finder c.args.from found refl tells)

@@ -1,8 +1,8 @@
-use Rattle.std.proofs.Common.{◌≡◌, ◌≤◌, ℕ, sym, ap, subst, ◌∙◌, arith}
+use Rattle.std.proofs.Common.{◌≡◌, ℕ, sym, ap, subst, ◌∙◌}
 use Rattle.std.proofs.lemmas.Result.{err_from_is_err_and}
 use Rattle.std.specs.Str.{IsCharBoundary}
 use Rattle.ropey.specs.Chunks.{text_of, is_break}
-use Rattle.rope_search_reports.specs.Position.{IsAt, position}
+use Rattle.rope_search_reports.specs.Position.{position}
 use Rattle.rope_search_reports.specs.Text.{IsText, bytes_of}
 use Rattle.rope_search.specs.Encodings.{IsAtIn}
 use Rattle.rope_search.specs.Session.{current_text}

@@ -1,6 +1,6 @@
 use Rattle.std.proofs.Common.{◌≡◌, ◌-◌, ℕ, List, sym, subst, ◌∙◌, ap}
 use Rattle.ropey.specs.Chunks.{text_of}
-use Rattle.rope_search_reports.specs.Turned.{Lead, listed, turned}
+use Rattle.rope_search_reports.specs.Turned.{Lead, listed, turned_changes}
 use Rattle.rope_search_changes.specs.declared.Change.{Change}
 use Rattle.rope_search.specs.Histories.{text_at, Texts}
 use Rattle.rope_search.proofs.HistoryLemmas.{led-to}
@@ -31,11 +31,11 @@ follow-requires-clause-led c =
     let lead : Lead last before here =
     subst (λ (cs : List Change). Lead cs before here) (sym c.last_changes.ensures)
     (led-to history.texts history.changes history.current c.current-current.ensures.led later c.current-current.ensures.inside) in
-    let back : Lead (turned 0 0 last) here before = c.changes_lead_back.ensures last before here lead in
-    let told : c.as_slice.result.now ≡ turned 0 0 last = c.as_slice.ensures ∙ c.in_ok-changes.ensures.changes in
+    let back : Lead (turned_changes 0 0 last) here before = c.changes_lead_back.ensures last before here lead in
+    let told : c.as_slice.result.now ≡ turned_changes 0 0 last = c.as_slice.ensures ∙ c.in_ok-changes.ensures.changes in
     subst (λ (cs : List Change). Lead cs (text_of c.current-current.result.now) (text_of c.in-Some.text.now)) (sym told)
-    (subst (λ (t : List ℕ). Lead (turned 0 0 last) t (text_of c.in-Some.text.now)) (sym c.current-current.ensures.text)
-    (subst (λ (t : List ℕ). Lead (turned 0 0 last) here t) (sym c.in-Some.ensures.text) back))
+    (subst (λ (t : List ℕ). Lead (turned_changes 0 0 last) t (text_of c.in-Some.text.now)) (sym c.current-current.ensures.text)
+    (subst (λ (t : List ℕ). Lead (turned_changes 0 0 last) here t) (sym c.in-Some.ensures.text) back))
 
 pub returns-clause-changed : goal.returns-clause-changed
 returns-clause-changed c =

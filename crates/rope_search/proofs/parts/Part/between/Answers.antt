@@ -1,6 +1,5 @@
-use Rattle.std.proofs.Common.{◌≡◌}
 use Rattle.ropey.specs.Chunks.{text_of}
-use Rattle.rope_search.proofs.PartLaws.{StandsAt, marked_between, none_between, stands, unmarked}
+use Rattle.rope_search.proofs.PartLaws.{marked_between, none_between, stands, unmarked}
 use Rattle.rope_search.proofs.parts.Part.between.Goals as goal
 
 pub returns-in_err-start-clause-none : goal.returns-in_err-start-clause-none

@@ -2,7 +2,7 @@ use Rattle.std.proofs.Common.{◌^◌, ◌<◌, length, sym, subst, arith}
 use Rattle.ropey.specs.Chunks.{text_of}
 use Rattle.rope_search_reports.specs.Report.{IsReport}
 use Rattle.rope_search_reports.specs.Patches.{patched, AreInTurn, growth_by, made_by}
-use Rattle.rope_search.specs.Searched.{HasRoom}
+use Rattle.rope_search.specs.Searched.{HasRoomFor}
 use Rattle.rope_search.proofs.PatchLemmas.{growth-made, made-within}
 use Rattle.rope_search.proofs.search.Search.patches.Goals as goal
 
@@ -24,7 +24,7 @@ returns-clause-fit c =
     let rows = c.a_row_a_line.ensures (text_of c.args.old.now) search.finder search.rows.items c.requires.report in
     record {
       in_turn = subst (λ rows. AreInTurn 0 (length rows) patches) (sym c.room_for.ensures.rows) (subst (λ n. AreInTurn 0 n patches) (sym rows) c.in_ok-patches.ensures.turn);
-      room = subst (λ ps. HasRoom c.room_for.new.rows ps c.in_ok-room.room) c.deref.ensures.value c.in_ok-room.ensures.room;
+      room = subst (λ ps. HasRoomFor c.room_for.new.rows ps c.in_ok-room.room) c.deref.ensures.value c.in_ok-room.ensures.room;
     }
 
 pub returns-clause-few : goal.returns-clause-few

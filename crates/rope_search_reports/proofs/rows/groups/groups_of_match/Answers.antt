@@ -4,7 +4,7 @@ use Rattle.ropey_walk.specs.Slices.{slice_pieces, slice_text}
 use Rattle.regex_cursor.specs.Regexes.{IsRegexOf}
 use Rattle.regex_cursor.proofs.TreeLaws.{finds_of_trees, regexes_have_trees}
 use Rattle.regex_cursor.specs.NextMatches.{TreeFindsNext}
-use Rattle.rope_search_reports.specs.Finders.{IsTold}
+use Rattle.rope_search_reports.specs.Finders.{FinderTells}
 use Rattle.rope_search_reports.specs.Replacement.{HasSpansIn}
 use Rattle.rope_search_reports.proofs.AmongLemmas.{among-here, among-none, next-spans, passed-more, passed-none}
 use Rattle.rope_search_reports.proofs.MatchLemmas.{room_behind}
@@ -27,8 +27,8 @@ loop-pass-init c =
 pub loop-pass-smaller : goal.loop-pass-smaller
 loop-pass-smaller c =
     let content = slice_bytes c.args.line in
-    let told : (text : List ℕ) → (built : IsRegexOf text c.args.regex.now) → IsTold (TreeFindsNext built.tree c.loop-pass.pass.content c.loop-pass.pass.last) c.in_ok-next.field-0 c.next.new.slots =
-    subst (λ re. (text : List ℕ) → (built : IsRegexOf text re) → IsTold (TreeFindsNext built.tree c.loop-pass.pass.content c.loop-pass.pass.last) c.in_ok-next.field-0 c.next.new.slots) c.loop-pass.invariant.0 (c.in_ok-next.ensures.found c.loop-pass.invariant.1) in
+    let told : (text : List ℕ) → (built : IsRegexOf text c.args.regex.now) → FinderTells (TreeFindsNext built.tree c.loop-pass.pass.content c.loop-pass.pass.last) c.in_ok-next.field-0 c.next.new.slots =
+    subst (λ re. (text : List ℕ) → (built : IsRegexOf text re) → FinderTells (TreeFindsNext built.tree c.loop-pass.pass.content c.loop-pass.pass.last) c.in_ok-next.field-0 c.next.new.slots) c.loop-pass.invariant.0 (c.in_ok-next.ensures.found c.loop-pass.invariant.1) in
     let tree = c.requires.1.tree in
     let next = next-told tree content _ c.loop-pass.pass.last c.in_ok-next.field-0 c.in-Some.field-0 _ c.loop-pass.invariant.2 (told c.requires.0 c.requires.1) c.in-Some.is in
     let gone = rw c.in-Some.is at c.in_ok-next.ensures.goes_on in
@@ -37,8 +37,8 @@ loop-pass-smaller c =
 pub loop-pass-preserved : goal.loop-pass-preserved
 loop-pass-preserved c =
     let content = slice_bytes c.args.line in
-    let told : (text : List ℕ) → (built : IsRegexOf text c.args.regex.now) → IsTold (TreeFindsNext built.tree c.loop-pass.pass.content c.loop-pass.pass.last) c.in_ok-next.field-0 c.next.new.slots =
-    subst (λ re. (text : List ℕ) → (built : IsRegexOf text re) → IsTold (TreeFindsNext built.tree c.loop-pass.pass.content c.loop-pass.pass.last) c.in_ok-next.field-0 c.next.new.slots) c.loop-pass.invariant.0 (c.in_ok-next.ensures.found c.loop-pass.invariant.1) in
+    let told : (text : List ℕ) → (built : IsRegexOf text c.args.regex.now) → FinderTells (TreeFindsNext built.tree c.loop-pass.pass.content c.loop-pass.pass.last) c.in_ok-next.field-0 c.next.new.slots =
+    subst (λ re. (text : List ℕ) → (built : IsRegexOf text re) → FinderTells (TreeFindsNext built.tree c.loop-pass.pass.content c.loop-pass.pass.last) c.in_ok-next.field-0 c.next.new.slots) c.loop-pass.invariant.0 (c.in_ok-next.ensures.found c.loop-pass.invariant.1) in
     let gone = rw c.in-Some.is at c.in_ok-next.ensures.goes_on in (
       c.next.ensures.same ∙ c.loop-pass.invariant.0,
       ap (λ p. p.is_over) gone,
@@ -54,8 +54,8 @@ loop-pass-preserved c =
 pub returns-then-left-eq0-clause-groups : goal.returns-then-left-eq0-clause-groups
 returns-then-left-eq0-clause-groups c = λ text built.
     let content = slice_bytes c.args.line in
-    let told : (text : List ℕ) → (built : IsRegexOf text c.args.regex.now) → IsTold (TreeFindsNext built.tree c.loop-pass.pass.content c.loop-pass.pass.last) c.in_ok-next.field-0 c.next.new.slots =
-    subst (λ re. (text : List ℕ) → (built : IsRegexOf text re) → IsTold (TreeFindsNext built.tree c.loop-pass.pass.content c.loop-pass.pass.last) c.in_ok-next.field-0 c.next.new.slots) c.loop-pass.invariant.0 (c.in_ok-next.ensures.found c.loop-pass.invariant.1) in
+    let told : (text : List ℕ) → (built : IsRegexOf text c.args.regex.now) → FinderTells (TreeFindsNext built.tree c.loop-pass.pass.content c.loop-pass.pass.last) c.in_ok-next.field-0 c.next.new.slots =
+    subst (λ re. (text : List ℕ) → (built : IsRegexOf text re) → FinderTells (TreeFindsNext built.tree c.loop-pass.pass.content c.loop-pass.pass.last) c.in_ok-next.field-0 c.next.new.slots) c.loop-pass.invariant.0 (c.in_ok-next.ensures.found c.loop-pass.invariant.1) in
     let slots = c.next.new.slots in
     let next = next-told built.tree content _ c.loop-pass.pass.last c.in_ok-next.field-0 c.in-Some.field-0 slots c.loop-pass.invariant.2 (told text built) c.in-Some.is in
     let shown = groups-told built.tree content c.loop-pass.pass.last c.in-Some.field-0 slots (omega (arith, c.next.auto.slots))
@@ -66,8 +66,8 @@ returns-then-left-eq0-clause-groups c = λ text built.
 pub returns-then-left-eq0-clause-stand : goal.returns-then-left-eq0-clause-stand
 returns-then-left-eq0-clause-stand c =
     let content = slice_bytes c.args.line in
-    let told : (text : List ℕ) → (built : IsRegexOf text c.args.regex.now) → IsTold (TreeFindsNext built.tree c.loop-pass.pass.content c.loop-pass.pass.last) c.in_ok-next.field-0 c.next.new.slots =
-    subst (λ re. (text : List ℕ) → (built : IsRegexOf text re) → IsTold (TreeFindsNext built.tree c.loop-pass.pass.content c.loop-pass.pass.last) c.in_ok-next.field-0 c.next.new.slots) c.loop-pass.invariant.0 (c.in_ok-next.ensures.found c.loop-pass.invariant.1) in
+    let told : (text : List ℕ) → (built : IsRegexOf text c.args.regex.now) → FinderTells (TreeFindsNext built.tree c.loop-pass.pass.content c.loop-pass.pass.last) c.in_ok-next.field-0 c.next.new.slots =
+    subst (λ re. (text : List ℕ) → (built : IsRegexOf text re) → FinderTells (TreeFindsNext built.tree c.loop-pass.pass.content c.loop-pass.pass.last) c.in_ok-next.field-0 c.next.new.slots) c.loop-pass.invariant.0 (c.in_ok-next.ensures.found c.loop-pass.invariant.1) in
     let utf8 : IsUtf8 content = (slice_text c.args.line, (rope-scalars (slice_pieces c.args.line) c.len_bytes.ensures.cut.cut, refl)) in
     let text = c.requires.0 in
     let built = c.requires.1 in
@@ -82,8 +82,8 @@ returns-then-left-eq0-clause-stand c =
 pub returns-clause-groups : goal.returns-clause-groups
 returns-clause-groups c = λ text built.
     let content = slice_bytes c.args.line in
-    let told : (text : List ℕ) → (built : IsRegexOf text c.args.regex.now) → IsTold (TreeFindsNext built.tree c.loop-pass.pass.content c.loop-pass.pass.last) c.in_ok-next.field-0 c.next.new.slots =
-    subst (λ re. (text : List ℕ) → (built : IsRegexOf text re) → IsTold (TreeFindsNext built.tree c.loop-pass.pass.content c.loop-pass.pass.last) c.in_ok-next.field-0 c.next.new.slots) c.loop-pass.invariant.0 (c.in_ok-next.ensures.found c.loop-pass.invariant.1) in
+    let told : (text : List ℕ) → (built : IsRegexOf text c.args.regex.now) → FinderTells (TreeFindsNext built.tree c.loop-pass.pass.content c.loop-pass.pass.last) c.in_ok-next.field-0 c.next.new.slots =
+    subst (λ re. (text : List ℕ) → (built : IsRegexOf text re) → FinderTells (TreeFindsNext built.tree c.loop-pass.pass.content c.loop-pass.pass.last) c.in_ok-next.field-0 c.next.new.slots) c.loop-pass.invariant.0 (c.in_ok-next.ensures.found c.loop-pass.invariant.1) in
     among-none built.tree content c.loop-pass.pass.last c.args.number c.loop-pass.left (finds_of_trees built.tree)
     (none-next built.tree content _ c.loop-pass.pass.last c.in_ok-next.field-0 _ c.loop-pass.invariant.2 (told text built) c.in_default.is)
     (c.loop-pass.invariant.3 text built)

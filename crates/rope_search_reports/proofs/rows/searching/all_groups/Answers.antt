@@ -5,7 +5,7 @@ use Rattle.ropey_walk.specs.Slices.{slice_text}
 use Rattle.regex_cursor.specs.Regexes.{IsRegexOf}
 use Rattle.regex_cursor.proofs.TreeLaws.{finds_of_trees, regexes_have_trees}
 use Rattle.regex_cursor.specs.NextMatches.{TreeFindsNext}
-use Rattle.rope_search_reports.specs.Finders.{IsTold, group_told}
+use Rattle.rope_search_reports.specs.Finders.{FinderTells, group_told}
 use Rattle.rope_search_reports.specs.Matches.{groups_of}
 use Rattle.rope_search_reports.specs.Replacement.{AreMatchesIn}
 use Rattle.rope_search_reports.proofs.GroupLemmas.{matches-in}
@@ -28,8 +28,8 @@ loop-groups-init c =
 pub loop-groups-smaller : goal.loop-groups-smaller
 loop-groups-smaller c =
     let content = slice_bytes c.args.text in
-    let told : (text : List ℕ) → (built : IsRegexOf text c.args.regex.now) → IsTold (TreeFindsNext built.tree c.loop-groups.pass.content c.loop-groups.pass.last) c.in_ok-next.field-0 c.next.new.slots =
-    subst (λ re. (text : List ℕ) → (built : IsRegexOf text re) → IsTold (TreeFindsNext built.tree c.loop-groups.pass.content c.loop-groups.pass.last) c.in_ok-next.field-0 c.next.new.slots) c.loop-groups.invariant.0 (c.in_ok-next.ensures.found c.loop-groups.invariant.1) in
+    let told : (text : List ℕ) → (built : IsRegexOf text c.args.regex.now) → FinderTells (TreeFindsNext built.tree c.loop-groups.pass.content c.loop-groups.pass.last) c.in_ok-next.field-0 c.next.new.slots =
+    subst (λ re. (text : List ℕ) → (built : IsRegexOf text re) → FinderTells (TreeFindsNext built.tree c.loop-groups.pass.content c.loop-groups.pass.last) c.in_ok-next.field-0 c.next.new.slots) c.loop-groups.invariant.0 (c.in_ok-next.ensures.found c.loop-groups.invariant.1) in
     let tree = c.requires.1.tree in
     let next = next-told tree content _ c.loop-groups.pass.last c.in_ok-next.field-0 c.in-Some.field-0 _ c.loop-groups.invariant.2 (told c.requires.0 c.requires.1) c.in-Some.is in
     let gone = rw c.in-Some.is at c.in_ok-next.ensures.goes_on in
@@ -38,8 +38,8 @@ loop-groups-smaller c =
 pub loop-groups-preserved : goal.loop-groups-preserved
 loop-groups-preserved c =
     let content = slice_bytes c.args.text in
-    let told : (text : List ℕ) → (built : IsRegexOf text c.args.regex.now) → IsTold (TreeFindsNext built.tree c.loop-groups.pass.content c.loop-groups.pass.last) c.in_ok-next.field-0 c.next.new.slots =
-    subst (λ re. (text : List ℕ) → (built : IsRegexOf text re) → IsTold (TreeFindsNext built.tree c.loop-groups.pass.content c.loop-groups.pass.last) c.in_ok-next.field-0 c.next.new.slots) c.loop-groups.invariant.0 (c.in_ok-next.ensures.found c.loop-groups.invariant.1) in
+    let told : (text : List ℕ) → (built : IsRegexOf text c.args.regex.now) → FinderTells (TreeFindsNext built.tree c.loop-groups.pass.content c.loop-groups.pass.last) c.in_ok-next.field-0 c.next.new.slots =
+    subst (λ re. (text : List ℕ) → (built : IsRegexOf text re) → FinderTells (TreeFindsNext built.tree c.loop-groups.pass.content c.loop-groups.pass.last) c.in_ok-next.field-0 c.next.new.slots) c.loop-groups.invariant.0 (c.in_ok-next.ensures.found c.loop-groups.invariant.1) in
     let gone = rw c.in-Some.is at c.in_ok-next.ensures.goes_on in
     let slots = c.next.new.slots in
     let shown = map (group_told slots) (range_with_len 0 10) in
@@ -61,8 +61,8 @@ loop-groups-preserved c =
 pub returns-clause-groups : goal.returns-clause-groups
 returns-clause-groups c = λ text built.
     let content = slice_bytes c.args.text in
-    let told : (text : List ℕ) → (built : IsRegexOf text c.args.regex.now) → IsTold (TreeFindsNext built.tree c.loop-groups.pass.content c.loop-groups.pass.last) c.in_ok-next.field-0 c.next.new.slots =
-    subst (λ re. (text : List ℕ) → (built : IsRegexOf text re) → IsTold (TreeFindsNext built.tree c.loop-groups.pass.content c.loop-groups.pass.last) c.in_ok-next.field-0 c.next.new.slots) c.loop-groups.invariant.0 (c.in_ok-next.ensures.found c.loop-groups.invariant.1) in
+    let told : (text : List ℕ) → (built : IsRegexOf text c.args.regex.now) → FinderTells (TreeFindsNext built.tree c.loop-groups.pass.content c.loop-groups.pass.last) c.in_ok-next.field-0 c.next.new.slots =
+    subst (λ re. (text : List ℕ) → (built : IsRegexOf text re) → FinderTells (TreeFindsNext built.tree c.loop-groups.pass.content c.loop-groups.pass.last) c.in_ok-next.field-0 c.next.new.slots) c.loop-groups.invariant.0 (c.in_ok-next.ensures.found c.loop-groups.invariant.1) in
     last-groups built.tree content c.loop-groups.pass.last c.loop-groups.groups.items (finds_of_trees built.tree)
     (none-next built.tree content _ c.loop-groups.pass.last c.in_ok-next.field-0 _ c.loop-groups.invariant.2 (told text built) c.in_default.is)
     (c.loop-groups.invariant.3 text built)
@@ -70,8 +70,8 @@ returns-clause-groups c = λ text built.
 pub returns-clause-stand : goal.returns-clause-stand
 returns-clause-stand c =
     let content = slice_bytes c.args.text in
-    let told : (text : List ℕ) → (built : IsRegexOf text c.args.regex.now) → IsTold (TreeFindsNext built.tree c.loop-groups.pass.content c.loop-groups.pass.last) c.in_ok-next.field-0 c.next.new.slots =
-    subst (λ re. (text : List ℕ) → (built : IsRegexOf text re) → IsTold (TreeFindsNext built.tree c.loop-groups.pass.content c.loop-groups.pass.last) c.in_ok-next.field-0 c.next.new.slots) c.loop-groups.invariant.0 (c.in_ok-next.ensures.found c.loop-groups.invariant.1) in
+    let told : (text : List ℕ) → (built : IsRegexOf text c.args.regex.now) → FinderTells (TreeFindsNext built.tree c.loop-groups.pass.content c.loop-groups.pass.last) c.in_ok-next.field-0 c.next.new.slots =
+    subst (λ re. (text : List ℕ) → (built : IsRegexOf text re) → FinderTells (TreeFindsNext built.tree c.loop-groups.pass.content c.loop-groups.pass.last) c.in_ok-next.field-0 c.next.new.slots) c.loop-groups.invariant.0 (c.in_ok-next.ensures.found c.loop-groups.invariant.1) in
     let utf8 : IsUtf8 content = (slice_text c.args.text, (c.in_text-pass.ensures.scalars, refl)) in
     let text = c.requires.0 in
     let built = c.requires.1 in

@@ -4,7 +4,7 @@ use Rattle.ropey_walk.specs.Slices.{slice_text}
 use Rattle.regex_cursor.specs.Regexes.{IsRegexOf}
 use Rattle.regex_cursor.proofs.TreeLaws.{finds_of_trees}
 use Rattle.regex_cursor.specs.NextMatches.{TreeFindsNext}
-use Rattle.rope_search_reports.specs.Finders.{IsTold}
+use Rattle.rope_search_reports.specs.Finders.{FinderTells}
 use Rattle.rope_search_reports.specs.Pattern.{span_of}
 use Rattle.rope_search_reports.specs.Replacement.{AreMatchesIn, alone}
 use Rattle.rope_search_reports.proofs.GroupLemmas.{spans-alone}
@@ -27,8 +27,8 @@ loop-spans-init c =
 pub loop-spans-smaller : goal.loop-spans-smaller
 loop-spans-smaller c =
     let content = slice_bytes c.args.text in
-    let told : (text : List ℕ) → (built : IsRegexOf text c.args.regex.now) → IsTold (TreeFindsNext built.tree c.loop-spans.pass.content c.loop-spans.pass.last) c.in_ok-span.field-0 c.next.new.slots =
-    subst (λ re. (text : List ℕ) → (built : IsRegexOf text re) → IsTold (TreeFindsNext built.tree c.loop-spans.pass.content c.loop-spans.pass.last) c.in_ok-span.field-0 c.next.new.slots) c.loop-spans.invariant.0 (c.in_ok-span.ensures.found c.loop-spans.invariant.1) in
+    let told : (text : List ℕ) → (built : IsRegexOf text c.args.regex.now) → FinderTells (TreeFindsNext built.tree c.loop-spans.pass.content c.loop-spans.pass.last) c.in_ok-span.field-0 c.next.new.slots =
+    subst (λ re. (text : List ℕ) → (built : IsRegexOf text re) → FinderTells (TreeFindsNext built.tree c.loop-spans.pass.content c.loop-spans.pass.last) c.in_ok-span.field-0 c.next.new.slots) c.loop-spans.invariant.0 (c.in_ok-span.ensures.found c.loop-spans.invariant.1) in
     let tree = c.requires.1.tree in
     let next = next-told tree content _ c.loop-spans.pass.last c.in_ok-span.field-0 c.in-Some.span _ c.loop-spans.invariant.2 (told c.requires.0 c.requires.1) c.in-Some.is in
     let gone = rw c.in-Some.is at c.in_ok-span.ensures.goes_on in
@@ -37,8 +37,8 @@ loop-spans-smaller c =
 pub loop-spans-preserved : goal.loop-spans-preserved
 loop-spans-preserved c =
     let content = slice_bytes c.args.text in
-    let told : (text : List ℕ) → (built : IsRegexOf text c.args.regex.now) → IsTold (TreeFindsNext built.tree c.loop-spans.pass.content c.loop-spans.pass.last) c.in_ok-span.field-0 c.next.new.slots =
-    subst (λ re. (text : List ℕ) → (built : IsRegexOf text re) → IsTold (TreeFindsNext built.tree c.loop-spans.pass.content c.loop-spans.pass.last) c.in_ok-span.field-0 c.next.new.slots) c.loop-spans.invariant.0 (c.in_ok-span.ensures.found c.loop-spans.invariant.1) in
+    let told : (text : List ℕ) → (built : IsRegexOf text c.args.regex.now) → FinderTells (TreeFindsNext built.tree c.loop-spans.pass.content c.loop-spans.pass.last) c.in_ok-span.field-0 c.next.new.slots =
+    subst (λ re. (text : List ℕ) → (built : IsRegexOf text re) → FinderTells (TreeFindsNext built.tree c.loop-spans.pass.content c.loop-spans.pass.last) c.in_ok-span.field-0 c.next.new.slots) c.loop-spans.invariant.0 (c.in_ok-span.ensures.found c.loop-spans.invariant.1) in
     let gone = rw c.in-Some.is at c.in_ok-span.ensures.goes_on in (
       c.next.ensures.same ∙ c.loop-spans.invariant.0,
       ap (λ p. p.is_over) gone,
@@ -54,8 +54,8 @@ loop-spans-preserved c =
 pub returns-clause-spans : goal.returns-clause-spans
 returns-clause-spans c = λ text built.
     let content = slice_bytes c.args.text in
-    let told : (text : List ℕ) → (built : IsRegexOf text c.args.regex.now) → IsTold (TreeFindsNext built.tree c.loop-spans.pass.content c.loop-spans.pass.last) c.in_ok-span.field-0 c.next.new.slots =
-    subst (λ re. (text : List ℕ) → (built : IsRegexOf text re) → IsTold (TreeFindsNext built.tree c.loop-spans.pass.content c.loop-spans.pass.last) c.in_ok-span.field-0 c.next.new.slots) c.loop-spans.invariant.0 (c.in_ok-span.ensures.found c.loop-spans.invariant.1) in
+    let told : (text : List ℕ) → (built : IsRegexOf text c.args.regex.now) → FinderTells (TreeFindsNext built.tree c.loop-spans.pass.content c.loop-spans.pass.last) c.in_ok-span.field-0 c.next.new.slots =
+    subst (λ re. (text : List ℕ) → (built : IsRegexOf text re) → FinderTells (TreeFindsNext built.tree c.loop-spans.pass.content c.loop-spans.pass.last) c.in_ok-span.field-0 c.next.new.slots) c.loop-spans.invariant.0 (c.in_ok-span.ensures.found c.loop-spans.invariant.1) in
     last-spans built.tree content c.loop-spans.pass.last c.loop-spans.spans.items (finds_of_trees built.tree)
     (none-next built.tree content _ c.loop-spans.pass.last c.in_ok-span.field-0 _ c.loop-spans.invariant.2 (told text built) c.in_default.is)
     (c.loop-spans.invariant.3 text built)
@@ -63,8 +63,8 @@ returns-clause-spans c = λ text built.
 pub returns-clause-stand : goal.returns-clause-stand
 returns-clause-stand c =
     let content = slice_bytes c.args.text in
-    let told : (text : List ℕ) → (built : IsRegexOf text c.args.regex.now) → IsTold (TreeFindsNext built.tree c.loop-spans.pass.content c.loop-spans.pass.last) c.in_ok-span.field-0 c.next.new.slots =
-    subst (λ re. (text : List ℕ) → (built : IsRegexOf text re) → IsTold (TreeFindsNext built.tree c.loop-spans.pass.content c.loop-spans.pass.last) c.in_ok-span.field-0 c.next.new.slots) c.loop-spans.invariant.0 (c.in_ok-span.ensures.found c.loop-spans.invariant.1) in
+    let told : (text : List ℕ) → (built : IsRegexOf text c.args.regex.now) → FinderTells (TreeFindsNext built.tree c.loop-spans.pass.content c.loop-spans.pass.last) c.in_ok-span.field-0 c.next.new.slots =
+    subst (λ re. (text : List ℕ) → (built : IsRegexOf text re) → FinderTells (TreeFindsNext built.tree c.loop-spans.pass.content c.loop-spans.pass.last) c.in_ok-span.field-0 c.next.new.slots) c.loop-spans.invariant.0 (c.in_ok-span.ensures.found c.loop-spans.invariant.1) in
     let utf8 : IsUtf8 content = (slice_text c.args.text, (c.in_text-pass.ensures.scalars, refl)) in
     let text = c.requires.0 in
     let built = c.requires.1 in

@@ -6,7 +6,7 @@ use Rattle.regex_cursor.proofs.TreeLaws.{finds_of_trees}
 use Rattle.rope_search_reports.specs.Text.{bytes_of}
 use Rattle.rope_search_reports.specs.Drafts.{own_text}
 use Rattle.regex_cursor.specs.NextMatches.{TreeFindsNext}
-use Rattle.rope_search_reports.specs.Finders.{IsTold, start_behind}
+use Rattle.rope_search_reports.specs.Finders.{FinderTells, start_behind}
 use Rattle.rope_search_reports.proofs.MatchLemmas.{Searched-start, room_behind}
 use Rattle.rope_search_reports.proofs.OwnLemmas.{own-utf8}
 use Rattle.rope_search_reports.proofs.RowLemmas.{columns_of, columns-are, next-told, next-follows, next-stands, next-further, next-shown, none-next, last-row}
@@ -31,8 +31,8 @@ loop-pass-init g c =
 pub column_from-start_column-requires-clause-ends : goal.column_from-start_column-requires-clause-ends
 column_from-start_column-requires-clause-ends g c =
     let content = bytes_of (own_text c.args.line.now) in
-    let told : (text : List ℕ) → (built : IsRegexOf text c.args.regex.now) → IsTold (TreeFindsNext built.tree c.loop-pass.pass.content c.loop-pass.pass.last) c.in_ok-start.field-0 c.next.new.slots =
-    subst (λ re. (text : List ℕ) → (built : IsRegexOf text re) → IsTold (TreeFindsNext built.tree c.loop-pass.pass.content c.loop-pass.pass.last) c.in_ok-start.field-0 c.next.new.slots) c.loop-pass.invariant.0 (c.in_ok-start.ensures.found c.loop-pass.invariant.1) in
+    let told : (text : List ℕ) → (built : IsRegexOf text c.args.regex.now) → FinderTells (TreeFindsNext built.tree c.loop-pass.pass.content c.loop-pass.pass.last) c.in_ok-start.field-0 c.next.new.slots =
+    subst (λ re. (text : List ℕ) → (built : IsRegexOf text re) → FinderTells (TreeFindsNext built.tree c.loop-pass.pass.content c.loop-pass.pass.last) c.in_ok-start.field-0 c.next.new.slots) c.loop-pass.invariant.0 (c.in_ok-start.ensures.found c.loop-pass.invariant.1) in
     let utf8 = own-utf8 c.args.line.now c.requires.holds in
     let tree = c.requires.built.1.tree in
     let next = next-told tree content _ c.loop-pass.pass.last c.in_ok-start.field-0 (c.in-Some.start, c.in-Some.end) _ c.loop-pass.invariant.2 (told c.requires.built.0 c.requires.built.1) c.in-Some.is in
@@ -42,8 +42,8 @@ column_from-start_column-requires-clause-ends g c =
 pub column_from-start_column-requires-clause-ordered : goal.column_from-start_column-requires-clause-ordered
 column_from-start_column-requires-clause-ordered g c =
     let content = bytes_of (own_text c.args.line.now) in
-    let told : (text : List ℕ) → (built : IsRegexOf text c.args.regex.now) → IsTold (TreeFindsNext built.tree c.loop-pass.pass.content c.loop-pass.pass.last) c.in_ok-start.field-0 c.next.new.slots =
-    subst (λ re. (text : List ℕ) → (built : IsRegexOf text re) → IsTold (TreeFindsNext built.tree c.loop-pass.pass.content c.loop-pass.pass.last) c.in_ok-start.field-0 c.next.new.slots) c.loop-pass.invariant.0 (c.in_ok-start.ensures.found c.loop-pass.invariant.1) in
+    let told : (text : List ℕ) → (built : IsRegexOf text c.args.regex.now) → FinderTells (TreeFindsNext built.tree c.loop-pass.pass.content c.loop-pass.pass.last) c.in_ok-start.field-0 c.next.new.slots =
+    subst (λ re. (text : List ℕ) → (built : IsRegexOf text re) → FinderTells (TreeFindsNext built.tree c.loop-pass.pass.content c.loop-pass.pass.last) c.in_ok-start.field-0 c.next.new.slots) c.loop-pass.invariant.0 (c.in_ok-start.ensures.found c.loop-pass.invariant.1) in
     let utf8 = own-utf8 c.args.line.now c.requires.holds in
     let tree = c.requires.built.1.tree in
     let next = next-told tree content _ c.loop-pass.pass.last c.in_ok-start.field-0 (c.in-Some.start, c.in-Some.end) _ c.loop-pass.invariant.2 (told c.requires.built.0 c.requires.built.1) c.in-Some.is in
@@ -54,8 +54,8 @@ column_from-start_column-requires-clause-ordered g c =
 pub column_from-column-requires-clause-starts : goal.column_from-column-requires-clause-starts
 column_from-column-requires-clause-starts g c =
     let content = bytes_of (own_text c.args.line.now) in
-    let told : (text : List ℕ) → (built : IsRegexOf text c.args.regex.now) → IsTold (TreeFindsNext built.tree c.loop-pass.pass.content c.loop-pass.pass.last) c.in_ok-start.field-0 c.next.new.slots =
-    subst (λ re. (text : List ℕ) → (built : IsRegexOf text re) → IsTold (TreeFindsNext built.tree c.loop-pass.pass.content c.loop-pass.pass.last) c.in_ok-start.field-0 c.next.new.slots) c.loop-pass.invariant.0 (c.in_ok-start.ensures.found c.loop-pass.invariant.1) in
+    let told : (text : List ℕ) → (built : IsRegexOf text c.args.regex.now) → FinderTells (TreeFindsNext built.tree c.loop-pass.pass.content c.loop-pass.pass.last) c.in_ok-start.field-0 c.next.new.slots =
+    subst (λ re. (text : List ℕ) → (built : IsRegexOf text re) → FinderTells (TreeFindsNext built.tree c.loop-pass.pass.content c.loop-pass.pass.last) c.in_ok-start.field-0 c.next.new.slots) c.loop-pass.invariant.0 (c.in_ok-start.ensures.found c.loop-pass.invariant.1) in
     let utf8 = own-utf8 c.args.line.now c.requires.holds in
     let tree = c.requires.built.1.tree in
     let next = next-told tree content _ c.loop-pass.pass.last c.in_ok-start.field-0 (c.in-Some.start, c.in-Some.end) _ c.loop-pass.invariant.2 (told c.requires.built.0 c.requires.built.1) c.in-Some.is in
@@ -65,8 +65,8 @@ column_from-column-requires-clause-starts g c =
 pub column_from-column-requires-clause-ends : goal.column_from-column-requires-clause-ends
 column_from-column-requires-clause-ends g c =
     let content = bytes_of (own_text c.args.line.now) in
-    let told : (text : List ℕ) → (built : IsRegexOf text c.args.regex.now) → IsTold (TreeFindsNext built.tree c.loop-pass.pass.content c.loop-pass.pass.last) c.in_ok-start.field-0 c.next.new.slots =
-    subst (λ re. (text : List ℕ) → (built : IsRegexOf text re) → IsTold (TreeFindsNext built.tree c.loop-pass.pass.content c.loop-pass.pass.last) c.in_ok-start.field-0 c.next.new.slots) c.loop-pass.invariant.0 (c.in_ok-start.ensures.found c.loop-pass.invariant.1) in
+    let told : (text : List ℕ) → (built : IsRegexOf text c.args.regex.now) → FinderTells (TreeFindsNext built.tree c.loop-pass.pass.content c.loop-pass.pass.last) c.in_ok-start.field-0 c.next.new.slots =
+    subst (λ re. (text : List ℕ) → (built : IsRegexOf text re) → FinderTells (TreeFindsNext built.tree c.loop-pass.pass.content c.loop-pass.pass.last) c.in_ok-start.field-0 c.next.new.slots) c.loop-pass.invariant.0 (c.in_ok-start.ensures.found c.loop-pass.invariant.1) in
     let utf8 = own-utf8 c.args.line.now c.requires.holds in
     let tree = c.requires.built.1.tree in
     let next = next-told tree content _ c.loop-pass.pass.last c.in_ok-start.field-0 (c.in-Some.start, c.in-Some.end) _ c.loop-pass.invariant.2 (told c.requires.built.0 c.requires.built.1) c.in-Some.is in
@@ -76,8 +76,8 @@ column_from-column-requires-clause-ends g c =
 pub column_from-column-requires-clause-ordered : goal.column_from-column-requires-clause-ordered
 column_from-column-requires-clause-ordered g c =
     let content = bytes_of (own_text c.args.line.now) in
-    let told : (text : List ℕ) → (built : IsRegexOf text c.args.regex.now) → IsTold (TreeFindsNext built.tree c.loop-pass.pass.content c.loop-pass.pass.last) c.in_ok-start.field-0 c.next.new.slots =
-    subst (λ re. (text : List ℕ) → (built : IsRegexOf text re) → IsTold (TreeFindsNext built.tree c.loop-pass.pass.content c.loop-pass.pass.last) c.in_ok-start.field-0 c.next.new.slots) c.loop-pass.invariant.0 (c.in_ok-start.ensures.found c.loop-pass.invariant.1) in
+    let told : (text : List ℕ) → (built : IsRegexOf text c.args.regex.now) → FinderTells (TreeFindsNext built.tree c.loop-pass.pass.content c.loop-pass.pass.last) c.in_ok-start.field-0 c.next.new.slots =
+    subst (λ re. (text : List ℕ) → (built : IsRegexOf text re) → FinderTells (TreeFindsNext built.tree c.loop-pass.pass.content c.loop-pass.pass.last) c.in_ok-start.field-0 c.next.new.slots) c.loop-pass.invariant.0 (c.in_ok-start.ensures.found c.loop-pass.invariant.1) in
     let utf8 = own-utf8 c.args.line.now c.requires.holds in
     let tree = c.requires.built.1.tree in
     let next = next-told tree content _ c.loop-pass.pass.last c.in_ok-start.field-0 (c.in-Some.start, c.in-Some.end) _ c.loop-pass.invariant.2 (told c.requires.built.0 c.requires.built.1) c.in-Some.is in
@@ -87,8 +87,8 @@ column_from-column-requires-clause-ordered g c =
 pub loop-pass-smaller : goal.loop-pass-smaller
 loop-pass-smaller g c =
     let content = bytes_of (own_text c.args.line.now) in
-    let told : (text : List ℕ) → (built : IsRegexOf text c.args.regex.now) → IsTold (TreeFindsNext built.tree c.loop-pass.pass.content c.loop-pass.pass.last) c.in_ok-start.field-0 c.next.new.slots =
-    subst (λ re. (text : List ℕ) → (built : IsRegexOf text re) → IsTold (TreeFindsNext built.tree c.loop-pass.pass.content c.loop-pass.pass.last) c.in_ok-start.field-0 c.next.new.slots) c.loop-pass.invariant.0 (c.in_ok-start.ensures.found c.loop-pass.invariant.1) in
+    let told : (text : List ℕ) → (built : IsRegexOf text c.args.regex.now) → FinderTells (TreeFindsNext built.tree c.loop-pass.pass.content c.loop-pass.pass.last) c.in_ok-start.field-0 c.next.new.slots =
+    subst (λ re. (text : List ℕ) → (built : IsRegexOf text re) → FinderTells (TreeFindsNext built.tree c.loop-pass.pass.content c.loop-pass.pass.last) c.in_ok-start.field-0 c.next.new.slots) c.loop-pass.invariant.0 (c.in_ok-start.ensures.found c.loop-pass.invariant.1) in
     let utf8 = own-utf8 c.args.line.now c.requires.holds in
     let tree = c.requires.built.1.tree in
     let next = next-told tree content _ c.loop-pass.pass.last c.in_ok-start.field-0 (c.in-Some.start, c.in-Some.end) _ c.loop-pass.invariant.2 (told c.requires.built.0 c.requires.built.1) c.in-Some.is in
@@ -98,8 +98,8 @@ loop-pass-smaller g c =
 pub loop-pass-preserved : goal.loop-pass-preserved
 loop-pass-preserved g c =
     let content = bytes_of (own_text c.args.line.now) in
-    let told : (text : List ℕ) → (built : IsRegexOf text c.args.regex.now) → IsTold (TreeFindsNext built.tree c.loop-pass.pass.content c.loop-pass.pass.last) c.in_ok-start.field-0 c.next.new.slots =
-    subst (λ re. (text : List ℕ) → (built : IsRegexOf text re) → IsTold (TreeFindsNext built.tree c.loop-pass.pass.content c.loop-pass.pass.last) c.in_ok-start.field-0 c.next.new.slots) c.loop-pass.invariant.0 (c.in_ok-start.ensures.found c.loop-pass.invariant.1) in
+    let told : (text : List ℕ) → (built : IsRegexOf text c.args.regex.now) → FinderTells (TreeFindsNext built.tree c.loop-pass.pass.content c.loop-pass.pass.last) c.in_ok-start.field-0 c.next.new.slots =
+    subst (λ re. (text : List ℕ) → (built : IsRegexOf text re) → FinderTells (TreeFindsNext built.tree c.loop-pass.pass.content c.loop-pass.pass.last) c.in_ok-start.field-0 c.next.new.slots) c.loop-pass.invariant.0 (c.in_ok-start.ensures.found c.loop-pass.invariant.1) in
     let utf8 = own-utf8 c.args.line.now c.requires.holds in
     let tree = c.requires.built.1.tree in
     let next = next-told tree content _ c.loop-pass.pass.last c.in_ok-start.field-0 (c.in-Some.start, c.in-Some.end) _ c.loop-pass.invariant.2 (told c.requires.built.0 c.requires.built.1) c.in-Some.is in
@@ -125,8 +125,8 @@ loop-pass-preserved g c =
 pub returns-clause-row : goal.returns-clause-row
 returns-clause-row g c = λ text built.
     let content = bytes_of (own_text c.args.line.now) in
-    let told : (text : List ℕ) → (built : IsRegexOf text c.args.regex.now) → IsTold (TreeFindsNext built.tree c.loop-pass.pass.content c.loop-pass.pass.last) c.in_ok-start.field-0 c.next.new.slots =
-    subst (λ re. (text : List ℕ) → (built : IsRegexOf text re) → IsTold (TreeFindsNext built.tree c.loop-pass.pass.content c.loop-pass.pass.last) c.in_ok-start.field-0 c.next.new.slots) c.loop-pass.invariant.0 (c.in_ok-start.ensures.found c.loop-pass.invariant.1) in
+    let told : (text : List ℕ) → (built : IsRegexOf text c.args.regex.now) → FinderTells (TreeFindsNext built.tree c.loop-pass.pass.content c.loop-pass.pass.last) c.in_ok-start.field-0 c.next.new.slots =
+    subst (λ re. (text : List ℕ) → (built : IsRegexOf text re) → FinderTells (TreeFindsNext built.tree c.loop-pass.pass.content c.loop-pass.pass.last) c.in_ok-start.field-0 c.next.new.slots) c.loop-pass.invariant.0 (c.in_ok-start.ensures.found c.loop-pass.invariant.1) in
     last-row built.tree (own_text c.args.line.now) c.loop-pass.pass.last c.loop-pass.columns.items (finds_of_trees built.tree)
     (none-next built.tree content _ c.loop-pass.pass.last c.in_ok-start.field-0 _ c.loop-pass.invariant.2 (told text built) c.in_default.is)
     (c.loop-pass.invariant.6 text built)

@@ -2,13 +2,13 @@ use Rattle.std.proofs.Common.{ℕ, length, ap, sym, subst, ◌∙◌}
 use Rattle.std.proofs.lemmas.Str.{encodes-chars}
 use Rattle.rope_search_changes.specs.Text.{bytes_of}
 use Rattle.rope_search_templates.specs.Matches.{groups_in}
-use Rattle.rope_search_templates.specs.Pieces.{IsPiece}
+use Rattle.rope_search_templates.specs.Pieces.{IsTemplatePiece}
 use Rattle.rope_search_templates.proofs.SpanLemmas.{utf8-of, span-of, span-len}
 use Rattle.rope_search_templates.proofs.pieces.Piece.len.Goals as goal
 
 pub returns-in-Text : goal.returns-in-Text
 returns-in-Text c =
-    λ text scalars spans. rw c.in-Text.is (sym (ap length (encodes-chars c.in-Text.part.now (subst IsPiece c.in-Text.is c.requires.piece))))
+    λ text scalars spans. rw c.in-Text.is (sym (ap length (encodes-chars c.in-Text.part.now (subst IsTemplatePiece c.in-Text.is c.requires.piece))))
 
 pub returns-in-Some : goal.returns-in-Some
 returns-in-Some c =

@@ -3,7 +3,7 @@ use Rattle.regex_cursor.specs.Linear.{IsListedFor}
 use Rattle.regex_cursor.specs.Regexes.{IsRegexOf, RegexView}
 use Rattle.regex_cursor.specs.NextMatches.{TreeFindsNext}
 use Rattle.regex_cursor.proofs.TreeLaws.{one_of_trees}
-use Rattle.rope_search_reports.specs.Finders.{IsTold, PassState}
+use Rattle.rope_search_reports.specs.Finders.{FinderTells, PassState}
 use Rattle.rope_search_reports.proofs.PassLemmas.{came-of, came-told, ends-then, goes-on, on-of, step-behind, step-of}
 use Rattle.rope_search_reports.proofs.rows.counted.CountedRegex.next.Goals as goal
 
@@ -40,13 +40,13 @@ returns-in-Ok-Some-clause-found g c =
     let step = step-of c.self.inside.regex m c.next_slots.new.self c.next_slots.result c.in-Ok-Some.field-0 slots c.in-Ok-Some.is told.next told.over told.stays_over in
     let two : 2 ≤ length slots = omega (arith, c.requires.slots, c.next_slots.auto.slots) in
     let begun : PassState = record { content = m.input.cursor.content; last = m.last_end; is_over = m.is_over; by = c.pass.inside.by.value } in
-    let Told : RegexView → PassState → Type 0 = λ re p. p.is_over ≡ false → (text : List ℕ) → (built : IsRegexOf text re) → IsTold (TreeFindsNext built.tree p.content p.last) c.group_in.result slots in
+    let Told : RegexView → PassState → Type 0 = λ re p. p.is_over ≡ false → (text : List ℕ) → (built : IsRegexOf text re) → FinderTells (TreeFindsNext built.tree p.content p.last) c.group_in.result slots in
     subst (Told c.args.self.now) c.pass.view_is
     (subst (λ re. Told re begun) c.self.view_is
     (λ on text built.
     let asks = (c.pass.invariant.1 on).0 in
     let came = came-of text c.self.inside.regex built m.input.cursor.content m c.next_slots.new.self c.in-Ok-Some.field-0 slots step on asks two in
-    subst (λ span. IsTold (TreeFindsNext built.tree m.input.cursor.content m.last_end) span slots) (sym c.group_in.ensures) (came-told built.tree m.input.cursor.content m c.next_slots.new.self c.in-Ok-Some.field-0 slots came)))
+    subst (λ span. FinderTells (TreeFindsNext built.tree m.input.cursor.content m.last_end) span slots) (sym c.group_in.ensures) (came-told built.tree m.input.cursor.content m c.next_slots.new.self c.in-Ok-Some.field-0 slots came)))
 
 pub returns-in-Ok-Some-clause-goes_on : goal.returns-in-Ok-Some-clause-goes_on
 returns-in-Ok-Some-clause-goes_on g c =

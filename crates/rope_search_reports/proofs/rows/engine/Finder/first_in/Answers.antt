@@ -6,8 +6,8 @@ use Rattle.ropey.specs.Chunks.{text_of}
 use Rattle.ropey_walk.specs.Slices.{slice_text}
 use Rattle.regex_cursor.specs.Patterns.{SpellsTree, TreeFinds}
 use Rattle.rope_search_reports.specs.Text.{bytes_of}
-use Rattle.rope_search_reports.specs.Pattern.{Finds}
-use Rattle.rope_search_reports.specs.Finders.{IsTold}
+use Rattle.rope_search_reports.specs.Pattern.{FindsSpan}
+use Rattle.rope_search_reports.specs.Finders.{FinderTells}
 use Rattle.rope_search_reports.proofs.FinderLemmas.{finds-told, whole-is}
 use Rattle.rope_search_reports.proofs.rows.engine.Finder.first_in.Goals as goal
 
@@ -25,6 +25,6 @@ returns-clause-found c =
     let told = c.first_in.ensures.found c.self.invariant.text built in
     let spells : SpellsTree c.args.self.now built.tree =
     subst (λ p. SpellsTree p built.tree) (sym c.self.invariant.pattern_is ∙ c.self.view_is) built.spells in
-    let P : List ℕ → Option (ℕ × ℕ) → Type 0 = λ t span. (slots : List (Option ℕ)) × IsTold (TreeFinds built.tree (bytes_of t) from) span slots in
-    IfOk-weaker c.first_in.result (P (text_of c.args.text.now)) (λ span. Finds c.args.self.now content from span)
+    let P : List ℕ → Option (ℕ × ℕ) → Type 0 = λ t span. (slots : List (Option ℕ)) × FinderTells (TreeFinds built.tree (bytes_of t) from) span slots in
+    IfOk-weaker c.first_in.result (P (text_of c.args.text.now)) (λ span. FindsSpan c.args.self.now content from span)
     (λ span is. finds-told c.args.self.now content from built.tree span is.0 spells is.1) (subst (λ t. IfOk c.first_in.result (P t)) whole told)
