@@ -2,7 +2,7 @@
 request for memory is told."""
 import re
 
-from driver import OUTSIDE, PROGRAM_WANT, TOO_DEEP, Settings, about, answers, check_memory, problems
+from driver import OUTSIDE, PROGRAM_WANT, TOO_DEEP, Settings, about, answers, check_memory
 from harness import short, test
 from memory import library
 
@@ -72,13 +72,22 @@ def wrong_states():
 
 
 def limits():
-    """Each least limit, one that is one less, and the limits that are told."""
+    """Each least limit, one that is one less, and the limits that are told; of programs, how many states they have."""
     for pattern, limit, count in LEAST_LIMITS:
-        yield about("build", pattern, str(count), Settings(), limit)
-        yield about("build", pattern, f"above {limit - 1}", Settings(), limit - 1)
+        yield about("compile", pattern, str(count), Settings(), limit)
         yield about("compile", pattern, f"above {limit - 1}", Settings(), limit - 1)
     for pattern, limit, answer in LIMITS:
-        yield about("build", pattern, answer, Settings(), limit)
+        yield about("compile", pattern, answer, Settings(), limit)
+
+
+def wrong_limits(cases):
+    """What is wrong with the answers to these cases, where the states of a program are counted."""
+    told, wrong = answers(cases)
+    for case, answer in zip(cases, told):
+        found = str(len(answer.split(", "))) if answer.startswith("@") else answer
+        if found != case.answer:
+            wrong.append(f"{case.name}: {short(found.encode())}, not {case.answer}")
+    return wrong
 
 
 def wrong_sharing():
@@ -98,7 +107,7 @@ def wrong_sharing():
 def test_all():
     test(f"the programs of {len(STATES)} patterns", wrong_states())
     rows = list(limits())
-    test(f"{len(rows)} patterns under limits of their size", problems(rows))
+    test(f"{len(rows)} patterns under limits of their size", wrong_limits(rows))
     test("states share an automaton exactly where they read one set", wrong_sharing())
     if library() is not None:
         for pattern in IN_NEED:

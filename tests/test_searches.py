@@ -11,7 +11,7 @@ import os
 import random
 
 from driver import OUTSIDE, PROGRAM_WANT, TOO_DEEP, TOO_LARGE, TOO_LONG, WANT, Case, Settings
-from driver import answer_to, check_memory, line_of, problems, search, written
+from driver import answer_to, check_memory, problems, search
 from harness import TOP, differences, short, test
 from memory import library, tallied
 from protocol import is_utf8
@@ -218,17 +218,11 @@ def told_slots():
         yield search(pattern, haystack.encode(), answer, cut, asked, slots=len(answer.split()) - 1)
 
 
-def captured(pattern, haystack, cut, answer):
-    """A case of a search that is given slots for whole matches alone."""
-    fields = [written(pattern), *Settings().fields(), cut, haystack.hex(), *[None] * 5, 0]
-    return Case(f"{pattern} in {short(haystack)}, whole matches alone", line_of("captured", *fields), answer)
-
-
-# Group 1 takes part, and has no slot.
-CAPTURED = [
-    captured("(a)|b", b"xab", 1, "1-2 false"),
-    captured("(a)*", b"aab", 0, "0-2 false"),
-    captured("(a)", b"b", 0, "none"),
+# Slots for the whole match alone, where group 1 takes part and has none. Captures that have no more must tell the same.
+WHOLES = [
+    search("(a)|b", b"xab", "0 1 2", 1, slots=2),
+    search("(a)*", b"aab", "0 0 2", slots=2),
+    search("(a)", b"b", "none - -", slots=2),
 ]
 
 
@@ -384,7 +378,7 @@ def test_all():
         ("searches of the table, in one piece and in pieces of 1, 2 and 3 bytes", table()),
         ("searches with answers that are told, in such pieces", vectors()),
         ("searches of which the slots are told, more or fewer than there are", told_slots()),
-        ("searches that are given slots for whole matches alone", CAPTURED),
+        ("searches that are given slots for whole matches alone", WHOLES),
         ("searches at random, in slices, spans and pieces at random", at_random(11, RANDOM_CASES)),
         ("searches at random, under settings at random", at_random(14, CASES_UNDER_SETTINGS, True)),
         ("calls of searchers, for the searches of the table", by_searchers(table())),
@@ -400,7 +394,7 @@ def test_all():
         due = [PROGRAM_WANT, WANT, b"again"]
         for case in IN_NEED:
             check_memory(case, due, f"{case.answer}\n".encode())
-        check_memory(CAPTURED[0], [PROGRAM_WANT, WANT], f"{CAPTURED[0].answer}\n".encode())
+        check_memory(WHOLES[0], [PROGRAM_WANT, WANT], f"{WHOLES[0].answer}\n".encode())
         test("more searches by one cache ask for no more memory", wrong_often())
         for pattern in MATCHING_NOTHING:
             check_long(pattern)

@@ -9,7 +9,7 @@ import random
 import re
 
 from driver import OUTSIDE, PROGRAM_WANT, TOO_LARGE, WANT, Case, Settings
-from driver import answer_to, check_memory, in_runs, line_of, problems, written
+from driver import answer_to, answers, check_memory, in_runs, line_of, problems, written
 from harness import example_rows, short, test
 from memory import library
 from random_patterns import Maker
@@ -186,7 +186,16 @@ def static_at_random(count=STATIC_CASES):
     for _ in range(count):
         trees = [maker.tree() for _ in range(chance.choice((1, 1, 1, 2, 2, 3)))]
         each = static_captures(trees)
-        yield about("static", [spelled(tree) for tree in trees], "None" if each is None else f"Some({each})")
+        yield about("counted", [spelled(tree) for tree in trees], "None" if each is None else f"Some({each})")
+
+
+def wrong_static(cases):
+    """What is wrong with how many groups stand in each match, the third word of the answers to these cases."""
+    told, wrong = answers(cases)
+    for case, answer in zip(cases, told):
+        if answer.split(" ")[2:3] != [case.answer]:
+            wrong.append(f"{case.name}: {short(answer.encode())}, not {case.answer}")
+    return wrong
 
 
 def told(values):
@@ -288,11 +297,11 @@ def test_all():
         ("examples and defaults of docs/searching.md", page()),
         ("searches under settings, by each engine", vectors()),
         ("counts of groups, and refusals, under settings", counts()),
-        ("groups in each match, of patterns at random", static_at_random()),
         ("answers of getters", getters()),
     ]:
         cases = list(cases)
         test(f"{len(cases)} {name}", problems(cases))
+    test(f"{STATIC_CASES} groups in each match, of patterns at random", wrong_static(list(static_at_random())))
     name = f"{RANDOM_CASES} searches at random under settings at random, each with each engine on and off"
     test(name, in_runs(at_random(), 2_000))
     test("engines obey their settings", engines_obey())

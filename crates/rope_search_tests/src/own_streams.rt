@@ -1,6 +1,6 @@
 //! A source and a sink of one's own, and what goes from one to the other.
 
-ghost use Rattle.std.specs.Prelude.{◌≡◌, Some};
+ghost use Rattle.std.specs.Prelude.{Some};
 
 use counters::Counter;
 use rope_search_io::{Broken, Failed, Sink, Source, write_all};

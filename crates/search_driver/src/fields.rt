@@ -6,7 +6,7 @@ use rx_grammar::SyntaxError;
 use rx_grammar::syntax::Config;
 use rx_program::BuildError;
 use rx_util::MatchError;
-use std::alloc::{AllocError, Global};
+use std::alloc::{AllocError, AllocFailed, Global};
 use thiserror::Error;
 
 /// Where the settings of a pattern stand in a line, behind the pattern.
@@ -16,7 +16,7 @@ const SETTINGS: usize = 2;
 pub const TERMINATOR: usize = 5;
 
 /// Why a case has no answer.
-#[derive(Debug, Drop, Error)]
+#[derive(Clone, Copy, Debug, Error)]
 pub enum Fault {
     /// The line is no case.
     #[error("no case")]
@@ -24,9 +24,15 @@ pub enum Fault {
     /// The pattern's text is refused.
     #[error("{0}")]
     Syntax(SyntaxError),
-    /// The pattern is refused.
-    #[error("{0}")]
-    Pattern(BuildError),
+    /// The pattern's program is above the limit of a line.
+    #[error("above {0}")]
+    Above(usize),
+    /// The patterns are too large.
+    #[error("{}", BuildError::Size {limit: 0})]
+    Size,
+    /// There was no memory for a program.
+    #[error("{}", BuildError::Memory)]
+    Program,
     /// There was no memory.
     #[error("no memory")]
     Memory,
@@ -37,6 +43,12 @@ pub enum Fault {
 
 impl From<AllocError> for Fault {
     fn from(_: AllocError) -> Fault {
+        Fault::Memory
+    }
+}
+
+impl<T: Drop> From<AllocFailed<T>> for Fault {
+    fn from(_: AllocFailed<T>) -> Fault {
         Fault::Memory
     }
 }
@@ -64,7 +76,11 @@ impl From<SyntaxError> for Fault {
 
 impl From<BuildError> for Fault {
     fn from(error: BuildError) -> Fault {
-        Fault::Pattern(error)
+        match error {
+            BuildError::Syntax { error, .. } => Fault::Syntax(error),
+            BuildError::Size { .. } => Fault::Size,
+            BuildError::Memory => Fault::Program,
+        }
     }
 }
 

@@ -8,6 +8,17 @@ use rx_input::{ChunkCursor, Cursor, Input};
 use rx_util::{Anchored, PatternID, Span};
 use std::alloc::{AllocError, Global};
 
+/// Where it stands in a line how the haystack is cut, and the haystack and what is asked for
+/// behind it, for words about a pattern, whose settings stand before.
+pub const CUT: usize = 6;
+
+pub const HAYSTACK: usize = 7;
+
+pub const ASKED: usize = 8;
+
+/// Where it stands there whether empty matches inside a character are found.
+pub const INSIDE: usize = 13;
+
 /// Every scalar value, in order.
 fn all_characters(alloc: Global) -> Result<Vec<u8>, AllocError> {
     let mut text = String::new(alloc);
@@ -117,6 +128,18 @@ pub fn input<'a>(pieces: &'a [&'a [u8]], asked: &Option<Asked>) -> Input<ChunkCu
     let mut input = Input::new(ChunkCursor::new(pieces));
     ask(&mut input, asked);
     input
+}
+
+/// An input over pieces, of which that is asked which stands in a line behind the haystack.
+pub fn input_of<'a>(pieces: &'a [&'a [u8]], fields: &Fields) -> Input<ChunkCursor<'a>>
+    requires { length (joined pieces.now) < 2 ^ 63 }
+{
+    input(pieces, &Asked::read(fields, ASKED))
+}
+
+/// Whether empty matches inside a character are passed over.
+pub fn utf8_empty(fields: &Fields) -> bool {
+    fields.number(INSIDE) != Some(1)
 }
 
 /// Asks an input for that.

@@ -4,7 +4,7 @@ use crate::fields::{Fault, Fields};
 use crate::haystacks::{self, Asked, haystack, input};
 use crate::ropes;
 use rx_grammar::Look;
-use rx_input::{ChunkCursor, Cursor, Input};
+use rx_input::{ChunkCursor, Cursor, Input, LookAround};
 use rx_steps::{Looks, Place};
 use rx_util::Span;
 use std::alloc::{AllocError, Global};
@@ -64,13 +64,12 @@ fn walk<C: Cursor>(alloc: Global, cursor: &mut C, len: usize) -> Result<String, 
 
 /// Writes the piece that a cursor shows.
 fn tell_piece<C: Cursor>(alloc: Global, out: &mut String, cursor: &C) -> Result<(), AllocError> {
-    let bytes = hex::encode(alloc, cursor.chunk())?;
-    out.push_str(&format!(in alloc; " {}:{}", cursor.offset(), bytes)?)
+    write!(out, " {}:", cursor.offset())?;
+    out.push_str(&hex::encode(alloc, cursor.chunk())?)
 }
 
-/// The signs of the looks that hold.
-fn signs(alloc: Global, looks: &Looks) -> Result<String, AllocError> {
-    let mut all = String::new(alloc);
+/// Writes the signs of the looks that hold.
+fn tell_signs(out: &mut String, looks: &Looks) -> Result<(), AllocError> {
     for (look, sign) in [
         (Look::Start, 'A'),
         (Look::End, 'z'),
@@ -80,10 +79,10 @@ fn signs(alloc: Global, looks: &Looks) -> Result<String, AllocError> {
         (Look::WordUnicodeNegate, 'B'),
     ] {
         if looks.has(look) {
-            all.push(sign)?;
+            out.push(sign)?;
         }
     }
-    Ok(all)
+    Ok(())
 }
 
 /// What is seen at each place of the slice, parted by blanks.
@@ -105,6 +104,25 @@ pub fn places(alloc: Global, fields: &Fields) -> Result<String, Fault> {
     Ok(out)
 }
 
+/// The place where an input stands, which must be the same where no look is asked for.
+fn place_of(input: &mut Input<ChunkCursor>, terminator: u8) -> Result<Place, Fault> {
+    let place = Place::of(input, terminator, true);
+    let plain = Place::of(input, terminator, false);
+    let is_same = plain.byte == place.byte && plain.looks == Looks::default();
+    if is_same && input.position() == place.at.get() {
+        Ok(place)
+    } else {
+        Err(Fault::Differs)
+    }
+}
+
+/// Writes the bytes before and behind a place that looks see.
+fn tell_seen(alloc: Global, out: &mut String, seen: &LookAround) -> Result<(), AllocError> {
+    out.push_str(&hex::encode(alloc, seen.before())?)?;
+    out.push(',')?;
+    out.push_str(&hex::encode(alloc, seen.after())?)
+}
+
 /// Writes where an input stands, whether a character begins there, the bytes before and behind that
 /// looks see, the byte that a walk may read, or a dash, and the looks that hold.
 fn tell_place(
@@ -115,23 +133,14 @@ fn tell_place(
 ) -> Result<(), Fault> {
     let boundary = input.is_char_boundary();
     let seen = input.look_around();
-    let place = Place::of(input, terminator, true);
-    let plain = Place::of(input, terminator, false);
-    let is_same = plain.byte == place.byte && plain.looks == Looks::default();
-    if !is_same || input.position() != place.at.get() {
-        return Err(Fault::Differs);
+    let place = place_of(input, terminator)?;
+    write!(out, "{},{boundary},", place.at.get())?;
+    tell_seen(alloc, out, &seen)?;
+    match place.byte {
+        Some(byte) => write!(out, ",{byte},")?,
+        None => out.push_str(",-,")?,
     }
-    let before = hex::encode(alloc, seen.before())?;
-    let after = hex::encode(alloc, seen.after())?;
-    let byte = match place.byte {
-        Some(byte) => format!(in alloc; "{byte}")?,
-        None => String::from_str(alloc, "-")?,
-    };
-    let signs = signs(alloc, &place.looks)?;
-    out.push_str(&format!(in alloc;
-        "{},{boundary},{before},{after},{byte},{signs}",
-        place.at.get()
-    )?)?;
+    tell_signs(out, &place.looks)?;
     Ok(())
 }
 

@@ -3,17 +3,17 @@
 ghost use Rattle.std.specs.Prelude.{◌^◌, ◌<◌, length};
 ghost use Rattle.rx_input.specs.Chunks.{joined};
 
-use crate::every::{ASKED, CUT, HAYSTACK, INSIDE, program, spelled};
-use crate::fields::{Fault, Fields, TERMINATOR};
-use crate::haystacks::{Asked, haystack, input, pieces};
-use crate::several::{self, texts};
+use crate::best::regex_of;
+use crate::every::program;
+use crate::fields::{Fault, Fields};
+use crate::haystacks::{input_of, utf8_empty};
 use crate::slots::tell;
 use crate::whole_matches;
 use counters::Counter;
-use regex_cursor::engines::meta::{Config, Regex};
+use regex_cursor::engines::meta::Regex;
 use rx_lists::{ListedMatch, list_matches};
 use rx_program::Program;
-use rx_util::{Match, MatchError};
+use rx_util::{Match, MatchKind};
 use std::alloc::Global;
 
 /// Where the number of slots stands in a line, and whether iterators must give the same.
@@ -27,14 +27,20 @@ fn found_in(
     program: &Program,
     pieces: &[&[u8]],
     fields: &Fields,
-) -> Result<Vec<ListedMatch>, MatchError>
+) -> Result<Vec<ListedMatch>, Fault>
     requires { length (joined pieces.now) < 2 ^ 63 }
 {
-    let mut input = input(pieces, &Asked::read(fields, ASKED));
-    let inside = fields.number(INSIDE) == Some(1);
+    let mut input = input_of(pieces, fields);
     let count = fields.number(COUNT).unwrap_or(0);
     let mut read = Counter::new();
-    list_matches(alloc, program, count, &mut input, !inside, &mut read)
+    Ok(list_matches(
+        alloc,
+        program,
+        count,
+        &mut input,
+        utf8_empty(fields),
+        &mut read,
+    )?)
 }
 
 /// Whether a match is the one that was listed, as far as that has slots.
@@ -62,20 +68,6 @@ fn agree(all: &[Match], found: &[ListedMatch]) -> Result<(), Fault> {
     Ok(())
 }
 
-/// The regex of a line's patterns, under its settings.
-fn regex(alloc: Global, fields: &Fields) -> Result<Regex, Fault> {
-    let texts = texts(alloc, fields)?;
-    let patterns = several::listed(alloc, &texts)?;
-    let mut builder = Regex::builder();
-    builder.syntax(fields.settings());
-    builder.configure(
-        Config::new()
-            .utf8_empty(fields.number(INSIDE) != Some(1))
-            .line_terminator(fields.byte(TERMINATOR).unwrap_or(b'\n')),
-    );
-    Ok(builder.build_many(alloc, &patterns)?)
-}
-
 /// Whether a `Regex` lists these matches, and its iterator gives them, where that is asked.
 fn by_regex(
     alloc: Global,
@@ -86,38 +78,22 @@ fn by_regex(
 ) -> Result<(), Fault>
     requires { length (joined pieces.now) < 2 ^ 63 }
 {
-    let asked = Asked::read(fields, ASKED);
-    let mut read = Counter::new();
-    agree(
-        &re.all_matches(alloc, input(pieces, &asked), &mut read)?,
-        found,
-    )?;
+    let all = re.all_matches(alloc, input_of(pieces, fields), &mut Counter::new())?;
+    agree(&all, found)?;
     if fields.number(ITERATED) != Some(1) {
         return Ok(());
     }
-    agree(
-        &whole_matches::listed(alloc, re, input(pieces, &asked))?,
-        found,
-    )
-}
-
-/// The matches by two passes, which must be those of a `Regex`.
-fn found_alike(alloc: Global, fields: &Fields, pieces: &[&[u8]]) -> Result<Vec<ListedMatch>, Fault>
-    requires { length (joined pieces.now) < 2 ^ 63 }
-{
-    let trees = spelled(alloc, fields)?;
-    let program = program(alloc, &trees, fields.byte(TERMINATOR).unwrap_or(b'\n'))?;
-    let found = found_in(alloc, &program, pieces, fields)?;
-    by_regex(alloc, &regex(alloc, fields)?, pieces, fields, &found)?;
-    Ok(found)
+    whole_matches::gives(re, input_of(pieces, fields), &all)
 }
 
 /// All matches, parted by commas, each as its pattern, where it ends, and each slot's place, or a
-/// dash.
-pub fn matches(alloc: Global, fields: &Fields) -> Result<String, Fault> {
-    let haystack = haystack(alloc, fields, HAYSTACK)?;
-    let pieces = pieces(alloc, &haystack, fields.word(CUT))?;
-    let found = found_alike(alloc, fields, &pieces)?;
+/// dash. A `Regex` must list them too.
+pub fn matches(alloc: Global, fields: &Fields, pieces: &[&[u8]]) -> Result<String, Fault>
+    requires { length (joined pieces.now) < 2 ^ 63 }
+{
+    let found = found_in(alloc, &program(alloc, fields)?, pieces, fields)?;
+    let re = regex_of(alloc, fields, MatchKind::LeftmostFirst)?;
+    by_regex(alloc, &re, pieces, fields, &found)?;
     told(alloc, &found)
 }
 
@@ -128,9 +104,8 @@ fn told(alloc: Global, found: &[ListedMatch]) -> Result<String, Fault> {
         if !out.is_empty() {
             out.push(',')?;
         }
-        let pattern = listed.pattern().as_usize();
-        out.push_str(&format!(in alloc; "{} {}", pattern, listed.end())?)?;
-        tell(alloc, &mut out, listed.slots())?;
+        write!(out, "{} {}", listed.pattern().as_usize(), listed.end())?;
+        tell(&mut out, listed.slots())?;
     }
     Ok(out)
 }

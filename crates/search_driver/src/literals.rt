@@ -34,7 +34,7 @@ fn needles(alloc: Global, told: &str) -> Result<Vec<Vec<u8>>, Fault> {
     }
     for needle in told.split('.') {
         match hex::decode(alloc, needle) {
-            Ok(needle) => needles.push(needle).map_err(|_| Fault::Memory)?,
+            Ok(needle) => needles.push(needle)?,
             Err(FromHexError::OutOfMemory) => return Err(Fault::Memory),
             Err(_) => return Err(Fault::Line),
         }
@@ -120,20 +120,22 @@ fn tell_in(
     if input.get_span() != span {
         return Err(Fault::Differs);
     }
+    told(alloc, found, prefix)
+}
+
+/// What is told of two spans.
+fn told(alloc: Global, found: Option<Span>, prefix: Option<Span>) -> Result<String, Fault> {
     let mut out = String::new(alloc);
-    write_span(alloc, &mut out, found)?;
+    write_span(&mut out, found)?;
     out.push(' ')?;
-    write_span(alloc, &mut out, prefix)?;
+    write_span(&mut out, prefix)?;
     Ok(out)
 }
 
 /// Writes a span, or a dash.
-fn write_span(alloc: Global, out: &mut String, span: Option<Span>) -> Result<(), AllocError> {
+fn write_span(out: &mut String, span: Option<Span>) -> Result<(), AllocError> {
     match span {
-        Some(span) => {
-            let places = format!(in alloc; "{}-{}", span.start, span.end)?;
-            out.push_str(places.as_str())
-        }
+        Some(span) => write!(out, "{}-{}", span.start, span.end),
         None => out.push('-'),
     }
 }

@@ -15,8 +15,7 @@
 //! - `weigh,PATTERN,SETTINGS`: how many nodes the tree has, its weight, and its program's size.
 //! - `groups,PATTERN,SETTINGS`: the names of the groups, a dash for one without a name.
 //! - `explain,PATTERN,SETTINGS`: the place and the reason for which the pattern is refused.
-//! - `compile,PATTERN,SETTINGS,LIMIT`: the states of the program.
-//! - `build,PATTERN,SETTINGS,LIMIT`: how many they are.
+//! - `compile,PATTERN,SETTINGS,LIMIT`: the states of the program, or the limit that it is above.
 //! - `reversed,PATTERN,SETTINGS,LIMIT`: the program turned round: where its walks start, its
 //!   states, and the rows of its automata.
 //! - `sizes,PATTERN,SETTINGS,LIMIT`: how many states and ranges of bytes the automaton of the
@@ -29,9 +28,7 @@
 //! - `advance,PATTERN,SETTINGS,CUT,HAYSTACK,ASKED,INSIDE`: all matches without their groups, and
 //!   `advance_half,..` where each ends, as calls of a `Searcher` tell them.
 //! - `slots,PATTERN,SETTINGS,CUT,HAYSTACK,ASKED,INSIDE,COUNT`: what the first match notes in so
-//!   many slots.
-//! - `captured,PATTERN,SETTINGS,CUT,HAYSTACK,ASKED,INSIDE`: where it is, by slots for whole matches
-//!   alone, and whether group 1 is told then.
+//!   many slots. Captures for whole matches alone must tell the same, and no other group.
 //! - `all,PATTERNS,SETTINGS,CUT,HAYSTACK,ASKED,INSIDE,EARLIEST,AGAIN`: of all matches of several
 //!   patterns, parted by dots (a dash stands for no pattern), the one of the greatest end, then of
 //!   the least start, then of the least pattern, as its pattern, start and end, or `none`. Any
@@ -62,16 +59,15 @@
 //! - `counted,PATTERNS,SETTINGS,CUT,HAYSTACK,ASKED,SET`: how many patterns and groups such a
 //!   `Regex` has, how many of these stand in each match, how many slots it has, and whether
 //!   literals are looked for; or the error, its pattern and its limit.
-//! - `static,PATTERNS,SETTINGS,CUT,HAYSTACK,ASKED,SET`: how many groups stand in each match.
 //! - `getters,,SETTINGS,CUT,HAYSTACK,ASKED,SET`: what the getters tell of these settings.
 //! - `usage,PATTERNS,SETTINGS,CUT,HAYSTACK,ASKED,SET`: what `memory_usage` tells of such a `Regex`,
 //!   and of a cache before a search and behind it.
 //! - `regex,PATTERN,SETTINGS,CUT,HAYSTACK,ASKED`: all matches, with their groups, by a `Regex`. It
 //!   has no settings: these fields aren't read.
-//! - `rope,PATTERNS,SETTINGS,CUT,HAYSTACK,ASKED,START,END,AT,TIMES`: the same of several patterns in
-//!   the part from the byte `START` to the byte `END` of a rope whose leaves are the pieces, by a
-//!   cursor that is made at the place `AT`. One cache serves so often. No leaf cuts a character or
-//!   a CR LF.
+//! - `rope,PATTERNS,SETTINGS,CUT,HAYSTACK,ASKED,START,END,AT,TIMES`: the same of several patterns
+//!   in the part from the byte `START` to the byte `END` of a rope whose leaves are the pieces, by
+//!   a cursor that is made at the place `AT`. One cache serves so often. No leaf cuts a character
+//!   or a CR LF.
 //! - `counts,PATTERNS,SETTINGS,CUT,HAYSTACK,ASKED,START,END,AT,CALLS`: of both iterators there, how
 //!   many matches so many calls of `next` give, and how many `count` tells then.
 //! - `split,PATTERNS,SETTINGS,CUT,HAYSTACK,ASKED,START,END,AT,LIMIT`: the parts between matches
@@ -120,52 +116,84 @@ mod slots;
 mod warm;
 mod whole_matches;
 
+ghost use Rattle.std.specs.Prelude.{◌^◌, ◌<◌, length};
+ghost use Rattle.rx_input.specs.Chunks.{joined};
+
 use fields::{Fault, Fields};
+use haystacks::{CUT, HAYSTACK, haystack, pieces};
 use std::alloc::Global;
 use std::io::{self, BufRead, BufReader};
 
-/// The answer to a case.
-fn answer(alloc: Global, line: &str) -> Result<String, Fault> {
-    let fields = Fields::of(alloc, line)?;
+/// Where the length stands that the haystack of a `search` is cut to before.
+const TAKEN: usize = 14;
+
+/// The answer to a case about what its fields say alone.
+fn answer(alloc: Global, fields: &Fields) -> Result<String, Fault> {
     match fields.word(0) {
-        "parse" => patterns::tree(alloc, &fields),
-        "weigh" => patterns::weight(alloc, &fields),
-        "groups" => patterns::groups(alloc, &fields),
-        "explain" => explained::refusal(alloc, &fields),
-        "compile" => programs::states(alloc, &fields),
-        "build" => programs::size(alloc, &fields),
-        "reversed" => reversed::states(alloc, &fields),
-        "sizes" => sets::sizes(alloc, &fields),
-        "back" => sets::back(alloc, &fields),
-        "search" => searches::matches(alloc, &fields),
-        "advance" | "advance_half" => searchers::matches(alloc, &fields),
-        "slots" => slots::noted(alloc, &fields),
-        "captured" => slots::captured(alloc, &fields),
-        "all" => every::found(alloc, &fields),
-        "best" => best::matches(alloc, &fields),
-        "listed" => listed::matches(alloc, &fields),
-        "backwards" => backwards::found(alloc, &fields),
-        "by_table" => backwards::by_table(alloc, &fields),
-        "under" => settings::matches(alloc, &fields),
-        "counted" => settings::counts(alloc, &fields),
-        "static" => settings::each_match(alloc, &fields),
-        "getters" => settings::getters(alloc, &fields),
-        "usage" => settings::usage(alloc, &fields),
-        "several" => several::matches(alloc, &fields),
-        "regex" => regexes::in_pieces(alloc, &fields),
-        "rope" | "counts" | "split" => regexes::in_rope(alloc, &fields),
-        "lazy" => automata::lazy(alloc, &fields),
-        "dense" => automata::dense(alloc, &fields),
-        "warm" => warm::end(alloc, &fields),
-        "pieces" => inputs::pieces(alloc, &fields),
-        "chunks" => inputs::chunks(alloc, &fields),
-        "places" => inputs::places(alloc, &fields),
-        "moved" => inputs::moved(alloc, &fields),
-        "literal" => literals::found(alloc, &fields),
-        "beginning" => literals::beginning(alloc, &fields),
-        "whole" => literals::whole(alloc, &fields),
+        "parse" => patterns::tree(alloc, fields),
+        "weigh" => patterns::weight(alloc, fields),
+        "groups" => patterns::groups(alloc, fields),
+        "explain" => explained::refusal(alloc, fields),
+        "compile" => programs::states(alloc, fields),
+        "reversed" => reversed::states(alloc, fields),
+        "sizes" => sets::sizes(alloc, fields),
+        "back" => sets::back(alloc, fields),
+        "counted" => settings::counts(alloc, fields),
+        "getters" => settings::getters(alloc, fields),
+        "warm" => warm::end(alloc, fields),
+        "pieces" => inputs::pieces(alloc, fields),
+        "chunks" => inputs::chunks(alloc, fields),
+        "places" => inputs::places(alloc, fields),
+        "moved" => inputs::moved(alloc, fields),
+        "literal" => literals::found(alloc, fields),
+        "beginning" => literals::beginning(alloc, fields),
+        "whole" => literals::whole(alloc, fields),
+        _ => answer_in_haystack(alloc, fields),
+    }
+}
+
+/// The answer to a case about a haystack, which is cut as it says.
+fn answer_in_haystack(alloc: Global, fields: &Fields) -> Result<String, Fault> {
+    let haystack = haystack(alloc, fields, HAYSTACK)?;
+    let pieces = pieces(alloc, taken(fields, &haystack), fields.word(CUT))?;
+    answer_in(alloc, fields, &pieces)
+}
+
+/// As much of a haystack as a line says.
+fn taken<'a>(fields: &Fields, haystack: &'a [u8]) -> &'a [u8] {
+    match (fields.word(0), fields.number(TAKEN)) {
+        ("search", Some(len)) => haystack.get(..len).unwrap_or(haystack),
+        _ => haystack,
+    }
+}
+
+/// The answer to it in these pieces.
+fn answer_in(alloc: Global, fields: &Fields, pieces: &[&[u8]]) -> Result<String, Fault>
+    requires { length (joined pieces.now) < 2 ^ 63 }
+{
+    match fields.word(0) {
+        "search" => searches::matches(alloc, fields, pieces),
+        "advance" | "advance_half" => searchers::matches(alloc, fields, pieces),
+        "slots" => slots::noted(alloc, fields, pieces),
+        "all" => every::found(alloc, fields, pieces),
+        "best" => best::matches(alloc, fields, pieces),
+        "listed" => listed::matches(alloc, fields, pieces),
+        "backwards" => backwards::found(alloc, fields, pieces),
+        "by_table" => backwards::by_table(alloc, fields, pieces),
+        "under" => settings::matches(alloc, fields, pieces),
+        "usage" => settings::usage(alloc, fields, pieces),
+        "several" => several::matches(alloc, fields, pieces),
+        "regex" => regexes::in_pieces(alloc, fields, pieces),
+        "rope" | "counts" | "split" => regexes::in_rope(alloc, fields, pieces),
+        "lazy" => automata::lazy(alloc, fields, pieces),
+        "dense" => automata::dense(alloc, fields, pieces),
         _ => Err(Fault::Line),
     }
+}
+
+/// The answer to a line.
+fn answer_to(alloc: Global, line: &str) -> Result<String, Fault> {
+    answer(alloc, &Fields::of(alloc, line)?)
 }
 
 /// Writes for each case a line: the answer, or why there is none.
@@ -173,7 +201,7 @@ fn main(rt: HostRuntime) -> io::Result<()> {
     let alloc = rt.alloc();
     for line in BufReader::new(alloc, rt.reader())?.lines(alloc) {
         let line = line?;
-        match answer(alloc, line.as_str()) {
+        match answer_to(alloc, line.as_str()) {
             Ok(answer) => println!(rt; "{}", answer.as_str())?,
             Err(fault) => println!(rt; "{fault}")?,
         }

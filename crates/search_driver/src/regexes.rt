@@ -1,14 +1,17 @@
 //! What a `Regex` and its iterators tell, over pieces and over slices of ropes.
 
-ghost use Rattle.std.specs.Prelude.{◌≡◌};
+ghost use Rattle.std.specs.Prelude.{◌≡◌, ◌^◌, ◌<◌, length};
+ghost use Rattle.rx_input.specs.Chunks.{joined};
 ghost use Rattle.regex_cursor.specs.Regexes.{IsCacheOf};
 
 use crate::fields::{Fault, Fields};
-use crate::haystacks::{Asked, ask, haystack, input, pieces};
-use crate::searches::{ASKED, CUT, HAYSTACK, tell};
-use crate::{ropes, several};
+use crate::haystacks::{ASKED, Asked, ask, input_of};
+use crate::ropes;
+use crate::searches::tell;
+use crate::several::regex_of;
+use crate::whole_matches::{behind, over};
 use regex_cursor::engines::meta::{Cache, Regex};
-use regex_cursor::{Captures, Cursor, Input, Match, MatchError, NonMaxUsize, PatternID, Span};
+use regex_cursor::{Captures, Cursor, Input, Match, NonMaxUsize, PatternID, Span};
 use std::alloc::{AllocError, Global};
 
 /// Where it stands which part of a rope is searched, and where a cursor over it is made.
@@ -19,33 +22,37 @@ const PART: usize = 13;
 const COUNT: usize = 16;
 
 /// All matches in a haystack that lies in pieces.
-pub fn in_pieces(alloc: Global, fields: &Fields) -> Result<String, Fault> {
-    let haystack = haystack(alloc, fields, HAYSTACK)?;
+pub fn in_pieces(alloc: Global, fields: &Fields, pieces: &[&[u8]]) -> Result<String, Fault>
+    requires { length (joined pieces.now) < 2 ^ 63 }
+{
     let re = Regex::new(alloc, &fields.pattern(alloc)?)?;
-    let pieces = pieces(alloc, &haystack, fields.word(CUT))?;
-    let mut input = input(&pieces, &Asked::read(fields, ASKED));
-    all_matches(alloc, &re, &mut input, 1)
-}
-
-/// The regex of a line's patterns, which are parted by dots.
-fn of_patterns(alloc: Global, fields: &Fields) -> Result<Regex, Fault> {
-    let texts = several::texts(alloc, fields)?;
-    let patterns = several::listed(alloc, &texts)?;
-    Ok(Regex::new_many(alloc, &patterns)?)
+    all_matches(alloc, &re, &mut input_of(pieces, fields), 1)
 }
 
 /// What a line asks for in a part of a rope.
-pub fn in_rope(alloc: Global, fields: &Fields) -> Result<String, Fault> {
-    let haystack = haystack(alloc, fields, HAYSTACK)?;
-    let re = of_patterns(alloc, fields)?;
-    let tree = ropes::tree(alloc, &pieces(alloc, &haystack, fields.word(CUT))?)?;
+pub fn in_rope(alloc: Global, fields: &Fields, pieces: &[&[u8]]) -> Result<String, Fault> {
+    let re = regex_of(alloc, fields)?;
+    let tree = ropes::tree(alloc, pieces)?;
     let mut input = Input::new(ropes::cursor(&tree, fields, PART)?);
     ask(&mut input, &Asked::read(fields, ASKED));
-    let count = fields.number(COUNT);
-    match fields.word(0) {
-        "counts" => counts(alloc, &re, &input, count.unwrap_or(0)),
-        "split" => parts(alloc, &re, input, count),
-        _ => all_matches(alloc, &re, &mut input, count.unwrap_or(1)),
+    told(alloc, fields, &re, &mut input)
+}
+
+/// What a line asks for.
+fn told<C: Cursor + Clone + Drop>(
+    alloc: Global,
+    fields: &Fields,
+    re: &Regex,
+    input: &mut Input<C>,
+) -> Result<String, Fault>
+    requires infallible { (c : C) → C.is_infallible c }
+    requires equal { (c d : C) → C.is_clone c d → d ≡ c }
+{
+    match (fields.word(0), fields.number(COUNT)) {
+        ("counts", count) => counts(alloc, re, input, count.unwrap_or(0)),
+        ("split", None) => all_parts(alloc, re, input.clone()),
+        ("split", Some(limit)) => few_parts(alloc, re, input.clone(), limit),
+        (_, count) => all_matches(alloc, re, input, count.unwrap_or(1)),
     }
 }
 
@@ -60,14 +67,11 @@ fn all_matches<C: Cursor + Clone + Drop>(
     requires infallible { (c : C) → C.is_infallible c }
     requires equal { (c d : C) → C.is_clone c d → d ≡ c }
 {
-    let matches = listed(alloc, re, input)?;
-    let first = first_match(re, input)?;
     let mut out = String::new(alloc);
+    let first = first_match(re, input)?;
+    captured(re, input, first)?;
     find_often(&mut out, &re.clone()?, input, first, times)?;
-    if !out.is_empty() {
-        out.push(' ')?;
-    }
-    out.push_str(&matches)?;
+    out.push_str(&listed(alloc, re, input)?)?;
     Ok(out)
 }
 
@@ -81,31 +85,60 @@ fn listed<C: Cursor + Clone + Drop>(
     requires infallible { (c : C) → C.is_infallible c }
     requires equal { (c d : C) → C.is_clone c d → d ≡ c }
 {
+    let mut wholes = Vec::new(alloc);
+    let told = all_captured(alloc, re, input.clone(), &mut wholes)?;
+    are_found(re, input.clone(), &wholes)?;
+    Ok(told)
+}
+
+/// All matches with their groups, and where each lies.
+fn all_captured<C: Cursor + Drop>(
+    alloc: Global,
+    re: &Regex,
+    input: Input<C>,
+    wholes: &mut Vec<Option<Span>>,
+) -> Result<String, Fault> {
     let mut out = String::new(alloc);
-    let mut found = re.find_iter(input.clone())?;
-    for caps in re.captures_iter(input.clone())? {
-        let caps = caps?;
-        if span_of(found.next())? != caps.get_group(0) {
-            return Err(Fault::Differs);
-        }
-        tell(alloc, &mut out, &caps)?;
+    for caps in re.captures_iter(input)? {
+        tell_captured(alloc, &mut out, &caps?, wholes)?;
     }
-    match span_of(found.next())? {
-        Some(_) => Err(Fault::Differs),
-        None => Ok(out),
+    Ok(out)
+}
+
+/// Writes one match with its groups, and notes where it lies.
+fn tell_captured(
+    alloc: Global,
+    out: &mut String,
+    caps: &Captures,
+    wholes: &mut Vec<Option<Span>>,
+) -> Result<(), Fault> {
+    tell(alloc, out, caps)?;
+    wholes.push(caps.get_group(0))?;
+    Ok(())
+}
+
+/// Whether the matches that `find_iter` gives lie there.
+fn are_found<C: Cursor + Drop>(
+    re: &Regex,
+    input: Input<C>,
+    wholes: &[Option<Span>],
+) -> Result<(), Fault> {
+    let mut left = Some(wholes);
+    for next in re.find_iter(input)? {
+        left = behind(left, Ok(span_of(Some(next?))))?;
+    }
+    over(left)
+}
+
+/// Where a match lies.
+fn span_of(found: Option<Match>) -> Option<Span> {
+    match found {
+        Some(found) => Some(found.span()),
+        None => None,
     }
 }
 
-/// Where the match lies that an iterator gives, if it gives one.
-fn span_of(item: Option<Result<Match, MatchError>>) -> Result<Option<Span>, MatchError> {
-    match item {
-        Some(Ok(found)) => Ok(Some(found.span())),
-        Some(Err(error)) => Err(error),
-        None => Ok(None),
-    }
-}
-
-/// The first match, as each call without a cache must tell it.
+/// The first match, as each call without a cache must tell it that tells no groups.
 fn first_match<C: Cursor + Clone + Drop>(
     re: &Regex,
     input: &Input<C>,
@@ -113,17 +146,32 @@ fn first_match<C: Cursor + Clone + Drop>(
     requires infallible { (c : C) → C.is_infallible c }
     requires equal { (c d : C) → C.is_clone c d → d ≡ c }
 {
-    let first = re.find(input.clone())?.map(|found| found.span());
-    let searched = re.search(input.clone())?.map(|found| found.span());
+    let first = re.find(input.clone())?;
+    let searched = re.search(input.clone())?;
+    let pattern = re.search_slots(input.clone(), &mut [None; 1])?;
+    let is_match = re.is_match(input.clone())?;
+    if searched == first && pattern.is_some() == first.is_some() && is_match == first.is_some() {
+        Ok(span_of(first))
+    } else {
+        Err(Fault::Differs)
+    }
+}
+
+/// Whether those that note groups note it.
+fn captured<C: Cursor + Clone + Drop>(
+    re: &Regex,
+    input: &Input<C>,
+    first: Option<Span>,
+) -> Result<(), Fault>
+    requires infallible { (c : C) → C.is_infallible c }
+    requires equal { (c d : C) → C.is_clone c d → d ≡ c }
+{
     let mut caps = re.create_captures()?;
     re.captures(input.clone(), &mut caps)?;
     let captured = caps.get_group(0);
     re.search_captures(input.clone(), &mut caps)?;
-    let pattern = re.search_slots(input.clone(), &mut [None; 1])?;
-    let is_match = re.is_match(input.clone())?;
-    let are_same = searched == first && captured == first && caps.get_group(0) == first;
-    if are_same && pattern.is_some() == first.is_some() && is_match == first.is_some() {
-        Ok(first)
+    if captured == first && caps.get_group(0) == first {
+        Ok(())
     } else {
         Err(Fault::Differs)
     }
@@ -182,7 +230,7 @@ fn found_or_again<C: Cursor>(
 {
     match found_with(re, cache, caps, input) {
         Err(Fault::Memory) => {
-            out.push_str(" again")?;
+            out.push_str("again ")?;
             found_with(re, cache, caps, input)
         }
         told => told,
@@ -220,7 +268,7 @@ fn found_with<C: Cursor>(
 {
     re.search_captures_with(cache, input, caps)?;
     let found = caps.get_group(0);
-    let searched = re.search_with(cache, input)?.map(|found| found.span());
+    let searched = span_of(re.search_with(cache, input)?);
     let mut slots = [None; 3];
     let pattern = re.search_slots_with(cache, input, &mut slots)?;
     let noted = span_between(slots[0], slots[1]) == of_first(pattern, found);
@@ -285,33 +333,37 @@ fn counts<C: Cursor + Clone + Drop>(
     Ok(format!(in alloc; "{} {} {} {}", found.0, found.1, captured.0, captured.1)?)
 }
 
-/// The parts between matches, at most so many where a limit is told.
-fn parts<C: Cursor + Drop>(
+/// The parts between matches.
+fn all_parts<C: Cursor + Drop>(
     alloc: Global,
     re: &Regex,
     input: Input<C>,
-    limit: Option<usize>,
 ) -> Result<String, Fault> {
     let mut out = String::new(alloc);
-    match limit {
-        None => {
-            for part in re.split(input)? {
-                tell_part(alloc, &mut out, part?)?;
-            }
-        }
-        Some(limit) => {
-            for part in re.splitn(input, limit)? {
-                tell_part(alloc, &mut out, part?)?;
-            }
-        }
+    for part in re.split(input)? {
+        tell_part(&mut out, part?)?;
+    }
+    Ok(out)
+}
+
+/// The parts between matches, at most so many.
+fn few_parts<C: Cursor + Drop>(
+    alloc: Global,
+    re: &Regex,
+    input: Input<C>,
+    limit: usize,
+) -> Result<String, Fault> {
+    let mut out = String::new(alloc);
+    for part in re.splitn(input, limit)? {
+        tell_part(&mut out, part?)?;
     }
     Ok(out)
 }
 
 /// Writes where a part lies.
-fn tell_part(alloc: Global, out: &mut String, part: Span) -> Result<(), AllocError> {
+fn tell_part(out: &mut String, part: Span) -> Result<(), AllocError> {
     if !out.is_empty() {
         out.push(' ')?;
     }
-    out.push_str(&format!(in alloc; "{}-{}", part.start, part.end)?)
+    write!(out, "{}-{}", part.start, part.end)
 }

@@ -8,13 +8,13 @@ ghost use Rattle.rx_steps.specs.Caches.{IsCacheOf};
 ghost use Rattle.rx_chunk.specs.Searches.{HoldsMatches};
 
 use crate::fields::{Fault, Fields};
-use crate::haystacks::{Asked, haystack, input, pieces};
-use crate::searches::{ASKED, CUT, HAYSTACK, engine};
+use crate::haystacks::input_of;
+use crate::searches::engine;
 use rx_chunk::pikevm::{self, Cache, PikeVM};
 use rx_input::iter::Searcher;
-use rx_input::{ChunkCursor, Input};
+use rx_input::{ChunkCursor, Cursor, Input};
 use rx_util::{Captures, HalfMatch, Match, MatchError};
-use std::alloc::{AllocError, Global};
+use std::alloc::Global;
 
 /// The match that an engine finds.
 fn find_with(
@@ -72,62 +72,60 @@ fn next_half(
     searcher.try_advance_half(|input| find_end(vm, input))
 }
 
-/// Writes a word, with a blank before it where it isn't the first one.
-fn tell(out: &mut String, word: &str) -> Result<(), AllocError> {
-    if !out.is_empty() {
-        out.push(' ')?;
+/// Writes the next match, or half match, with a blank before it where it isn't the first one, and
+/// tells whether there is one.
+fn tell_next(
+    vm: &PikeVM,
+    searcher: &mut Searcher<Input<ChunkCursor>>,
+    is_half: bool,
+    out: &mut String,
+) -> Result<bool, Fault> {
+    let blank = if out.is_empty() { "" } else { " " };
+    if is_half {
+        let Some(half) = next_half(vm, searcher)? else {
+            return Ok(false);
+        };
+        write!(out, "{blank}{}", half.offset())?;
+    } else {
+        let Some(found) = next_match(vm, searcher)? else {
+            return Ok(false);
+        };
+        write!(out, "{blank}{}-{}", found.start(), found.end())?;
     }
-    out.push_str(word)
+    Ok(true)
 }
 
-/// So many matches at most, each as its start and its end.
-fn wholes(
+/// So many matches at most, each as its start and its end, or half matches, each as its end.
+fn tell_all(
     alloc: Global,
     vm: &PikeVM,
     input: Input<ChunkCursor>,
+    is_half: bool,
     most: usize,
 ) -> Result<String, Fault> {
     let mut out = String::new(alloc);
     let mut searcher = Searcher::new(input);
     for _ in 0..most {
-        let Some(found) = next_match(vm, &mut searcher)? else {
+        if !tell_next(vm, &mut searcher, is_half, &mut out)? {
             return Ok(out);
-        };
-        let whole = format!(in alloc; "{}-{}", found.start(), found.end())?;
-        tell(&mut out, &whole)?;
-    }
-    Ok(out)
-}
-
-/// So many half matches at most, each as its end.
-fn halves(
-    alloc: Global,
-    vm: &PikeVM,
-    input: Input<ChunkCursor>,
-    most: usize,
-) -> Result<String, Fault> {
-    let mut out = String::new(alloc);
-    let mut searcher = Searcher::new(input);
-    for _ in 0..most {
-        let Some(found) = next_half(vm, &mut searcher)? else {
-            return Ok(out);
-        };
-        let end = format!(in alloc; "{}", found.offset())?;
-        tell(&mut out, &end)?;
+        }
     }
     Ok(out)
 }
 
 /// The matches that a line asks for, as `Searcher::advance` tells them, or, for the word
 /// `advance_half`, the half matches of `Searcher::try_advance_half`.
-pub fn matches(alloc: Global, fields: &Fields) -> Result<String, Fault> {
-    let haystack = haystack(alloc, fields, HAYSTACK)?;
+pub fn matches(alloc: Global, fields: &Fields, pieces: &[&[u8]]) -> Result<String, Fault>
+    requires { length (joined pieces.now) < 2 ^ 63 }
+{
     let vm = engine(alloc, fields)?;
-    let asked = Asked::read(fields, ASKED);
-    let pieces = pieces(alloc, &haystack, fields.word(CUT))?;
-    let most = haystack.len().saturating_add(2);
-    match fields.word(0) {
-        "advance_half" => halves(alloc, &vm, input(&pieces, &asked), most),
-        _ => wholes(alloc, &vm, input(&pieces, &asked), most),
-    }
+    let len = ChunkCursor::new(pieces).total_bytes().unwrap_or(0);
+    let is_half = fields.word(0) == "advance_half";
+    tell_all(
+        alloc,
+        &vm,
+        input_of(pieces, fields),
+        is_half,
+        len.saturating_add(2),
+    )
 }

@@ -5,32 +5,18 @@ ghost use Rattle.rx_steps.specs.Caches.{IsCacheOf};
 ghost use Rattle.rx_input.specs.Chunks.{joined};
 
 use crate::fields::{Fault, Fields, TERMINATOR};
-use crate::haystacks::{Asked, haystack, input, pieces};
+use crate::haystacks::{input_of, utf8_empty};
 use rx_chunk::pikevm::{self, Builder, Cache, Config, PikeVM};
 use rx_input::{ChunkCursor, Input};
 use rx_util::{Captures, Match, MatchError, PatternID};
 use std::alloc::{AllocError, Global};
-
-/// Where it stands in a line how the haystack is cut, and the haystack and what is asked for
-/// behind it.
-pub const CUT: usize = 6;
-
-pub const HAYSTACK: usize = 7;
-
-pub const ASKED: usize = 8;
-
-/// Where it stands whether empty matches inside a character are found.
-const INSIDE: usize = 13;
-
-/// Where the length stands that the haystack is cut to before the search.
-const TAKEN: usize = 14;
 
 /// The engine that a line asks for.
 pub fn engine(alloc: Global, fields: &Fields) -> Result<PikeVM, Fault> {
     let pattern = fields.pattern(alloc)?;
     let mut builder = Builder::new();
     builder.syntax(fields.settings());
-    if fields.number(INSIDE) == Some(1) {
+    if !utf8_empty(fields) {
         builder.configure(Config::new().utf8_empty(false));
     }
     if let Some(byte) = fields.byte(TERMINATOR) {
@@ -42,48 +28,44 @@ pub fn engine(alloc: Global, fields: &Fields) -> Result<PikeVM, Fault> {
 /// All matches, parted by blanks, each as the places of its groups, parted by commas, a dash for a
 /// group that matched nothing. Where a search was refused, it is asked for again with what served
 /// it, and `again` stands first.
-pub fn matches(alloc: Global, fields: &Fields) -> Result<String, Fault> {
-    let haystack = haystack(alloc, fields, HAYSTACK)?;
-    let vm = engine(alloc, fields)?;
-    let asked = Asked::read(fields, ASKED);
-    let taken = fields.number(TAKEN).unwrap_or(haystack.len());
-    let pieces = pieces(
-        alloc,
-        &haystack[..taken.min(haystack.len())],
-        fields.word(CUT),
-    )?;
-    search_all(alloc, &vm, &pieces, &asked)
-}
-
-/// Searches for all matches, and tells their groups.
-fn search_all<'a>(
-    alloc: Global,
-    vm: &'a PikeVM,
-    pieces: &'a [&'a [u8]],
-    asked: &Option<Asked>,
-) -> Result<String, Fault>
+pub fn matches(alloc: Global, fields: &Fields, pieces: &[&[u8]]) -> Result<String, Fault>
     requires { length (joined pieces.now) < 2 ^ 63 }
 {
-    let found = spans(alloc, vm, input(pieces, asked))?;
-    let mut cache = vm.create_cache()?;
-    let mut caps = vm.create_captures()?;
-    tell_all(
-        alloc,
-        vm,
-        &mut cache,
-        &mut caps,
-        &mut input(pieces, asked),
-        &found,
-    )
+    let vm = engine(alloc, fields)?;
+    let found = spans(alloc, &vm, input_of(pieces, fields))?;
+    with_cache(alloc, &vm, &mut input_of(pieces, fields), &found)
 }
 
-/// Whether there is a match, as two calls tell it.
-fn is_match(
+/// Tells the groups of these matches, with a cache of its own.
+fn with_cache(
+    alloc: Global,
+    vm: &PikeVM,
+    input: &mut Input<ChunkCursor>,
+    found: &[Match],
+) -> Result<String, Fault> {
+    let mut cache = vm.create_cache()?;
+    if is_match(vm, &mut cache, input)? == found.is_empty() {
+        return Err(Fault::Differs);
+    }
+    with_captures(alloc, vm, &mut cache, input, found)
+}
+
+/// Tells them with captures of its own.
+fn with_captures(
     alloc: Global,
     vm: &PikeVM,
     cache: &mut Cache,
     input: &mut Input<ChunkCursor>,
-) -> Result<bool, Fault>
+    found: &[Match],
+) -> Result<String, Fault>
+    requires { IsCacheOf vm.now.program cache.old }
+{
+    let mut caps = vm.create_captures()?;
+    tell_all(alloc, vm, cache, &mut caps, input, found)
+}
+
+/// Whether there is a match, as two calls tell it.
+fn is_match(vm: &PikeVM, cache: &mut Cache, input: &mut Input<ChunkCursor>) -> Result<bool, Fault>
     requires { IsCacheOf vm.now.program cache.old }
     ensures { OnOk result (IsCacheOf vm.now.program cache.new) }
 {
@@ -109,9 +91,6 @@ fn tell_all(
     requires groups { caps.old.groups ≡ vm.now.groups }
     requires slots { 2 * length vm.now.groups ≤ length caps.old.slots }
 {
-    if is_match(alloc, vm, cache, input)? == found.is_empty() {
-        return Err(Fault::Differs);
-    }
     let mut out = String::new(alloc);
     let mut last = None;
     for wanted in found {
@@ -128,21 +107,29 @@ fn tell_all(
 }
 
 /// The matches that `find_iter` gives.
-pub fn spans<'a>(
-    alloc: Global,
-    vm: &'a PikeVM,
-    input: Input<ChunkCursor<'a>>,
-) -> Result<Vec<Match>, Fault> {
+pub fn spans(alloc: Global, vm: &PikeVM, input: Input<ChunkCursor>) -> Result<Vec<Match>, Fault> {
     let mut cache = vm.create_cache()?;
+    given(alloc, vm, &mut cache, input)
+}
+
+/// Those that it gives with a cache.
+fn given(
+    alloc: Global,
+    vm: &PikeVM,
+    cache: &mut Cache,
+    input: Input<ChunkCursor>,
+) -> Result<Vec<Match>, Fault>
+    requires { IsCacheOf vm.now.program cache.old }
+{
     let mut found = Vec::new(alloc);
-    for next in pikevm::find_iter(vm, &mut cache, input) {
-        found.push(next?).map_err(|_| Fault::Memory)?;
+    for next in pikevm::find_iter(vm, cache, input) {
+        found.push(next?)?;
     }
     Ok(found)
 }
 
-/// The match that is found next. Where the search is refused, it is asked for once more, with the
-/// same cache, captures and input, and that is told.
+/// The match that comes next where the last one ended. Where the search is refused, it is asked for
+/// once more, with the same cache, captures and input, and that is told.
 fn next_or_again(
     out: &mut String,
     vm: &PikeVM,
@@ -158,14 +145,63 @@ fn next_or_again(
     ensures groups { caps.new.groups ≡ vm.now.groups }
     ensures slots { 2 * length vm.now.groups ≤ length caps.new.slots }
 {
-    if let Ok(found) = next_match(vm, cache, input, caps, last) {
+    start_at(input, last);
+    if let Ok(found) = match_behind(vm, cache, input, caps, last) {
         return Ok(found);
     }
     out.push_str(" again")?;
-    Ok(next_match(vm, cache, input, caps, last)?)
+    Ok(match_behind(vm, cache, input, caps, last)?)
 }
 
-/// The match that is found from the end of the last one on. An empty one there is passed over.
+/// Has an input start where the last match ended.
+fn start_at(input: &mut Input<ChunkCursor>, last: Option<usize>) {
+    if let Some(last) = last
+        && last <= input.end()
+    {
+        input.set_start(last);
+    }
+}
+
+/// The first match, or the one that comes behind a match that ended there.
+fn match_behind(
+    vm: &PikeVM,
+    cache: &mut Cache,
+    input: &mut Input<ChunkCursor>,
+    caps: &mut Captures,
+    last: Option<usize>,
+) -> Result<Option<Match>, MatchError>
+    requires made { IsCacheOf vm.now.program cache.old }
+    requires groups { caps.old.groups ≡ vm.now.groups }
+    requires slots { 2 * length vm.now.groups ≤ length caps.old.slots }
+    ensures made { IsCacheOf vm.now.program cache.new }
+    ensures groups { caps.new.groups ≡ vm.now.groups }
+    ensures slots { 2 * length vm.now.groups ≤ length caps.new.slots }
+{
+    if last.is_none() {
+        return first_match(vm, cache, input, caps);
+    }
+    next_match(vm, cache, input, caps, last)
+}
+
+/// The first match.
+fn first_match(
+    vm: &PikeVM,
+    cache: &mut Cache,
+    input: &mut Input<ChunkCursor>,
+    caps: &mut Captures,
+) -> Result<Option<Match>, MatchError>
+    requires made { IsCacheOf vm.now.program cache.old }
+    requires groups { caps.old.groups ≡ vm.now.groups }
+    requires slots { 2 * length vm.now.groups ≤ length caps.old.slots }
+    ensures made { IsCacheOf vm.now.program cache.new }
+    ensures groups { caps.new.groups ≡ vm.now.groups }
+    ensures slots { 2 * length vm.now.groups ≤ length caps.new.slots }
+{
+    pikevm::search(vm, cache, input, caps)?;
+    Ok(caps.get_match())
+}
+
+/// The match that comes next.
 fn next_match(
     vm: &PikeVM,
     cache: &mut Cache,
@@ -180,38 +216,7 @@ fn next_match(
     ensures groups { caps.new.groups ≡ vm.now.groups }
     ensures slots { 2 * length vm.now.groups ≤ length caps.new.slots }
 {
-    let start = last.unwrap_or(input.start());
-    let found = find_from(vm, cache, input, caps, start)?;
-    let is_passed = match found {
-        Some(found) => found.is_empty() && last == Some(found.end()),
-        None => false,
-    };
-    if is_passed {
-        return find_from(vm, cache, input, caps, start.saturating_add(1));
-    }
-    Ok(found)
-}
-
-/// The match that is found from a place on, if the span goes so far.
-fn find_from(
-    vm: &PikeVM,
-    cache: &mut Cache,
-    input: &mut Input<ChunkCursor>,
-    caps: &mut Captures,
-    start: usize,
-) -> Result<Option<Match>, MatchError>
-    requires made { IsCacheOf vm.now.program cache.old }
-    requires groups { caps.old.groups ≡ vm.now.groups }
-    requires slots { 2 * length vm.now.groups ≤ length caps.old.slots }
-    ensures made { IsCacheOf vm.now.program cache.new }
-    ensures groups { caps.new.groups ≡ vm.now.groups }
-    ensures slots { 2 * length vm.now.groups ≤ length caps.new.slots }
-{
-    if start > input.end() {
-        return Ok(None);
-    }
-    input.set_start(start);
-    pikevm::search(vm, cache, input, caps)?;
+    pikevm::search_next(vm, cache, input, caps, last)?;
     Ok(caps.get_match())
 }
 
@@ -222,17 +227,14 @@ pub fn tell(alloc: Global, out: &mut String, caps: &Captures) -> Result<(), Allo
     }
     let pattern = caps.pattern().unwrap_or(PatternID::ZERO);
     if caps.group_info().pattern_len() > 1 {
-        out.push_str(format!(in alloc; "{}:", pattern.as_usize())?.as_str())?;
+        write!(out, "{}:", pattern.as_usize())?;
     }
     for group in 0..caps.group_info().group_len(pattern) {
         if group > 0 {
             out.push(',')?;
         }
         match caps.get_group(group) {
-            Some(span) => {
-                let places = format!(in alloc; "{}-{}", span.start, span.end)?;
-                out.push_str(places.as_str())?;
-            }
+            Some(span) => write!(out, "{}-{}", span.start, span.end)?,
             None => out.push('-')?,
         }
     }

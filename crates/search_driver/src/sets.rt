@@ -14,9 +14,7 @@ const HAYSTACK: usize = 7;
 
 /// The automaton of the first set in a line's pattern.
 fn automaton(alloc: Global, fields: &Fields) -> Result<Rc<SetAutomaton>, Fault> {
-    let Ok(program) = compiled(alloc, fields)? else {
-        return Err(Fault::Line);
-    };
+    let program = compiled(alloc, fields)?;
     for state in program.states() {
         if let State::Ranges(automaton, _) = state {
             return Ok(automaton.clone()?);
@@ -25,26 +23,32 @@ fn automaton(alloc: Global, fields: &Fields) -> Result<Rc<SetAutomaton>, Fault> 
     Err(Fault::Line)
 }
 
+/// How many ranges of bytes an automaton has.
+fn range_count(automaton: &SetAutomaton) -> usize {
+    let mut ranges: usize = 0;
+    for state in 0..automaton.state_count() {
+        ranges = ranges.saturating_add(automaton.row(state).len());
+    }
+    ranges
+}
+
+/// How many one has that reads backwards.
+fn range_count_back(automaton: &ReverseAutomaton) -> usize {
+    let mut ranges: usize = 0;
+    for state in 0..automaton.state_count() {
+        ranges = ranges.saturating_add(automaton.row(state).len());
+    }
+    ranges
+}
+
 /// How many states and ranges of bytes the automaton of a pattern's set has, and how many its
 /// reverse has.
 pub fn sizes(alloc: Global, fields: &Fields) -> Result<String, Fault> {
     let automaton = automaton(alloc, fields)?;
     let back = automaton.reversed(alloc)?;
-    let mut ranges: usize = 0;
-    for state in 0..automaton.state_count() {
-        ranges = ranges.saturating_add(automaton.row(state).len());
-    }
-    let mut back_ranges: usize = 0;
-    for state in 0..back.state_count() {
-        back_ranges = back_ranges.saturating_add(back.row(state).len());
-    }
-    Ok(format!(in alloc;
-        "{} {} {} {}",
-        automaton.state_count(),
-        ranges,
-        back.state_count(),
-        back_ranges
-    )?)
+    let (states, ranges) = (automaton.state_count(), range_count(&automaton));
+    let (back_states, back_ranges) = (back.state_count(), range_count_back(&back));
+    Ok(format!(in alloc; "{states} {ranges} {back_states} {back_ranges}")?)
 }
 
 /// How many of the last bytes the automaton takes, as a digit.
@@ -67,9 +71,13 @@ fn taken(automaton: &ReverseAutomaton, bytes: &[u8]) -> char {
 pub fn back(alloc: Global, fields: &Fields) -> Result<String, Fault> {
     let back = automaton(alloc, fields)?.reversed(alloc)?;
     let haystack = haystack(alloc, fields, HAYSTACK)?;
+    all_taken(alloc, &back, &haystack)
+}
+
+fn all_taken(alloc: Global, back: &ReverseAutomaton, haystack: &[u8]) -> Result<String, Fault> {
     let mut out = String::new(alloc);
     for place in 0..=haystack.len() {
-        out.push(taken(&back, &haystack[..place]))?;
+        out.push(taken(back, &haystack[..place]))?;
     }
     Ok(out)
 }

@@ -4,13 +4,11 @@ ghost use Rattle.std.specs.Prelude.{◌^◌, ◌<◌, length};
 ghost use Rattle.rx_input.specs.Chunks.{joined};
 
 use crate::fields::{Fault, Fields};
-use crate::haystacks::{Asked, haystack, input, pieces};
-use crate::searches::{ASKED, CUT, HAYSTACK, tell};
-use crate::several::{listed, texts};
+use crate::haystacks::{input, input_of};
+use crate::several::{end_of, listed, texts, told};
 use regex_cursor::engines::meta::{Builder, Config, Regex};
-use regex_cursor::{BuildError, HalfMatch, Match, MatchKind, Prefilter, WhichCaptures};
-use rx_input::ChunkCursor;
-use std::alloc::Global;
+use regex_cursor::{BuildError, HalfMatch, MatchKind, Prefilter, WhichCaptures};
+use std::alloc::{AllocError, Global};
 
 /// Where the settings stand of the regex, behind what is asked for.
 const SET: usize = 13;
@@ -99,38 +97,43 @@ fn builder(alloc: Global, fields: &Fields) -> Result<Builder, Fault> {
     Ok(builder.clone()?)
 }
 
-/// All matches, parted by blanks, each as the number of its pattern and its groups, under settings.
-pub fn matches(alloc: Global, fields: &Fields) -> Result<String, Fault> {
+/// The regex of a line's patterns under its settings, or why there is none.
+fn built(alloc: Global, fields: &Fields) -> Result<Result<Regex, BuildError>, Fault> {
     let texts = texts(alloc, fields)?;
-    let re = builder(alloc, fields)?.build_many(alloc, &listed(alloc, &texts)?)?;
-    let haystack = haystack(alloc, fields, HAYSTACK)?;
-    let pieces = pieces(alloc, &haystack, fields.word(CUT))?;
-    told(alloc, &re, &pieces, &Asked::read(fields, ASKED))
+    let builder = builder(alloc, fields)?;
+    Ok(builder.build_many(alloc, &listed(alloc, &texts)?))
 }
 
-/// All matches, the first of which the other calls must tell too.
-fn told(alloc: Global, re: &Regex, pieces: &[&[u8]], asked: &Option<Asked>) -> Result<String, Fault>
-    requires { length (joined pieces.now) < 2 ^ 63 }
-{
-    let first = re.find(input(pieces, asked))?;
-    if ends(re, pieces, asked)? != first.map(end_of) {
-        return Err(Fault::Differs);
-    }
-    let mut out = String::new(alloc);
-    for caps in re.captures_iter(input(pieces, asked))? {
-        tell(alloc, &mut out, &caps?)?;
-    }
-    Ok(out)
+/// The regex, if there is one.
+fn regex(alloc: Global, fields: &Fields) -> Result<Regex, Fault> {
+    Ok(built(alloc, fields)??)
 }
 
-/// The pattern and the end of the first match, as both calls must tell them.
-fn ends(re: &Regex, pieces: &[&[u8]], asked: &Option<Asked>) -> Result<Option<HalfMatch>, Fault>
+/// All matches, parted by blanks, each as the number of its pattern and its groups, under settings,
+/// the first of which the other calls must tell too.
+pub fn matches(alloc: Global, fields: &Fields, pieces: &[&[u8]]) -> Result<String, Fault>
     requires { length (joined pieces.now) < 2 ^ 63 }
 {
-    let half = re.search_half(input(pieces, asked))?;
+    let re = regex(alloc, fields)?;
+    let first = re.find(input_of(pieces, fields))?;
+    ends_there(&re, pieces, fields, end_of(&first))?;
+    told(alloc, &re, input_of(pieces, fields))
+}
+
+/// Whether two calls tell this pattern and this end of the first match.
+fn ends_there(
+    re: &Regex,
+    pieces: &[&[u8]],
+    fields: &Fields,
+    end: Option<HalfMatch>,
+) -> Result<(), Fault>
+    requires { length (joined pieces.now) < 2 ^ 63 }
+{
+    let half = re.search_half(input_of(pieces, fields))?;
     let mut cache = re.create_cache()?;
-    if re.search_half_with(&mut cache, &mut input(pieces, asked))? == half {
-        Ok(half)
+    let other = re.search_half_with(&mut cache, &mut input_of(pieces, fields))?;
+    if half == end && other == end {
+        Ok(())
     } else {
         Err(Fault::Differs)
     }
@@ -139,82 +142,69 @@ fn ends(re: &Regex, pieces: &[&[u8]], asked: &Option<Asked>) -> Result<Option<Ha
 /// How many patterns and groups there are, how many of these stand in each match, how many slots
 /// there are, and whether literals are looked for; or why patterns have no regex.
 pub fn counts(alloc: Global, fields: &Fields) -> Result<String, Fault> {
-    let texts = texts(alloc, fields)?;
-    match builder(alloc, fields)?.build_many(alloc, &listed(alloc, &texts)?) {
-        Ok(re) => {
-            let (patterns, groups) = (re.pattern_len(), re.captures_len());
-            let (each, slots) = (re.static_captures_len(), re.group_info().slot_len());
-            let accelerated = re.is_accelerated();
-            Ok(format!(in alloc; "{patterns} {groups} {each:?} {slots} {accelerated}")?)
-        }
+    match built(alloc, fields)? {
+        Ok(re) => counted(alloc, &re),
         Err(error) => refused(alloc, &error),
     }
 }
 
-/// How many groups stand in each match.
-pub fn each_match(alloc: Global, fields: &Fields) -> Result<String, Fault> {
-    let texts = texts(alloc, fields)?;
-    let re = builder(alloc, fields)?.build_many(alloc, &listed(alloc, &texts)?)?;
-    let each = re.static_captures_len();
-    Ok(format!(in alloc; "{each:?}")?)
+fn counted(alloc: Global, re: &Regex) -> Result<String, Fault> {
+    let (patterns, groups) = (re.pattern_len(), re.captures_len());
+    let (each, slots) = (re.static_captures_len(), re.group_info().slot_len());
+    let accelerated = re.is_accelerated();
+    Ok(format!(in alloc; "{patterns} {groups} {each:?} {slots} {accelerated}")?)
 }
 
 /// Why patterns have no regex: the error, the first pattern whose text is refused, and the limit.
 fn refused(alloc: Global, error: &BuildError) -> Result<String, Fault> {
-    let pattern = error.pattern().map(|pattern| pattern.as_usize());
+    let pattern = match error.pattern() {
+        Some(pattern) => Some(pattern.as_usize()),
+        None => None,
+    };
     let limit = error.size_limit();
     Ok(format!(in alloc; "{error}, {pattern:?}, {limit:?}")?)
 }
 
-/// What the getters tell of the settings that a regex of no pattern was built under.
+/// What the getters tell of the settings that a regex was built under.
 pub fn getters(alloc: Global, fields: &Fields) -> Result<String, Fault> {
-    let re = builder(alloc, fields)?.build_many(alloc, &[])?;
+    let re = regex(alloc, fields)?;
     let config = re.get_config().clone()?;
-    let mut out = flags(alloc, &config)?;
-    out.push_str(&limits(alloc, &config)?)?;
+    let mut out = String::new(alloc);
+    tell_flags(&mut out, &config)?;
+    tell_limits(&mut out, &config)?;
     Ok(out)
 }
 
 /// What those getters tell that answer yes or no, or one of few.
-fn flags(alloc: Global, config: &Config) -> Result<String, Fault> {
+fn tell_flags(out: &mut String, config: &Config) -> Result<(), AllocError> {
     let prefilter = config.get_prefilter().is_some();
     let (kind, which) = (config.get_match_kind(), config.get_which_captures());
     let (utf8_empty, auto) = (config.get_utf8_empty(), config.get_auto_prefilter());
-    let (classes, hybrid, dfa) = (
-        config.get_byte_classes(),
-        config.get_hybrid(),
-        config.get_dfa(),
-    );
-    let engines = format!(in alloc; "{classes} {hybrid} {dfa}")?;
-    Ok(format!(in alloc; "{kind:?} {utf8_empty} {auto} {prefilter} {which:?} {engines} ")?)
+    write!(out, "{kind:?} {utf8_empty} {auto} {prefilter} {which:?} ")?;
+    let (hybrid, dfa) = (config.get_hybrid(), config.get_dfa());
+    write!(out, "{} {hybrid} {dfa} ", config.get_byte_classes())
 }
 
 /// What those getters tell that answer numbers.
-fn limits(alloc: Global, config: &Config) -> Result<String, Fault> {
+fn tell_limits(out: &mut String, config: &Config) -> Result<(), AllocError> {
     let (nfa, capacity) = (
         config.get_nfa_size_limit(),
         config.get_hybrid_cache_capacity(),
     );
     let (size, state) = (config.get_dfa_size_limit(), config.get_dfa_state_limit());
     let byte = config.get_line_terminator();
-    Ok(format!(in alloc; "{nfa:?} {capacity} {size:?} {state:?} {byte}")?)
+    write!(out, "{nfa:?} {capacity} {size:?} {state:?} {byte}")
 }
 
 /// About how many bytes the tables of a regex take, and what a cache takes before a search and
 /// behind it.
-pub fn usage(alloc: Global, fields: &Fields) -> Result<String, Fault> {
-    let texts = texts(alloc, fields)?;
-    let re = builder(alloc, fields)?.build_many(alloc, &listed(alloc, &texts)?)?;
-    let haystack = haystack(alloc, fields, HAYSTACK)?;
-    let pieces = pieces(alloc, &haystack, fields.word(CUT))?;
+pub fn usage(alloc: Global, fields: &Fields, pieces: &[&[u8]]) -> Result<String, Fault>
+    requires { length (joined pieces.now) < 2 ^ 63 }
+{
+    let re = regex(alloc, fields)?;
     let mut cache = re.create_cache()?;
     let before = cache.memory_usage();
-    re.search_with(&mut cache, &mut input(&pieces, &None))?;
+    re.search_with(&mut cache, &mut input(pieces, &None))?;
     let tables = re.memory_usage();
     Ok(format!(in alloc; "{tables} {before} {}", cache.memory_usage())?)
-}
-
-/// The pattern and the end of a match.
-fn end_of(found: Match) -> HalfMatch {
-    HalfMatch::new(found.pattern(), found.end())
 }

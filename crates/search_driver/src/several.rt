@@ -3,15 +3,14 @@
 ghost use Rattle.std.specs.Prelude.{◌^◌, ◌<◌, length};
 ghost use Rattle.rx_input.specs.Chunks.{joined};
 
-use crate::every::{borrowed, spelled};
 use crate::fields::{Fault, Fields};
-use crate::haystacks::{Asked, haystack, input, pieces};
-use crate::searches::{ASKED, CUT, HAYSTACK, tell};
+use crate::haystacks::input_of;
+use crate::searches::tell;
 use crate::whole_matches;
 use regex_cursor::engines::meta::Regex;
 use regex_cursor::engines::pikevm::{self, PikeVM};
 use regex_cursor::engines::{dfa, hybrid};
-use regex_cursor::{HalfMatch, Hir, Input, Match, MatchError};
+use regex_cursor::{HalfMatch, Input, Match, MatchError, NonMaxUsize, PatternID};
 use rx_input::ChunkCursor;
 use std::alloc::Global;
 
@@ -22,8 +21,7 @@ pub fn texts(alloc: Global, fields: &Fields) -> Result<Vec<String>, Fault> {
         return Ok(all);
     }
     for digits in fields.word(1).split('.') {
-        all.push(Fields::text(alloc, digits)?)
-            .map_err(|_| Fault::Memory)?;
+        all.push(Fields::text(alloc, digits)?)?;
     }
     Ok(all)
 }
@@ -32,150 +30,161 @@ pub fn texts(alloc: Global, fields: &Fields) -> Result<Vec<String>, Fault> {
 pub fn listed<'t>(alloc: Global, texts: &'t [String]) -> Result<Vec<&'t str>, Fault> {
     let mut listed = Vec::new(alloc);
     for text in texts {
-        listed.push(text.as_str()).map_err(|_| Fault::Memory)?;
+        listed.push(text.as_str())?;
     }
     Ok(listed)
 }
 
-/// All matches, parted by blanks, each as the number of its pattern and its groups. Each engine
-/// must find the first of them, or be refused, and those over automata all.
-pub fn matches(alloc: Global, fields: &Fields) -> Result<String, Fault> {
-    let texts = texts(alloc, fields)?;
-    let patterns = listed(alloc, &texts)?;
-    in_haystack(alloc, fields, &patterns)
+/// The pattern and the end of a match.
+pub fn end_of(found: &Option<Match>) -> Option<HalfMatch> {
+    match found {
+        Some(found) => Some(HalfMatch::new(found.pattern(), found.end())),
+        None => None,
+    }
 }
 
-fn in_haystack(alloc: Global, fields: &Fields, patterns: &[&str]) -> Result<String, Fault> {
-    let haystack = haystack(alloc, fields, HAYSTACK)?;
-    let pieces = pieces(alloc, &haystack, fields.word(CUT))?;
-    let asked = Asked::read(fields, ASKED);
-    // It asks first how large the patterns are.
-    let (found, told) = by_regex(alloc, patterns, &pieces, &asked)?;
+/// The pattern of a match.
+pub fn pattern_of(found: &Option<Match>) -> Option<PatternID> {
+    match found {
+        Some(found) => Some(found.pattern()),
+        None => None,
+    }
+}
+
+/// The regex of a line's patterns.
+pub fn regex_of(alloc: Global, fields: &Fields) -> Result<Regex, Fault> {
+    let texts = texts(alloc, fields)?;
+    let re = Regex::new_many(alloc, &listed(alloc, &texts)?)?;
+    if re.pattern_len() == texts.len() {
+        Ok(re)
+    } else {
+        Err(Fault::Differs)
+    }
+}
+
+/// All matches, parted by blanks, each as the number of its pattern and its groups. Each engine
+/// must find the first of them, or be refused, and those over automata all.
+pub fn matches(alloc: Global, fields: &Fields, pieces: &[&[u8]]) -> Result<String, Fault>
+    requires { length (joined pieces.now) < 2 ^ 63 }
+{
+    let re = regex_of(alloc, fields)?;
+    let found = found_by(alloc, &re, pieces, fields)?;
     agree_all(
         alloc,
         fields,
-        patterns,
-        &pieces,
-        &asked,
-        found.first().copied(),
+        &mut input_of(pieces, fields),
+        &found.first().copied(),
     )?;
-    whole_matches::lazy_agrees(alloc, patterns, &pieces, &asked, &found)?;
-    whole_matches::dense_agrees(alloc, patterns, &pieces, &asked, &found)?;
-    Ok(told)
+    whole_matches::lazy_agrees(alloc, fields, pieces, &found)?;
+    whole_matches::dense_agrees(alloc, fields, pieces, &found)?;
+    told(alloc, &re, input_of(pieces, fields))
 }
 
-/// All matches by a `Regex`, the first of which the PikeVM must find too, and what is told of them.
-fn by_regex(
+/// All matches by a `Regex`, as three calls must tell them.
+fn found_by(
     alloc: Global,
-    patterns: &[&str],
+    re: &Regex,
     pieces: &[&[u8]],
-    asked: &Option<Asked>,
-) -> Result<(Vec<Match>, String), Fault>
+    fields: &Fields,
+) -> Result<Vec<Match>, Fault>
     requires { length (joined pieces.now) < 2 ^ 63 }
 {
-    let re = Regex::new_many(alloc, patterns)?;
-    let first = re.find(input(pieces, asked))?;
-    if re.pattern_len() != patterns.len()
-        || first_by_pikevm(alloc, patterns, &mut input(pieces, asked))? != first
-    {
-        return Err(Fault::Differs);
-    }
-    let found = whole_matches::listed(alloc, &re, input(pieces, asked))?;
+    let first = re.find(input_of(pieces, fields))?;
+    notes(re, input_of(pieces, fields), &first)?;
+    let found = whole_matches::listed(alloc, re, input_of(pieces, fields))?;
     if found.first().copied() != first {
         return Err(Fault::Differs);
     }
-    whole_matches::notes(&re, input(pieces, asked), first)?;
-    Ok((found, told(alloc, &re, input(pieces, asked))?))
+    Ok(found)
 }
 
-/// Whether automata of these patterns find the same match, and those of what they spell come to its
-/// end.
+/// Where a match lies, as two slots have it, if it is of the first pattern.
+fn places_of(found: &Option<Match>) -> [Option<NonMaxUsize>; 2] {
+    match found {
+        Some(found) if found.pattern() == PatternID::ZERO => {
+            [
+                NonMaxUsize::new(found.start()),
+                NonMaxUsize::new(found.end()),
+            ]
+        }
+        _ => [None; 2],
+    }
+}
+
+/// Whether a `Regex` notes this match in two slots, if it is of the first pattern.
+fn notes(re: &Regex, input: Input<ChunkCursor>, first: &Option<Match>) -> Result<(), Fault> {
+    let mut slots = [None; 2];
+    let pattern = re.search_slots(input, &mut slots)?;
+    if pattern == pattern_of(first) && slots == places_of(first) {
+        Ok(())
+    } else {
+        Err(Fault::Differs)
+    }
+}
+
+/// Whether the other engines find this first match too.
 fn agree_all(
     alloc: Global,
     fields: &Fields,
-    patterns: &[&str],
-    pieces: &[&[u8]],
-    asked: &Option<Asked>,
-    first: Option<Match>,
-) -> Result<(), Fault>
-    requires { length (joined pieces.now) < 2 ^ 63 }
-{
-    let trees = spelled(alloc, fields)?;
-    agree(
-        first,
-        by_hybrid(alloc, patterns, &mut input(pieces, asked))?,
-    )?;
-    agree(first, by_dfa(alloc, patterns, &mut input(pieces, asked))?)?;
-    let end = first.map(|found| HalfMatch::new(found.pattern(), found.end()));
-    agree(end, by_trees(alloc, &trees, &mut input(pieces, asked))?)?;
-    agree(
-        end,
-        by_trees_at_once(alloc, &trees, &mut input(pieces, asked))?,
-    )
+    input: &mut Input<ChunkCursor>,
+    first: &Option<Match>,
+) -> Result<(), Fault> {
+    let texts = texts(alloc, fields)?;
+    let patterns = listed(alloc, &texts)?;
+    by_pikevm(&PikeVM::new_many(alloc, &patterns)?, input, first)?;
+    by_hybrid(&hybrid::Regex::new_many(alloc, &patterns)?, input, first)?;
+    by_dfa(&dfa::Regex::new_many(alloc, &patterns)?, input, first)
 }
 
-/// Whether an automaton that wasn't refused answered the same.
+/// Whether an engine answered the same, if it wasn't refused.
 fn agree<A: PartialEq + Copy>(
-    wanted: Option<A>,
+    wanted: &Option<A>,
     told: Result<Option<A>, MatchError>,
 ) -> Result<(), Fault> {
     match told {
-        Ok(found) if found != wanted => Err(Fault::Differs),
+        Ok(found) if found != *wanted => Err(Fault::Differs),
         Err(MatchError::Memory) => Err(Fault::Memory),
         _ => Ok(()),
     }
 }
 
-fn first_by_pikevm(
-    alloc: Global,
-    patterns: &[&str],
+fn by_pikevm(
+    vm: &PikeVM,
     input: &mut Input<ChunkCursor>,
-) -> Result<Option<Match>, Fault> {
-    let vm = PikeVM::new_many(alloc, patterns)?;
+    first: &Option<Match>,
+) -> Result<(), Fault> {
     let mut cache = vm.create_cache()?;
-    Ok(pikevm::find(&vm, &mut cache, input)?)
+    if pikevm::find(vm, &mut cache, input)? == *first {
+        Ok(())
+    } else {
+        Err(Fault::Differs)
+    }
 }
 
 fn by_hybrid(
-    alloc: Global,
-    patterns: &[&str],
+    re: &hybrid::Regex,
     input: &mut Input<ChunkCursor>,
-) -> Result<Result<Option<Match>, MatchError>, Fault> {
-    let re = hybrid::Regex::new_many(alloc, patterns)?;
+    first: &Option<Match>,
+) -> Result<(), Fault> {
     let mut cache = re.create_cache()?;
-    Ok(hybrid::find(&re, &mut cache, input))
+    agree(first, hybrid::find(re, &mut cache, input))?;
+    agree(
+        &end_of(first),
+        hybrid::try_search_fwd(re, &mut cache, input),
+    )
 }
 
 fn by_dfa(
-    alloc: Global,
-    patterns: &[&str],
+    re: &dfa::Regex,
     input: &mut Input<ChunkCursor>,
-) -> Result<Result<Option<Match>, MatchError>, Fault> {
-    let re = dfa::Regex::new_many(alloc, patterns)?;
-    Ok(dfa::find(&re, input))
-}
-
-fn by_trees(
-    alloc: Global,
-    trees: &[Hir],
-    input: &mut Input<ChunkCursor>,
-) -> Result<Result<Option<HalfMatch>, MatchError>, Fault> {
-    let re = hybrid::Regex::build_from_hirs(alloc, &borrowed(alloc, trees)?)?;
-    let mut cache = re.create_cache()?;
-    Ok(hybrid::try_search_fwd(&re, &mut cache, input))
-}
-
-fn by_trees_at_once(
-    alloc: Global,
-    trees: &[Hir],
-    input: &mut Input<ChunkCursor>,
-) -> Result<Result<Option<HalfMatch>, MatchError>, Fault> {
-    let re = dfa::Regex::build_from_hirs(alloc, &borrowed(alloc, trees)?)?;
-    Ok(dfa::try_search_fwd(&re, input))
+    first: &Option<Match>,
+) -> Result<(), Fault> {
+    agree(first, dfa::find(re, input))?;
+    agree(&end_of(first), dfa::try_search_fwd(re, input))
 }
 
 /// All matches, as `captures_iter` gives them.
-fn told<'r>(alloc: Global, re: &'r Regex, input: Input<ChunkCursor>) -> Result<String, Fault> {
+pub fn told(alloc: Global, re: &Regex, input: Input<ChunkCursor>) -> Result<String, Fault> {
     let mut out = String::new(alloc);
     for caps in re.captures_iter(input)? {
         tell(alloc, &mut out, &caps?)?;

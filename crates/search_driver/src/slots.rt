@@ -1,10 +1,13 @@
 //! What one search notes in slots.
 
+ghost use Rattle.std.specs.Prelude.{◌^◌, ◌<◌, length};
+ghost use Rattle.rx_input.specs.Chunks.{joined};
+
 use crate::fields::{Fault, Fields};
-use crate::haystacks::{Asked, haystack, input, pieces};
-use crate::searches::{ASKED, CUT, HAYSTACK, engine};
+use crate::haystacks::input_of;
+use crate::searches::engine;
 use rx_chunk::pikevm::{self, PikeVM};
-use rx_input::{Cursor, Input};
+use rx_input::{ChunkCursor, Input};
 use rx_util::{Captures, MatchError, NonMaxUsize, PatternID};
 use std::alloc::{AllocError, Global};
 
@@ -21,74 +24,99 @@ fn used_slots(alloc: Global, count: usize) -> Result<Vec<Option<NonMaxUsize>>, A
 }
 
 /// Searches by an engine, with a cache of its own.
-fn note<C: Cursor>(
+fn note(
     vm: &PikeVM,
-    input: &mut Input<C>,
+    input: &mut Input<ChunkCursor>,
     slots: &mut [Option<NonMaxUsize>],
 ) -> Result<Option<PatternID>, MatchError> {
     pikevm::search_slots(vm, &mut vm.create_cache()?, input, slots)
 }
 
-/// What one search notes in so many slots, and the pattern that it finds.
-fn noted_slots(
-    alloc: Global,
-    fields: &Fields,
-    haystack: &[u8],
-) -> Result<(Option<PatternID>, Vec<Option<NonMaxUsize>>), Fault> {
-    let mut slots = used_slots(alloc, fields.number(COUNT).unwrap_or(0))?;
-    let pieces = pieces(alloc, haystack, fields.word(CUT))?;
-    let mut input = input(&pieces, &Asked::read(fields, ASKED));
-    let pattern = note(&engine(alloc, fields)?, &mut input, &mut slots)?;
-    Ok((pattern, slots))
+/// Whether two slots hold the places of the whole match, as captures have it.
+fn hold_whole(caps: &Captures, start: Option<NonMaxUsize>, end: Option<NonMaxUsize>) -> bool {
+    match (caps.get_group(0), start, end) {
+        (Some(span), Some(start), Some(end)) => span.start == start.get() && span.end == end.get(),
+        (None, None, None) => true,
+        _ => false,
+    }
 }
 
-/// The pattern of the match that is found, or `none`, and each slot's place, or a dash.
-pub fn noted(alloc: Global, fields: &Fields) -> Result<String, Fault> {
-    let (pattern, slots) = noted_slots(alloc, fields, &haystack(alloc, fields, HAYSTACK)?)?;
-    let mut out = match pattern {
-        Some(pattern) => format!(in alloc; "{}", pattern.as_usize())?,
-        None => String::from_str(alloc, "none")?,
+/// Whether captures that have slots for whole matches alone note this pattern, and what stands in
+/// these slots of the whole match; and no group.
+fn are_alike(caps: &Captures, pattern: &Option<PatternID>, slots: &[Option<NonMaxUsize>]) -> bool {
+    let is_whole = match slots {
+        [start, end, ..] => hold_whole(caps, *start, *end),
+        _ => true,
     };
-    tell(alloc, &mut out, &slots)?;
+    is_whole && caps.pattern() == *pattern && caps.get_group(1).is_none()
+}
+
+/// Searches for such captures.
+fn capture(
+    vm: &PikeVM,
+    input: &mut Input<ChunkCursor>,
+    caps: &mut Captures,
+) -> Result<(), MatchError> {
+    pikevm::search(vm, &mut vm.create_cache()?, input, caps)
+}
+
+/// Whether they tell the same as slots.
+fn agree(
+    alloc: Global,
+    vm: &PikeVM,
+    input: &mut Input<ChunkCursor>,
+    pattern: &Option<PatternID>,
+    slots: &[Option<NonMaxUsize>],
+) -> Result<(), Fault> {
+    let mut caps = Captures::matches(alloc, vm.group_info())?;
+    capture(vm, input, &mut caps)?;
+    if are_alike(&caps, pattern, slots) {
+        Ok(())
+    } else {
+        Err(Fault::Differs)
+    }
+}
+
+/// The pattern of the match that is found, or `none`, and each slot's place, or a dash. Captures
+/// for whole matches alone must tell the same.
+pub fn noted(alloc: Global, fields: &Fields, pieces: &[&[u8]]) -> Result<String, Fault>
+    requires { length (joined pieces.now) < 2 ^ 63 }
+{
+    let vm = engine(alloc, fields)?;
+    let mut slots = used_slots(alloc, fields.number(COUNT).unwrap_or(0))?;
+    let pattern = note(&vm, &mut input_of(&*pieces, fields), &mut slots)?;
+    agree(
+        alloc,
+        &vm,
+        &mut input_of(&*pieces, fields),
+        &pattern,
+        &slots,
+    )?;
+    told(alloc, pattern, &slots)
+}
+
+/// What is told of them.
+fn told(
+    alloc: Global,
+    pattern: Option<PatternID>,
+    slots: &[Option<NonMaxUsize>],
+) -> Result<String, Fault> {
+    let mut out = String::new(alloc);
+    match pattern {
+        Some(pattern) => write!(out, "{}", pattern.as_usize())?,
+        None => out.push_str("none")?,
+    }
+    tell(&mut out, slots)?;
     Ok(out)
 }
 
 /// Writes what is noted in each slot.
-pub fn tell(
-    alloc: Global,
-    out: &mut String,
-    slots: &[Option<NonMaxUsize>],
-) -> Result<(), AllocError> {
+pub fn tell(out: &mut String, slots: &[Option<NonMaxUsize>]) -> Result<(), AllocError> {
     for slot in slots {
         match slot {
-            Some(place) => out.push_str(&format!(in alloc; " {}", place.get())?)?,
+            Some(place) => write!(out, " {}", place.get())?,
             None => out.push_str(" -")?,
         }
     }
     Ok(())
-}
-
-/// Searches by an engine, with a cache of its own and slots for whole matches alone.
-fn capture<C: Cursor>(
-    alloc: Global,
-    vm: &PikeVM,
-    input: &mut Input<C>,
-) -> Result<Captures, MatchError> {
-    let mut caps = Captures::matches(alloc, vm.group_info())?;
-    pikevm::search(vm, &mut vm.create_cache()?, input, &mut caps)?;
-    Ok(caps)
-}
-
-/// Where the first match is, by slots for whole matches alone, and whether group 1 is told, or
-/// `none`.
-pub fn captured(alloc: Global, fields: &Fields) -> Result<String, Fault> {
-    let haystack = haystack(alloc, fields, HAYSTACK)?;
-    let pieces = pieces(alloc, &haystack, fields.word(CUT))?;
-    let mut input = input(&pieces, &Asked::read(fields, ASKED));
-    let caps = capture(alloc, &engine(alloc, fields)?, &mut input)?;
-    let group = caps.get_group(1).is_some();
-    match caps.get_group(0) {
-        Some(span) => Ok(format!(in alloc; "{}-{} {group}", span.start, span.end)?),
-        None => Ok(String::from_str(alloc, "none")?),
-    }
 }

@@ -3,4 +3,4 @@ use Rattle.search_driver.proofs.automata.answer_after.Given as goal
 
 -- the cache serves the engine
 abbrev pub invariant-loop : goal.invariant-loop
-invariant-loop g l = IsHybridCacheOf l.re l.cache
+invariant-loop l = IsHybridCacheOf l.re l.cache

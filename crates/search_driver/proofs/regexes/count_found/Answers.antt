@@ -1,4 +1,3 @@
-use Rattle.std.proofs.Common.{◌<◌, ◌^◌}
 use Rattle.search_driver.proofs.FewLemmas.{few_behind, fewer}
 use Rattle.search_driver.proofs.regexes.count_found.Goals as goal
 
