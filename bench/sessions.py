@@ -29,6 +29,7 @@ from processes import (
 from texts import TOP, lines_of, source_text
 
 UNDO = b"undo\n"
+CALLED = r"y\(\w+"  # under which the library's calls are measured
 LITERALS = ["let", "e", "xyz"]  # in about three lines of ten, in nearly each and in none
 EXPRESSIONS = [r"\w+\s*=>\s*\w+", "(?i)todo|error", "[0-9]+|0x[0-9a-f]+"]
 # Patterns that find something in this line alone, which `next` has to reach.
@@ -279,6 +280,18 @@ def told_by(words, **more):
     return [float(line.split()[1]) for line in told.splitlines()]
 
 
+def lines_of_calls(lines):
+    """The text that the library's calls are measured over."""
+    return b"".join(b"line %d of the text: let x = y(a, b);\n" % line for line in range(lines))
+
+
+def by_buffer(folder, lines):
+    """The median of a letter typed in a buffer of `rope_search`, by bin/bench."""
+    words = [os.path.join(TOP, "bin", "bench"), "live", written(folder, "lines", lines_of_calls(lines)), CALLED]
+    told = subprocess.run(words, stdout=subprocess.PIPE, check=True, text=True).stdout
+    return [float(line.split("\t")[1]) for line in told.splitlines() if line.startswith("a letter in a random line\t")][:1]
+
+
 def by_c(folder, lines, edits):
     """The medians of a letter typed, undone, and a window's rows, by a program in C."""
     made = os.path.join(folder, "embedded")
@@ -309,8 +322,8 @@ def by_python(lines, edits):
 
     chance, times = random.Random(7), ([], [], [])
     with rope_search.Session() as session:
-        session.set_text(b"".join(b"line %d of the text: let x = y(a, b);\n" % line for line in range(lines)))
-        session.set_pattern(rb"y\(\w+")
+        session.set_text(lines_of_calls(lines))
+        session.set_pattern(CALLED.encode())
         for _ in range(edits):
             line = chance.randrange(lines)
             typed, shown = lambda: session.edit((line, 5), (line, 5), b"a"), lambda: session.matches(line, line + 50)
@@ -326,6 +339,7 @@ def embedded(folder, tiny):
     lines, edits = (4_000, 200) if tiny else (400_000, 2_000)
     whats = ("a letter in a random line", "undo", "a window's 50 rows")
     ways = {
+        "in Rattle, a buffer": by_buffer(folder, lines),
         "in C": by_c(folder, lines, edits),
         "in Python": by_python(lines, edits),
         "in LuaJIT": by_lua(lines, edits),

@@ -44,10 +44,6 @@ PATTERNS = {
 }
 
 
-# Patterns of which the page tells nothing.
-NOT_TELLING = r"^(32|16|65,535 |20|a class|65,536 (letters|dots))"
-
-
 def over(texts, *told):
     """A run over each text for each thing told."""
     return [(text, more) for text in texts for more in told or ("",)]
@@ -105,7 +101,7 @@ AIMS = {
         "a typist's letter": "6 us",
         "what a random letter keeps": "3,000 bytes",
     },
-    "embedded": dict.fromkeys(("in C", "in Python", "in LuaJIT"), "1 us above a buffer's own"),
+    "embedded": dict.fromkeys(("in C", "in Python", "in LuaJIT"), "1 us above the buffer"),
     "replace": {sessions.by_template(*replaced[:2]): "the plain program's" for replaced in sessions.REPLACED},
     "next": {f"`{pattern}`": "5 ns" for pattern in sessions.REACHED},
     "enter": {"a break under `let`": "1.2 ms"},
@@ -170,7 +166,7 @@ TOPICS = {
         "a letter typed in a random line, with the report of `y\\(\\w+` in 400,000 lines, its `undo` and the rows of a "
         "window, by the library, its modules, and the program over pipes, which tells no window",
         [sessions.embedded],
-        built=("bin/librope_search.a", "bin/librope_search.so"),
+        built=("bin/bench", "bin/librope_search.a", "bin/librope_search.so"),
     ),
     "replace": Topic(
         "`replace` of all matches in 400,000 lines, with the report of the new text, beside Python's `re.sub`, which "
@@ -191,13 +187,13 @@ TOPICS = {
     "line": Topic(
         "the report of a pattern in one line of 1 MB, and a letter in it, after which the line is searched whole again",
         [sessions.one_line],
-        left_out=": its undo",
+        left_out=": its undo|xyz|todo",
     ),
     "hostile": Topic(
         "the report of a pattern in one line of letters `a`, each of which it matches after a search that reads on to "
-        "the line's end; the plain Rust program, which takes as long as the square, has the shortest line alone",
+        "the line's end; the plain Rust program takes as long as the square",
         [sessions.grow_hostile],
-        left_out=r"program, beside|: 100,000 letters|`(?!a\*b)[^`]+`: 10,000",
+        left_out=r"plain Rust|: 100,000 letters|: 10,000 letters",
     ),
     "indices": Topic(
         "counts and conversions of `str_indices`, beside plain loops",
@@ -207,7 +203,7 @@ TOPICS = {
     "ropes": Topic(
         "building, cloning and asking a rope, a million look-ups of each kind",
         over(sized("ascii", "japanese")),
-        left_out="^japanese, 1 MB|, in a hundredth$|: (byte|char_to_line|line_to_char|chunk_at_byte)$",
+        left_out="^japanese, 1 MB|, in a hundredth$|: (byte|char_to_line|line_to_char|char_to_utf16_cu|chunk_at_byte)$",
     ),
     "memory": Topic(
         "the most memory that a program takes for a text and a rope of it",
@@ -255,7 +251,7 @@ TOPICS = {
         "the command `pattern` for long patterns, and the most memory that the program holds then, above one "
         "without a pattern",
         [functools.partial(sessions.build_patterns, list(built()))],
-        left_out=NOT_TELLING,
+        left_out="",
     ),
     "searches": Topic(
         "all matches by the PikeVM, in one piece and in pieces",
