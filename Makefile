@@ -13,7 +13,8 @@
 #               bin/rope_search.pc for pkg-config; include/rope_search.h declares it
 # make install  puts the program, its manual, the library with its header and modules, and the pages below
 #               PREFIX (/usr/local), or below DESTDIR and that
-# make release  packs the same as bin/rope-search-VERSION-x86_64-linux.tar.gz, for those who don't have the kit
+# make release  packs the same as bin/rope-search-VERSION-x86_64-linux.tar.gz, for those who don't have the kit, with all
+#               pages, the examples and the modules where they are here, so that links lead and the examples run
 # make bench    measures texts, reports, edits, ropes, patterns and searches. TOPICS='NAME ..' names some
 #               of the topics in bench/topics.py; TOPICS=--write puts the figures into bench/RESULTS.md
 # make clean    removes what these made
@@ -91,11 +92,11 @@ bin/rope_search.pc: bin/librope_search.a VERSION
 	@printf 'prefix=%s\nName: rope_search\nDescription: %s\nVersion: %s\nCflags: -I$${prefix}/include\nLibs: -L$${prefix}/bin -lrope_search\n' \
 		'$(CURDIR)' 'a regular expression kept live over a text that is edited' '$(version)' > $@.new && mv $@.new $@
 
-# What is installed, below $(root): the modules look for the library in their own folder first.
+# What is installed, below $(root): there the modules look for the library in lib/.
 root = $(DESTDIR)$(PREFIX)
 pages := README.md CHANGELOG.md LICENSE-APACHE LICENSE-MIT NOTICE docs/protocol.md docs/patterns.md docs/embedding.md
 
-install: $(program) lib
+define put_down
 	@install -d '$(root)/bin' '$(root)/include' '$(root)/lib/pkgconfig' '$(root)/share/man/man1' \
 		'$(root)/share/doc/rope-search' '$(root)/share/rope-search'
 	@install -m 755 $(program) '$(root)/bin'
@@ -106,15 +107,26 @@ install: $(program) lib
 	@sed 's/@VERSION@/$(version)/' docs/rope-search.1 > '$(root)/share/man/man1/rope-search.1'
 	@install -m 644 $(pages) '$(root)/share/doc/rope-search'
 	@install -m 644 bindings/python/rope_search.py bindings/lua/rope_search.lua '$(root)/share/rope-search'
+endef
+
+install: $(program) lib
+	$(put_down)
 
 release := rope-search-$(version)-x86_64-linux
+packed := README.md CHANGELOG.md CONTRIBUTING.md LICENSE-APACHE LICENSE-MIT NOTICE VERSION docs examples bindings \
+	bench/RESULTS.md bench/plain/src crates.txt $(wildcard crates/*/README.md)
 
+# Where the archive is made; the tests name a folder of their own.
+RELEASES ?= bin
+
+release: root = $(RELEASES)/$(release)
 release: $(program) lib
-	@rm -rf bin/$(release) bin/$(release).tar.gz
-	@$(MAKE) --no-print-directory install DESTDIR='$(CURDIR)/bin/$(release)' PREFIX=
-	@tar -C bin --sort=name --owner=0 --group=0 --numeric-owner -czf bin/$(release).tar.gz $(release)
-	@rm -rf bin/$(release)
-	@echo 'bin/$(release).tar.gz'
+	@rm -rf '$(root)' '$(root).tar.gz'
+	$(put_down)
+	@tar --exclude=__pycache__ -cf - $(packed) | tar -C '$(root)' -xf -
+	@tar -C '$(RELEASES)' --sort=name --owner=0 --group=0 --numeric-owner -czf '$(root).tar.gz' $(release)
+	@rm -rf '$(root)'
+	@echo '$(root).tar.gz'
 
 demo:
 	@$(if $(wildcard $(program)),,:$(need_rt))

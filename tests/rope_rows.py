@@ -78,16 +78,27 @@ def cut_at(text, sizes):
         return None
 
 
+def sent(ask):
+    """An ask as it is sent: a word as it is, and a call with what it is given, where texts are in hexadecimal and nothing
+    stands for a place that isn't told."""
+    if isinstance(ask, str):
+        return ask
+    name, *given = ask
+    told = (hexed(part) if isinstance(part, str) else "" if part is None else str(part) for part in given)
+    return ",".join((name, *told))
+
+
 class RopeRow:
     """A row on a rope, whose answers are checked one after the other: where a request for memory may be refused, an
-    edit may answer so, and then changes nothing."""
+    edit may answer so, and then changes nothing. What is asked is a word, or a call: its name, and what it is given,
+    places and texts."""
 
     def __init__(self, maker, parts, asks, may_refuse=False):
         self.maker, self.parts, self.asks, self.may_refuse = maker, parts, list(asks), may_refuse
         self.refusals = set()  # the names of what was refused
 
     def line(self):
-        return " ".join([self.maker, "|".join(map(hexed, self.parts)), *self.asks])
+        return " ".join([self.maker, "|".join(map(hexed, self.parts)), *map(sent, self.asks)])
 
     def row(self):
         return self.line(), self.wrong
@@ -115,7 +126,7 @@ class RopeRow:
 
     def wrong_answers(self, answers):
         for number, (ask, answer) in enumerate(zip(self.asks, answers)):
-            name, *arguments = ask.split(",")
+            name, *arguments = ask.split(",") if isinstance(ask, str) else ask
             if self.may_refuse and answer == "Err(Memory)":
                 self.refusals.add(name)
                 self.lose(name)
@@ -124,7 +135,7 @@ class RopeRow:
             else:
                 due = self.due(name, arguments)
                 if answer != due:
-                    yield f"{self}: ask {number}, {short(ask)}: {short(answer)!r}, not {short(due)!r}"
+                    yield f"{self}: ask {number}, {short(sent(ask))}: {short(answer)!r}, not {short(due)!r}"
 
     def lose(self, name):
         """A refused `append` drops what it is given."""
@@ -171,14 +182,14 @@ class RopeRow:
         if name != "clone":
             self.least = 980 if name in ("shrink_to_fit", "slice", "build") else min(self.least, 462)
         if "insert" in name:
-            other = bytes.fromhex(arguments[1]).decode()
-            other, at = other[:1] if "char" in name else other, int(arguments[0])
+            at, other = arguments
+            other = other[:1] if "char" in name else other
             self.text = text[:at] + other + text[at:]
         elif "remove" in name:
             start, end = self.ends(arguments)
             self.text = text[: start or 0] + text[len(text) if end is None else end :]
         elif "replace" in name:
-            self.text = self.replaced(name, *self.ends(arguments[:2]), bytes.fromhex(arguments[2]))
+            self.text = self.replaced(name, *self.ends(arguments[:2]), arguments[2])
         elif name == "build":
             self.text = text[: int(arguments[0])] + text[int(arguments[1]) :]
             return ok(len(self.text.encode()))
@@ -201,11 +212,11 @@ class RopeRow:
         """The text with another one in the place of a range of characters or of bytes."""
         if "byte" in name:
             data = self.text.encode()
-            return (data[: start or 0] + other + data[len(data) if end is None else end :]).decode()
-        return self.text[: start or 0] + other.decode() + self.text[len(self.text) if end is None else end :]
+            return (data[: start or 0] + other.encode() + data[len(data) if end is None else end :]).decode()
+        return self.text[: start or 0] + other + self.text[len(self.text) if end is None else end :]
 
     def ends(self, arguments):
-        return [int(argument) if argument else None for argument in arguments]
+        return [None if argument in ("", None) else int(argument) for argument in arguments]
 
     def refusal(self, name, arguments):
         """Why an edit is refused, if it is."""

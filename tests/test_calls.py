@@ -85,10 +85,10 @@ def check_copy(pieces):
 def edits_of(text):
     half, third = len(text) // 2, (len(text) + 3 - (len(text) // 2 - len(text) // 4)) // 3
     first, last = (len(text[:at].encode()) for at in (half // 2, half // 2 + 1))
-    asks = ["clone", f"try_byte_replace,{first},{last},{hexed('é')}", *KEPT]
-    asks += [f"try_insert,{half},{hexed(chr(10) + 'é' + chr(13))}", *KEPT, f"try_remove,{half // 2},{half}", *KEPT]
-    asks += [f"try_split_off,{third}", *KEPT, "append", *ASKED, "insert_char,0,c3a9", "clone", *ASKED]
-    asks += [f"try_replace,{third},{half},{hexed('é' * 400)}", *KEPT, *ASKED]
+    asks = ["clone", ("try_byte_replace", first, last, "é"), *KEPT]
+    asks += [("try_insert", half, "\né\r"), *KEPT, f"try_remove,{half // 2},{half}", *KEPT]
+    asks += [f"try_split_off,{third}", *KEPT, "append", *ASKED, ("insert_char", 0, "é"), "clone", *ASKED]
+    asks += [("try_replace", third, half, "é" * 400), *KEPT, *ASKED]
     return asks + [f"build,{half // 2},{third}", *KEPT, *ASKED]
 
 

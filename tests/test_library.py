@@ -394,6 +394,13 @@ def test_programs():
         test("examples/session.cpp", ended([made]))
 
 
+def wrong_prints(words, due):
+    """What is wrong with what a program prints, which finds the library and its modules."""
+    done = subprocess.run(words, stdin=subprocess.DEVNULL, stdout=subprocess.PIPE, stderr=subprocess.STDOUT, timeout=SECONDS,
+                          cwd=ROOM, check=False, env=dict(os.environ, **PATHS))
+    return [] if (done.returncode, done.stdout.decode()) == (0, due) else [f"it prints {short(done.stdout)}"]
+
+
 def test_page():
     """The code of docs/embedding.md, each with what it prints."""
     page = read("docs", "embedding.md")
@@ -408,11 +415,7 @@ def test_page():
         if kind == "c" and (made := built("embedded", [file], STRICT)):
             words = [made]
         if words and words[0]:
-            done = subprocess.run(words, stdin=subprocess.DEVNULL, stdout=subprocess.PIPE, stderr=subprocess.STDOUT,
-                                  timeout=SECONDS, cwd=ROOM, check=False, env=dict(os.environ, **PATHS))
-            is_due = (done.returncode, done.stdout.decode()) == (0, due)
-            wrong = [] if is_due else [f"it prints {short(done.stdout)}"]
-            test(f"the {kind} code of docs/embedding.md", wrong)
+            test(f"the {kind} code of docs/embedding.md", wrong_prints(words, due))
 
 
 def test_pane():
@@ -440,8 +443,10 @@ def test_pane():
 
 
 def test_readme():
-    code = re.search(r"```python\n(.*?)```", read("README.md"), flags=re.S)
-    test("the Python code of README.md", ended([sys.executable, "-c", code[1]], **PATHS) if code else ["there is none"])
+    """The Python code of README.md, with what it prints."""
+    shown = re.search(r"```python\n(.*?)```\n\nIt prints `(.*?)`", read("README.md"), flags=re.S)
+    wrong = wrong_prints([sys.executable, "-c", shown[1]], shown[2] + "\n") if shown else ["there is none"]
+    test("the Python code of README.md", wrong)
 
 
 def lua():

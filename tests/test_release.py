@@ -1,4 +1,5 @@
-"""What make install puts down, from programs that were built, and the manual of the program beside docs/protocol.md."""
+"""What make install and make release put down, from programs that were built, and the manual of the program beside docs/protocol.md."""
+import glob
 import os
 import re
 import shutil
@@ -7,6 +8,7 @@ import sys
 
 from harness import FIRST, LIBRARY, LIBRARY_FOLDER, PROGRAM, ROOM, TOP, end_of, open_input, start, test
 from test_replies import examples_of_page
+from test_sources import broken_links
 
 BUILT = ["rope-search", "librope_search_c.a", "librope_search.a", "librope_search.so"]
 INSTALLED = [
@@ -40,6 +42,14 @@ def wrong_manual():
     return [f"{word!r} isn't there" for word in sorted(words) if not re.search(rf"\b{re.escape(word)}\b", told)]
 
 
+def wrong_example():
+    """The line for a shell that the manual shows must be answered so."""
+    shown = re.search(r"(?s)\.EX\n(.*?)\.EE", read("docs", "rope-search.1"))[1].replace("\\e", "\\")
+    line, *answers = shown.splitlines(True)
+    told = subprocess.run(["sh", "-c", line.replace("| rope-search", f"| '{PROGRAM}'")], capture_output=True).stdout.decode()
+    return [] if told == "".join(answers) else [f"the program answers {told!r}"]
+
+
 def laid_out_wrong():
     """What groff has to say of the manual, where it is."""
     if not shutil.which("groff"):
@@ -48,15 +58,41 @@ def laid_out_wrong():
     return done.stderr.decode().splitlines()
 
 
-def installed(folder):
-    """Installs what was built, which nothing builds anew."""
+def made(*words):
+    """What make says of a target that takes what was built, which nothing builds anew."""
     old = [word for name in BUILT for word in ("-o", f"bin/{name}")]
-    return subprocess.run(["make", *old, "-C", TOP, "install", f"DESTDIR={folder}", "PREFIX=/usr"], capture_output=True, text=True)
+    return subprocess.run(["make", *old, "-C", TOP, *words], capture_output=True, text=True)
+
+
+def wrong_session(modules):
+    """The module for Python must find the library from the folder that it lies in."""
+    ended = subprocess.run([sys.executable, "-B", "-c", SESSION], cwd=modules, capture_output=True, text=True,
+                           env={"PATH": os.environ["PATH"]})
+    return [] if ended.stdout == "2\n" else [ended.stdout + ended.stderr]
+
+
+def wrong_release():
+    """The archive, unpacked: its program answers, its modules find the library, its links lead, its demo runs."""
+    folder = os.path.join(ROOM, "released")
+    os.mkdir(folder)
+    done = made("release", f"RELEASES={folder}")
+    if done.returncode:
+        return done.stderr.splitlines()
+    archive = os.path.join(folder, done.stdout.split()[-1])
+    subprocess.run(["tar", "-C", folder, "-xf", archive], check=True)
+    top = archive[:-len(".tar.gz")]
+    pages = glob.glob(os.path.join(top, "**", "*.md"), recursive=True)
+    wrong = [link for page in sorted(pages) for link in broken_links(page)] if pages else ["there is no page"]
+    shown = subprocess.run([sys.executable, "-B", os.path.join(top, "examples", "demo.py"), os.path.join(
+        top, "examples", "first.session")], capture_output=True, text=True, cwd=folder, env={"PATH": os.environ["PATH"]})
+    if shown.returncode or "m 0 16 20" not in shown.stdout:
+        wrong.append(shown.stdout + shown.stderr)
+    return wrong + wrong_session(os.path.join(top, "bindings", "python"))
 
 
 def wrong_files():
     folder = os.path.join(ROOM, "installed")
-    done = installed(folder)
+    done = made("install", f"DESTDIR={folder}", "PREFIX=/usr")
     if done.returncode:
         return done.stderr.splitlines()
     top = os.path.join(folder, "usr")
@@ -76,14 +112,13 @@ def wrong_files():
         flags = subprocess.run(["pkg-config", "--cflags", "--libs", "rope_search"], capture_output=True, text=True, env=dict(
             os.environ, PKG_CONFIG_PATH=os.path.join(top, "lib", "pkgconfig"))).stdout
         wrong += [f"{name} isn't in {flags!r}" for name in ("lib/pkgconfig/../../include", "-lrope_search") if name not in flags]
-    modules = os.path.join(top, "share", "rope-search")
-    ended = subprocess.run([sys.executable, "-B", "-c", SESSION], cwd=modules, capture_output=True, text=True,
-                           env={"PATH": os.environ["PATH"]})
-    return wrong + ([] if ended.stdout == "2\n" else [ended.stdout + ended.stderr])
+    return wrong + wrong_session(os.path.join(top, "share", "rope-search"))
 
 
 def test_all():
     test("the manual has each command, refusal, status and message", wrong_manual())
     test("the manual is laid out", laid_out_wrong())
+    test("the program answers the manual's example so", wrong_example())
     if os.path.exists(LIBRARY) and {LIBRARY_FOLDER, os.path.dirname(PROGRAM)} == {os.path.join(TOP, "bin")}:
         test("what is installed, and that it works there", wrong_files())
+        test("a release works where it is unpacked", wrong_release())

@@ -12,56 +12,66 @@ from rope_texts import UNITS, full, pairs, small_texts
 
 LENGTHS = (0, 1, 983, 984, 985, 1968, 50_000)
 
+# Texts, and what a rope of each is asked, one after the other, with the answers: a call stands with what it is given, and a
+# text as it is.
 EDITS = [
-    ("ab\r\ncd", ["lengths", "try_insert,3,78", "text", "lengths", "try_remove,3,4", "text", "lengths"],
-     ["6 6 6 2", "Ok(())", hexed("ab\rx\ncd"), "7 7 7 3", "Ok(())", hexed("ab\r\ncd"), "6 6 6 2"]),
-    ("a\r\nb", ["try_split_off,2", "text", "lengths", "swap", "text", "lengths", "swap", "append", "text", "lengths", "cut"],
-     ["Ok(())", hexed("a\r"), "2 2 2 2", "Ok(())", hexed("\nb"), "2 2 2 2", "Ok(())", "Ok(())", hexed("a\r\nb"), "4 4 4 2", "4 984"]),
-    ("aé🐸", ["try_insert,4,78", "try_insert_char,4,78", "try_split_off,4", "try_remove,3,2", "try_remove,9,8", "try_remove,2,5",
-              "try_remove,4,", "text"],
-     ["Err(CharIndexOutOfBounds(4, 3))", "Err(CharIndexOutOfBounds(4, 3))", "Err(CharIndexOutOfBounds(4, 3))",
-      "Err(CharRangeInvalid(3, 2))", "Err(CharRangeInvalid(9, 8))", "Err(CharRangeOutOfBounds(Some(2), Some(5), 3))",
-      "Err(CharRangeOutOfBounds(Some(4), None, 3))", hexed("aé🐸")]),
-    ("", ["try_remove,,", "try_insert,0,", "try_split_off,0", "append", "lengths", "try_insert_char,0,f09f90b8", "try_insert,1,c3a9",
-          "try_insert,0,61", "text", "try_split_off,3", "swap", "lengths", "swap", "try_split_off,0", "lengths", "append", "text",
-          "try_remove,,", "lengths", "cut"],
-     ["Ok(())", "Ok(())", "Ok(())", "Ok(())", "0 0 0 1", "Ok(())", "Ok(())", "Ok(())", hexed("a🐸é"), "Ok(())", "Ok(())", "0 0 0 1",
-      "Ok(())", "Ok(())", "0 0 0 1", "Ok(())", hexed("a🐸é"), "Ok(())", "0 0 0 1", "0"]),
+    ("ab\r\ncd", [("lengths", "6 6 6 2"), (("try_insert", 3, "x"), "Ok(())"), ("text", "ab\rx\ncd"),
+     ("lengths", "7 7 7 3"), ("try_remove,3,4", "Ok(())"), ("text", "ab\r\ncd"), ("lengths", "6 6 6 2")]),
+    ("a\r\nb", [("try_split_off,2", "Ok(())"), ("text", "a\r"), ("lengths", "2 2 2 2"), ("swap", "Ok(())"),
+     ("text", "\nb"), ("lengths", "2 2 2 2"), ("swap", "Ok(())"), ("append", "Ok(())"), ("text", "a\r\nb"),
+     ("lengths", "4 4 4 2"), ("cut", "4 984")]),
+    ("aé🐸", [(("try_insert", 4, "x"), "Err(CharIndexOutOfBounds(4, 3))"),
+     (("try_insert_char", 4, "x"), "Err(CharIndexOutOfBounds(4, 3))"),
+     ("try_split_off,4", "Err(CharIndexOutOfBounds(4, 3))"), ("try_remove,3,2", "Err(CharRangeInvalid(3, 2))"),
+     ("try_remove,9,8", "Err(CharRangeInvalid(9, 8))"),
+     ("try_remove,2,5", "Err(CharRangeOutOfBounds(Some(2), Some(5), 3))"),
+     ("try_remove,4,", "Err(CharRangeOutOfBounds(Some(4), None, 3))"), ("text", "aé🐸")]),
+    ("", [("try_remove,,", "Ok(())"), (("try_insert", 0, ""), "Ok(())"), ("try_split_off,0", "Ok(())"),
+     ("append", "Ok(())"), ("lengths", "0 0 0 1"), (("try_insert_char", 0, "🐸"), "Ok(())"),
+     (("try_insert", 1, "é"), "Ok(())"), (("try_insert", 0, "a"), "Ok(())"), ("text", "a🐸é"),
+     ("try_split_off,3", "Ok(())"), ("swap", "Ok(())"), ("lengths", "0 0 0 1"), ("swap", "Ok(())"),
+     ("try_split_off,0", "Ok(())"), ("lengths", "0 0 0 1"), ("append", "Ok(())"), ("text", "a🐸é"),
+     ("try_remove,,", "Ok(())"), ("lengths", "0 0 0 1"), ("cut", "0")]),
     # The calls in their plain forms, in the middle and at both ends.
-    ("aé🐸", ["insert,0,62", "insert,4,0d0a", "insert,2,e3819b", "text", "insert_char,0,63", "insert_char,8,64", "insert_char,4,65",
-              "text", "lengths", "remove,1,3", "text", "remove,0,0", "split_off,8", "split_off,3", "text", "append", "split_off,0",
-              "lengths", "append", "text", "same"],
-     ["Ok(())", "Ok(())", "Ok(())", hexed("baせé🐸\r\n"), "Ok(())", "Ok(())", "Ok(())", hexed("cbaせeé🐸\r\nd"), "16 10 11 2",
-      "Ok(())", hexed("cせeé🐸\r\nd"), "Ok(())", "Ok(())", "Ok(())", hexed("cせe"), "Ok(())", "Ok(())", "0 0 0 1", "Ok(())",
-      hexed("cせeé🐸\r\nd"), "true Equal true true"]),
+    ("aé🐸", [(("insert", 0, "b"), "Ok(())"), (("insert", 4, "\r\n"), "Ok(())"), (("insert", 2, "せ"), "Ok(())"),
+     ("text", "baせé🐸\r\n"), (("insert_char", 0, "c"), "Ok(())"), (("insert_char", 8, "d"), "Ok(())"),
+     (("insert_char", 4, "e"), "Ok(())"), ("text", "cbaせeé🐸\r\nd"), ("lengths", "16 10 11 2"),
+     ("remove,1,3", "Ok(())"), ("text", "cせeé🐸\r\nd"), ("remove,0,0", "Ok(())"), ("split_off,8", "Ok(())"),
+     ("split_off,3", "Ok(())"), ("text", "cせe"), ("append", "Ok(())"), ("split_off,0", "Ok(())"),
+     ("lengths", "0 0 0 1"), ("append", "Ok(())"), ("text", "cせeé🐸\r\nd"), ("same", "true Equal true true")]),
     # A text in the place of a range of characters or of bytes; and a range is refused before anything is done.
-    ("aé\r\n🐸", ["replace,1,3,7879", "text", "lengths", "try_replace,1,9,61", "try_replace,3,2,61", "try_replace,6,,61",
-                  "try_byte_replace,2,5,62", "try_byte_replace,9,9,62", "try_byte_replace,4,3,62", "try_byte_replace,5,8,62",
-                  "text", "byte_replace,1,3,0d", "text", "lengths", "try_byte_replace,3,,c3a9", "text", "try_replace,,1,",
-                  "text", "try_replace,,,f09f90b80a", "text", "try_byte_replace,1,4,", "try_byte_replace,,4,", "lengths"],
-     ["Ok(())", hexed("axy\n🐸"), "8 5 6 2", "Err(CharRangeOutOfBounds(Some(1), Some(9), 5))", "Err(CharRangeInvalid(3, 2))",
-      "Err(CharRangeOutOfBounds(Some(6), None, 5))", "Err(ByteRangeNotCharBoundary(Some(2), Some(5)))",
-      "Err(ByteRangeOutOfBounds(Some(9), Some(9), 8))", "Err(ByteRangeInvalid(4, 3))",
-      "Err(ByteRangeNotCharBoundary(Some(5), Some(8)))", hexed("axy\n🐸"), "Ok(())", hexed("a\r\n🐸"), "7 4 5 2", "Ok(())",
-      hexed("a\r\né"), "Ok(())", hexed("\r\né"), "Ok(())", hexed("🐸\n"), "Err(ByteRangeNotCharBoundary(Some(1), Some(4)))",
-      "Ok(())", "1 1 1 2"]),
+    ("aé\r\n🐸", [(("replace", 1, 3, "xy"), "Ok(())"), ("text", "axy\n🐸"), ("lengths", "8 5 6 2"),
+     (("try_replace", 1, 9, "a"), "Err(CharRangeOutOfBounds(Some(1), Some(9), 5))"),
+     (("try_replace", 3, 2, "a"), "Err(CharRangeInvalid(3, 2))"),
+     (("try_replace", 6, None, "a"), "Err(CharRangeOutOfBounds(Some(6), None, 5))"),
+     (("try_byte_replace", 2, 5, "b"), "Err(ByteRangeNotCharBoundary(Some(2), Some(5)))"),
+     (("try_byte_replace", 9, 9, "b"), "Err(ByteRangeOutOfBounds(Some(9), Some(9), 8))"),
+     (("try_byte_replace", 4, 3, "b"), "Err(ByteRangeInvalid(4, 3))"),
+     (("try_byte_replace", 5, 8, "b"), "Err(ByteRangeNotCharBoundary(Some(5), Some(8)))"), ("text", "axy\n🐸"),
+     (("byte_replace", 1, 3, "\r"), "Ok(())"), ("text", "a\r\n🐸"), ("lengths", "7 4 5 2"),
+     (("try_byte_replace", 3, None, "é"), "Ok(())"), ("text", "a\r\né"), (("try_replace", None, 1, ""), "Ok(())"),
+     ("text", "\r\né"), (("try_replace", None, None, "🐸\n"), "Ok(())"), ("text", "🐸\n"),
+     (("try_byte_replace", 1, 4, ""), "Err(ByteRangeNotCharBoundary(Some(1), Some(4)))"),
+     (("try_byte_replace", None, 4, ""), "Ok(())"), ("lengths", "1 1 1 2")]),
     # Of the characters that Unicode lets break lines LF and CR do, CR LF as one.
-    ("a\nb\vc\fd\re\x85f\u2028g\u2029h\r\ni", ["lengths", "same", "remove,1,2", "remove,6,7", "lengths", "same"],
-     ["23 18 18 4", "true Equal true true", "Ok(())", "Ok(())", "21 16 16 2", "true Equal true true"]),
-    ("abc", ["try_remove,3,2", "try_remove,2,5", "text"],
-     ["Err(CharRangeInvalid(3, 2))", "Err(CharRangeOutOfBounds(Some(2), Some(5), 3))", hexed("abc")]),
+    ("a\nb\vc\fd\re\x85f\u2028g\u2029h\r\ni", [("lengths", "23 18 18 4"), ("same", "true Equal true true"),
+     ("remove,1,2", "Ok(())"), ("remove,6,7", "Ok(())"), ("lengths", "21 16 16 2"),
+     ("same", "true Equal true true")]),
+    ("abc", [("try_remove,3,2", "Err(CharRangeInvalid(3, 2))"),
+     ("try_remove,2,5", "Err(CharRangeOutOfBounds(Some(2), Some(5), 3))"), ("text", "abc")]),
     # What a builder is given by slices: the text up to one character, and that from another one on.
-    ("aé\r\n🐸", ["build,3,3", "text", "build,2,3", "text", "cut", "build,4,0", "text", "same", "build,0,8", "lengths"],
-     ["Ok(9)", hexed("aé\r\n🐸"), "Ok(8)", hexed("aé\n🐸"), "8 984", "Ok(16)", hexed("aé\n🐸aé\n🐸"), "true Equal true true", "Ok(0)",
-      "0 0 0 1"]),
+    ("aé\r\n🐸", [("build,3,3", "Ok(9)"), ("text", "aé\r\n🐸"), ("build,2,3", "Ok(8)"), ("text", "aé\n🐸"),
+     ("cut", "8 984"), ("build,4,0", "Ok(16)"), ("text", "aé\n🐸aé\n🐸"), ("same", "true Equal true true"),
+     ("build,0,8", "Ok(0)"), ("lengths", "0 0 0 1")]),
 ]  # fmt: skip
 
 
 def known_edits():
     """Edits whose outcome is known from outside, and what the model makes of them."""
-    for text, asks, answers in EDITS:
-        yield " ".join(["from_str", hexed(text), *asks]), "".join(f"{answer};" for answer in ["", *answers])
-        yield RopeRow("from_str", [text], asks).row()
+    for text, steps in EDITS:
+        row = RopeRow("from_str", [text], [ask for ask, _ in steps])
+        yield row.line(), ";" + "".join(f"{hexed(answer) if ask == 'text' else answer};" for ask, answer in steps)
+        yield row.row()
 
 
 def built_texts():
@@ -128,13 +138,13 @@ def compared_ropes():
     ends, compared and hashed as wholes."""
     others = [(text, other) for text in small_texts("a\né", 2) for other in small_texts("a\né", 2)]
     for text, other in [*others, ("", "a"), ("a", ""), ("\U0001f438", "\uffff"), ("a\r", "a\r\n")]:
-        asks = ["split_off,0", f"insert,0,{hexed(other)}", "compare", "swap", "compare"]
+        asks = ["split_off,0", ("insert", 0, other), "compare", "swap", "compare"]
         yield RopeRow("from_str", [text], asks).row()
     for unit, size in itertools.product(UNITS, (983, 985, 2_000, 50_000)):
         text, inserted = full(unit, size), full("\r\na", 1_500)
         for at in (0, 1, len(text) // 2, len(text)):
-            cut_anew = [f"insert,{at},{hexed(inserted)}", "cut", f"remove,{at},{at + len(inserted)}", "cut"]
-            one_more = [f"insert,{at},61", "compare", "swap", "compare"]
+            cut_anew = [("insert", at, inserted), "cut", f"remove,{at},{at + len(inserted)}", "cut"]
+            one_more = [("insert", at, "a"), "compare", "swap", "compare"]
             asks = ["clone", *cut_anew, "compare", "swap", "compare", *one_more]
             yield RopeRow("from_str", [text], asks).row()
             yield RopeRow("builder", parts_of(text, 41), [*asks, "shrink_to_fit", "cut", "compare"]).row()
@@ -148,13 +158,13 @@ def small_edits():
         for text in small_texts("\r\na", length):
             asks = []
             for at, other in itertools.product(range(length + 1), others):
-                insert = f"try_insert,{at},{hexed(other)}"
+                insert = ("try_insert", at, other)
                 asks += ["clone", insert, "text", "lengths", f"try_remove,{at},{at + len(other)}", "text", "lengths", "swap"]
             for start, end in pairs(length):
                 asks += ["clone", f"remove,{start},{end}", "text", "lengths", "same", "swap"]
                 asks += ["clone", f"build,{start},{end}", "cut", "text", "swap"]
                 for other, name in itertools.product(others, ("replace", "byte_replace")):
-                    asks += ["clone", f"{name},{start},{end},{hexed(other)}", "text", "lengths", "swap"]
+                    asks += ["clone", (name, start, end, other), "text", "lengths", "swap"]
             for at in range(length + 1):
                 asks += ["clone", f"split_off,{at}", "text", "append", "text", "lengths", "swap"]
             yield RopeRow("from_str", [text], [*asks, "text", "lengths"]).row()
@@ -165,9 +175,9 @@ def seams():
     for small, letters in itertools.product(small_texts("\r\na", 2), range(981, 985)):
         asks = []
         for other, at in itertools.product(("\r", "\n", "\r\n", "\n\r", "x"), range(980, 987)):
-            asks += ["clone", f"try_insert,{at},{hexed(other)}", "cut", "text", "same", "swap"]
+            asks += ["clone", ("try_insert", at, other), "cut", "text", "same", "swap"]
             asks += ["clone", f"try_remove,982,{max(at, 982)}", "cut", "text", f"try_split_off,{at}", "append", "cut", "text", "swap"]
-            asks += ["clone", f"try_replace,982,{max(at, 982)},{hexed(other)}", "cut", "text", "same", "swap"]
+            asks += ["clone", ("try_replace", 982, max(at, 982), other), "cut", "text", "same", "swap"]
         yield RopeRow("from_str", ["b" * letters + small + "b" * 1_000], [*asks, "text"]).row()
 
 
@@ -176,10 +186,10 @@ def edits_of_many_chunks():
     text, other = full("ab\r\n", 20_000), full("\nc\r", 5_000)
     asks = []
     for at in (0, 1, 3, 983, 984, 10_003, 19_999, 20_000):
-        asks += ["clone", f"try_insert,{at},{hexed(other)}", "cut", "text", "same", f"try_remove,{at},{at + 5_000}", "cut", "text"]
+        asks += ["clone", ("try_insert", at, other), "cut", "text", "same", f"try_remove,{at},{at + 5_000}", "cut", "text"]
         asks += [f"try_split_off,{at}", "swap", "append", "cut", "text", "swap"]
         for end, size in itertools.product((at, at + 3, at + 1_200), (0, 3, 1_200, 5_000)):
-            asks += ["clone", f"try_byte_replace,{at},{min(end, 20_000)},{hexed(other[:size])}", "cut", "text", "same", "swap"]
+            asks += ["clone", ("try_byte_replace", at, min(end, 20_000), other[:size]), "cut", "text", "same", "swap"]
         asks += ["clone", f"build,{at},{at}", "cut", "text", "same", "swap"]
     yield RopeRow("from_str", [text], [*asks, "text"]).row()
 
@@ -208,7 +218,7 @@ def random_edits(seed, count, most, units, every, sizes):
         other = chance.choice(units) * chance.choice(sizes)(chance)
         end = min(at + len(other), size)
         if kind < 4 and size < most:
-            asks.append(f"{chance.choice(('insert', 'try_insert'))},{at},{hexed(other)}")
+            asks.append((chance.choice(("insert", "try_insert")), at, other))
             text = text[:at] + other + text[at:]
         elif kind < 6:
             asks.append(f"{chance.choice(('remove', 'try_remove'))},{at},{end}")
@@ -218,7 +228,7 @@ def random_edits(seed, count, most, units, every, sizes):
             name, asked = chance.choice(("replace", "try_replace", "byte_replace", "try_byte_replace")), (start, end)
             if "byte" in name:
                 asked = [len(text[:place].encode()) for place in asked]
-            asks.append(f"{name},{asked[0]},{asked[1]},{hexed(other)}")
+            asks.append((name, *asked, other))
             text = text[:start] + other + text[end:]
         else:
             asks += [f"{chance.choice(('split_off', 'try_split_off'))},{at}", "append"]

@@ -1,4 +1,4 @@
-"""Rules for the sources of the crates that no contract states, and for figures of pages."""
+"""Rules for the sources of the crates that no contract states, and for figures, links and lengths of pages."""
 import glob
 import os
 import re
@@ -9,6 +9,11 @@ from harness import TOP, example_rows, test
 
 # The crates of ropes and of reports.
 CITES_LAWS = re.compile(r"(str_indices|ropey|ropey_tree|ropey_walk|rope_leaves|rope_search_(changes|templates|reports))/")
+# Words of definitions that say the same of the types of several crates.
+SHARED = set("""CacheView ComesNext FollowEachOther Gives GivesInOrder GivesNext HasFinds HasFirstMatches InClass IsAnswer
+    IsAnswerAt IsCacheOf IsEmptyAtLast IsShowing MatchesStandAtBoundaries Name OneOf StandsAtBoundaries between end_of
+    is_among is_anchored joined left_of limit_in nodes_of none_set prefilter_of search_by showing span_of start_of
+    with_replaced""".split())
 # A line whose call does nothing but to show a proof what the type keeps.
 FOR_PROOFS = r"^ *let _ = \(?[\w.]+\(\)"
 
@@ -78,6 +83,20 @@ def test_laws():
     test("they have at most 45 lines for the proof alone", [] if 0 < lines <= 45 else [f"they have {lines}"])
 
 
+def test_words():
+    """A word of the definitions has one meaning, in one crate, but for those that say the same of several types."""
+    homes = {}
+    for path in glob.glob(os.path.join(TOP, "crates", "*", "specs", "**", "*.antt"), recursive=True):
+        crate = os.path.relpath(path, os.path.join(TOP, "crates")).split(os.sep)[0]
+        form = r"^(?:pub )?(?:abbrev|record|data) (?:pub )?(?!mutual\b)([^\s:({]+)"
+        for word in re.findall(form, read(path), re.M):
+            homes.setdefault(word, set()).add(crate)
+    twice = {word for word, crates in homes.items() if len(crates) > 1}
+    wrong = [f"{word} is in {', '.join(sorted(homes[word]))}" for word in sorted(twice - SHARED)]
+    wrong += [f"{word} is not in two crates" for word in sorted(SHARED - twice)]
+    test(f"{len(homes)} words of definitions are in one crate each, but for {len(SHARED)}", wrong)
+
+
 def test_messages():
     """What the program tells of a run that breaks off is what the page says, also where no test lasts so long."""
     text = read(os.path.join(TOP, "crates", "rope_search_cli", "src", "main.rt"))
@@ -111,6 +130,30 @@ def test_figures():
     test(f"the {len(cited)} figures of README.md stand in bench/RESULTS.md", wrong if cited else ["there is none"])
 
 
+def anchors(text):
+    """What the headings of a page are linked by."""
+    headings = re.findall(r"^#+ (.*)", re.sub(r"(?ms)^```.*?^```", "", text), re.M)
+    return {re.sub(r"[^\w -]", "", heading).lower().replace(" ", "-") for heading in headings}
+
+
+def broken_links(path):
+    """The links of a page that lead to no file of this repository, or to no heading of the page that they name."""
+    for link in re.findall(r"\]\(([^)\s]+)\)", re.sub(r"(?ms)^```.*?^```", "", read(path))):
+        if "://" not in link:
+            name, _, heading = link.partition("#")
+            to = os.path.normpath(os.path.join(os.path.dirname(path), name)) if name else path
+            if not os.path.exists(to) or heading and heading not in anchors(read(to)):
+                yield f"{os.path.relpath(path, TOP)}: {link}"
+
+
+def test_links():
+    """Each link of a page leads somewhere."""
+    forms = ("*.md", "docs/*.md", "bench/*.md", "crates/*/README.md")
+    pages = [path for form in forms for path in glob.glob(os.path.join(TOP, form))]
+    wrong = [link for path in sorted(pages) for link in broken_links(path)]
+    test(f"the links of {len(pages)} pages lead somewhere", wrong if pages else ["there is no page"])
+
+
 def test_length():
     """The pages can be read: that of results has 3,000 words at most, all together have 28,000."""
     pages = [os.path.join(TOP, name) for name in ("README.md", "CONTRIBUTING.md", "bench/RESULTS.md")]
@@ -122,8 +165,10 @@ def test_length():
 def test_all():
     test_picture()
     test_figures()
+    test_links()
     test_length()
     test_laws()
+    test_words()
     test_messages()
     test_positions()
     test_counters()
