@@ -149,8 +149,8 @@ enum {
 
 /*
  * Opens a session of one buffer, with an empty text and no pattern, whose texts have at most
- * `limit` bytes. One that is open already is ended first. Refused are a limit above PTRDIFF_MAX
- * with ROPE_SEARCH_SIZE, and with ROPE_SEARCH_MEMORY; what was open is then still open.
+ * `limit` bytes. One that was open is ended then. Refused: SIZE, for a limit above PTRDIFF_MAX, and
+ * MEMORY; what was open is then still open.
  */
 uint32_t rope_search_open(size_t limit, rope_search_ticks ticks, rope_search *session);
 
