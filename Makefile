@@ -123,6 +123,7 @@ release: root = $(RELEASES)/$(release)
 release: $(program) lib
 	@rm -rf '$(root)' '$(root).tar.gz'
 	$(put_down)
+	@rm -r '$(root)/share/doc'
 	@tar --exclude=__pycache__ -cf - $(packed) | tar -C '$(root)' -xf -
 	@tar -C '$(RELEASES)' --sort=name --owner=0 --group=0 --numeric-owner -czf '$(root).tar.gz' $(release)
 	@rm -rf '$(root)'

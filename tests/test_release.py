@@ -61,7 +61,7 @@ def laid_out_wrong():
 def made(*words):
     """What make says of a target that takes what was built, which nothing builds anew."""
     old = [word for name in BUILT for word in ("-o", f"bin/{name}")]
-    return subprocess.run(["make", *old, "-C", TOP, *words], capture_output=True, text=True)
+    return subprocess.run(["make", "--no-print-directory", *old, "-C", TOP, *words], capture_output=True, text=True)
 
 
 def wrong_session(modules):
