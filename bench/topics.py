@@ -164,7 +164,8 @@ TOPICS = {
     ),
     "embedded": Topic(
         "a letter typed in a random line, with the report of `y\\(\\w+` in 400,000 lines, its `undo` and the rows of a "
-        "window, by the library, its modules, and the program over pipes, which tells no window",
+        "window, by the library, its modules, and the program over pipes, which tells no window: medians, but for the "
+        "buffer's, a mean",
         [sessions.embedded],
         built=("bin/bench", "bin/librope_search.a", "bin/librope_search.so"),
     ),
