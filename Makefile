@@ -1,6 +1,6 @@
 # make          builds bin/rope-search, the proved program
 # make demo     gives it the commands of examples/first.session, and shows each with its reply; where
-#               it isn't built, rt runs it with checks in place of proofs, within a minute
+#               it isn't built, rt runs it with checks in place of proofs, within two minutes
 # make check    while one works and before a commit: lays out, proves and tests what changed and all that
 #               stands on it, over the work that earlier runs kept, with the programs, and the gate's
 #               edits of the files that changed. CRATES='NAME ..' names more crates

@@ -5,7 +5,7 @@
 
 The program is PROGRAM, or bin/rope-search where that has been built: it is proved, and gets one command
 after the other. Where there is neither, rt runs it over the whole session, compiled with checks and with
-nothing proved, which needs no more than a minute; RT names another command than rt. What is sent stands
+nothing proved, which needs one minute or two; RT names another command than rt. What is sent stands
 behind '>', a payload on lines of its own: the last of them is empty where the payload ends with LF.
 """
 import io
