@@ -448,8 +448,10 @@ impl Buffer {
     pub fn position_of(&self, byte_idx: usize) -> Result<Position, Fault>
         ensures position { IfOk result (λ told.
             (told.line, told.column) ≡ position (current_text self.now.state) byte_idx) }
-        ensures range { IfErr result (λ fault.
-            IsCharBoundary (bytes_of (current_text self.now.state)) byte_idx → ⊥) }
+        ensures boundary { OnOk result
+            (IsCharBoundary (bytes_of (current_text self.now.state)) byte_idx) }
+        ensures range { (result ≡ Err Fault.Range)
+            ↔ (IsCharBoundary (bytes_of (current_text self.now.state)) byte_idx → ⊥) }
         ensures fault { IfErr result (λ fault. fault ≡ Fault.Range) }
     {
         let text = self.text();
