@@ -413,8 +413,9 @@ impl Buffer {
     }
 
     /// Drops the history: all texts but the current one, with what changed from each to the next.
-    /// The current text, the pattern and its report stay. It allocates nothing. Linear in the
-    /// texts that are dropped.
+    /// The current text, the pattern and its report stay. It is never refused: the list of texts
+    /// moves into less room if memory for that is granted, and else keeps its room. Linear in the
+    /// number of texts that are dropped.
     pub fn forget(&mut self)
         ensures state { self.new.state
             ≡ with_text self.old.state (current_text self.old.state) }

@@ -117,7 +117,9 @@ impl Session {
     }
 
     /// Drops the chosen buffer's history: its current text stays, and so do its pattern and its
-    /// report. No other buffer changes. It allocates nothing. Linear in the texts that are dropped.
+    /// report. No other buffer changes. It is never refused: the list of texts moves into less room
+    /// if memory for that is granted, and else keeps its room. Linear in the number of texts that
+    /// are dropped.
     pub fn forget(&mut self)
         ensures state { self.new.state ≡ with_chosen self.old.state
             (with_text (chosen_buffer self.old.state)

@@ -242,7 +242,7 @@ pub extern "C" fn rope_search_choose(alloc: Global, handle: &mut Handle, number:
 }
 
 /// Drops the chosen buffer's history, as `Session::forget` does: its text, its pattern and its
-/// report stay. It takes no memory.
+/// report stay. It is never refused.
 #[unsafe(no_mangle)]
 pub extern "C" fn rope_search_forget(alloc: Global, handle: &mut Handle) -> u32
     ensures { LeadsHandle handle.old.held result handle.new.held
