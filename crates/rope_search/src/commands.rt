@@ -23,8 +23,8 @@ pub enum CommandOf<P> {
     /// the payload isn't UTF-8, `Fault::Size` where the new text would have more bytes than the
     /// limit, or `Fault::Memory`.
     Edit(Position, Position, P),
-    /// Goes back to the text from before the last edit; the pattern stays. Refused with
-    /// `Fault::Nothing` where there is none, or, where there is a pattern, `Fault::Memory`.
+    /// Goes back to the text from before the last edit or replacement; the pattern stays. Refused
+    /// with `Fault::Nothing` where there is none, or, where there is a pattern, `Fault::Memory`.
     Undo,
     /// Goes forward again to the text that was undone last; the pattern stays. Refused with
     /// `Fault::Nothing` where there is none, or, where there is a pattern, `Fault::Memory`.

@@ -263,7 +263,7 @@ impl Session {
         ensures kept { OnErr result (self.new.changed ≡ self.old.changed) }
 
         // It searches no more lines than the edits have, and none where they are refused.
-        ensures refused { (fault : Fault) → RefusesEdits self.old.limit
+        ensures unsearched { (fault : Fault) → RefusesEdits self.old.limit
             (current_text (chosen_buffer self.old.state)) (map in_full edits.now) fault
             → tick.new ≡ tick.old }
         ensures rows { MakesAtMost

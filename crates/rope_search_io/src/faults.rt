@@ -15,7 +15,7 @@ pub enum Fault {
     Utf8 = 3,
     /// The payload is no pattern.
     Pattern = 4,
-    /// The pattern is too long.
+    /// The pattern is too long or too heavy.
     Limit = 5,
     /// The new text would have more bytes than the limit.
     Size = 6,
