@@ -21,6 +21,7 @@ use crate::limits::Limits;
 use crate::stretches::Stretch;
 use rope_search_io::Fault;
 use rope_search_reports::{Groups, Lines, Position};
+use simdutf8::compat::from_utf8;
 use std::alloc::Global;
 use std::marker::Model;
 
@@ -314,7 +315,7 @@ impl Session {
         ensures kept { OnErr result (self.new.changed ≡ self.old.changed) }
     {
         match payload {
-            Payload::Kept(bytes) => match str::from_utf8(bytes) {
+            Payload::Kept(bytes) => match from_utf8(bytes) {
                 Ok(text) => {
                     self.buffers[self.chosen].set_text(tick, text)?;
                     Ok(Reply::Done)
@@ -354,7 +355,7 @@ impl Session {
         ensures kept { OnErr result (self.new.changed ≡ self.old.changed) }
     {
         match payload {
-            Payload::Kept(bytes) => match str::from_utf8(bytes) {
+            Payload::Kept(bytes) => match from_utf8(bytes) {
                 Ok(text) => {
                     self.buffers[self.chosen].edit(tick, from, to, text)?;
                     Ok(Reply::Done)
@@ -421,7 +422,7 @@ impl Session {
         // A law, for the proof alone.
         rope_search_reports::laws::one_of_three();
         match payload {
-            Payload::Kept(bytes) => match str::from_utf8(bytes) {
+            Payload::Kept(bytes) => match from_utf8(bytes) {
                 Ok(pattern) => {
                     self.buffers[self.chosen].set_pattern(tick, pattern)?;
                     Ok(Reply::Done)
@@ -490,7 +491,7 @@ impl Session {
         // A law, for the proof alone.
         rope_search_reports::laws::replaced_is_text();
         match payload {
-            Payload::Kept(bytes) => match str::from_utf8(bytes) {
+            Payload::Kept(bytes) => match from_utf8(bytes) {
                 Ok(template) => {
                     let number = self.buffers[self.chosen].replace(tick, template)?;
                     Ok(Reply::Number(number))
