@@ -2,12 +2,11 @@
 
 use crate::fault::Fault;
 use crate::texts::{number, text};
-use counters::Counter;
 use ropey::str_utils;
 use std::alloc::{AllocError, Global};
 use std::ops::Range;
 use str_indices::byte_chunk::{ByteChunk, Chunk};
-use str_indices::{chars, lines, lines_crlf, lines_lf, utf16};
+use str_indices::{Counter, chars, lines, lines_crlf, lines_lf, utf16};
 
 /// Answers for each pair of an index and a number of leading bytes, as in `3,1`.
 pub fn answer(alloc: Global, word: &str, asks: &str, out: &mut String) -> Result<(), Fault> {
