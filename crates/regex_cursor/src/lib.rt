@@ -4,11 +4,12 @@
 
 pub mod engines;
 pub mod laws;
+pub mod nfa;
 mod ropey_cursor;
 pub mod util;
 
 pub use ropey_cursor::RopeyCursor;
-pub use rx_grammar::{Hir, SyntaxError, parse};
+pub use rx_grammar::{Hir, Mistake, Reason, Refusal, SyntaxError, explain, parse};
 pub use rx_input::{ChunkCursor, Cursor, Input, LookAround};
 pub use rx_literals::{Prefilter, literal};
 pub use rx_program::BuildError;
