@@ -26,8 +26,9 @@ PREFIX ?= /usr/local
 # The command of the Rattle kit; make RT=PROGRAM names another.
 RT ?= rt
 program := bin/rope-search
-# It, and those that only tests take.
-programs := $(program) bin/run-driver bin/rope-driver bin/search-driver
+# Those that only tests take, compiled with checks and not proved.
+drivers := bin/run-driver bin/rope-driver bin/search-driver
+programs := $(program) $(drivers)
 session := examples/first.session
 sources := crates.txt $(shell find crates -name out -prune -o -type f \
 	\( -name '*.rt' -o -name '*.antt' \) -print 2>/dev/null)
@@ -43,11 +44,6 @@ news := sed -unE -e 's/^rt: chose .* for (.*)/\1/p' -e 's/^so far: ([0-9]+ of [0
 
 all: $(program)
 
-$(program): crate := rope_search_cli
-bin/run-driver: crate := run_driver
-bin/rope-driver: crate := rope_driver
-bin/search-driver: crate := search_driver
-minutes := some minutes
 $(program): minutes := some half an hour on four cores
 bin/librope_search_c.a: minutes := some half an hour on four cores
 
@@ -55,13 +51,18 @@ programs: $(programs)
 
 # rt builds a program only once it is proved, with all crates below it, and then runs it: here on empty
 # input. All that rt says stands in out/rt.log of the program's crate.
-$(programs): $(sources)
+$(program): $(sources)
 	@:$(need_rt)
 	@echo '$@ is built once all its crates are proved: $(minutes) in a fresh clone, seconds where nothing changed'
-	@mkdir -p $(@D) crates/$(crate)/out
-	@cd crates/$(crate) && { $(RT) run < /dev/null 2>&1; echo $$? > out/rt.status; } | tee out/rt.log | $(news)
-	@cd crates/$(crate) && [ "$$(cat out/rt.status)" = 0 ] || { tail -n 40 out/rt.log; false; }
-	@cp crates/$(crate)/out/$(crate) $@.new && mv $@.new $@
+	@mkdir -p $(@D) crates/rope_search_cli/out
+	@cd crates/rope_search_cli && { $(RT) run < /dev/null 2>&1; echo $$? > out/rt.status; } | tee out/rt.log | $(news)
+	@cd crates/rope_search_cli && [ "$$(cat out/rt.status)" = 0 ] || { tail -n 40 out/rt.log; false; }
+	@cp crates/rope_search_cli/out/rope_search_cli $@.new && mv $@.new $@
+
+# A minute or two each, seconds where no source changed.
+$(drivers): bin/%: $(sources) tests/compile tests/compiled/crates.txt $(shell find tests/compiled -name '*.rt.txt')
+	@:$(need_rt)
+	@RT='$(RT)' tests/compile $(subst -,_,$*) $@
 
 lib: bin/librope_search.a bin/librope_search.so bin/rope_search.pc
 
