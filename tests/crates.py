@@ -21,8 +21,16 @@ def listed():
 
 
 def compiled():
-    """Each crate of tests/compiled, which are compiled with checks and not proved, and the libraries that it names."""
-    return read_list(f"{ROOT}/tests/compiled/crates.txt")
+    """Each crate that is compiled with checks and not proved, and the libraries that it names: those of tests/compiled, and
+    the benchmarks' program."""
+    return read_list(f"{ROOT}/tests/compiled/list.txt")
+
+
+def sources_of(crate):
+    """The folder of a crate's sources."""
+    if crate not in compiled():
+        return f"{ROOT}/crates/{crate}/src"
+    return f"{ROOT}/bench/program/src" if crate == "bench" else f"{ROOT}/tests/compiled/{crate}/src"
 
 
 @functools.lru_cache(maxsize=None)

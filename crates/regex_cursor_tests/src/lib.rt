@@ -1,5 +1,5 @@
-//! Tests of `regex_cursor` that are proved: an example for each public type, and a cursor of one's
-//! own.
+//! Tests of `regex_cursor` that are proved: an example for each public type, a cursor of one's own,
+//! and finders of one's own for a searcher.
 #![tactic(auto)]
 
 #[cfg(test)]
@@ -12,3 +12,5 @@ mod own_cursor;
 mod regex;
 #[cfg(test)]
 mod ropey_cursor;
+#[cfg(test)]
+mod searchers;

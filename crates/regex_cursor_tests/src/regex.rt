@@ -7,8 +7,7 @@ use regex_cursor::engines::meta::{
 };
 use regex_cursor::util::syntax;
 use regex_cursor::{
-    BuildError, ChunkCursor, Input, Match, MatchError, MatchKind, NonMaxUsize, Prefilter,
-    RopeyCursor, Span, WhichCaptures, parse,
+    BuildError, ChunkCursor, Input, Match, MatchError, RopeyCursor, Span, WhichCaptures,
 };
 use ropey::Rope;
 use std::alloc::Global;
@@ -85,21 +84,12 @@ fn first_part(re: &Regex) -> Result<Option<Span>, MatchError> {
     }
 }
 
-/// A regex for all matches of two patterns.
-fn of_all(alloc: Global) -> Result<Regex, BuildError> {
-    let mut builder = Regex::builder();
-    builder.configure(Config::new().match_kind(MatchKind::All));
-    builder.build_many(alloc, &["a", "(a)b"])
-}
-
-/// Parts start at 0, wherever the input was moved to. They are counted, also where the match is
-/// looked for that ends last.
+/// Parts start at 0, wherever the input was moved to.
 #[test]
 fn parts(rt: HostRuntime) -> Result<(), Fail> {
     let re = Regex::new(rt.alloc(), ",")?;
     assert!(rt; first_part(&re)? == Some(Span { start: 0, end: 3 }));
     assert!(rt; re.split(Input::new("a,b,c"))?.count() == 3);
-    assert!(rt; of_all(rt.alloc())?.split(Input::new("abab"))?.count() == 2);
     Ok(())
 }
 
@@ -134,24 +124,6 @@ fn builder(rt: HostRuntime) -> Result<(), Fail> {
 fn build_error(rt: HostRuntime) -> Result<(), Fail> {
     let refused: Option<BuildError> = Regex::builder().build(rt.alloc(), "(").err();
     assert!(rt; refused.is_some_and(|error| error.syntax_error().is_some()));
-    Ok(())
-}
-
-/// A regex of what a pattern spells, which looks for a caller's literal first.
-fn of_tree(alloc: Global, pattern: &str, needle: &[u8]) -> Result<Regex, Fail> {
-    let hir = parse(alloc, pattern, &syntax::Config::new())?;
-    let prefilter = Prefilter::new(alloc, MatchKind::LeftmostFirst, &[needle])?;
-    let mut builder = Builder::new();
-    builder.configure(Config::new().auto_prefilter(false).prefilter(prefilter));
-    Ok(builder.build_from_hir(alloc, &hir)?)
-}
-
-/// It finds what it should.
-#[test]
-fn build_from_hir(rt: HostRuntime) -> Result<(), Fail> {
-    let re = of_tree(rt.alloc(), "ab+", b"a")?;
-    assert!(rt; re.is_accelerated() && re.get_config().get_prefilter().is_some());
-    assert!(rt; re.is_match(Input::new("cab"))? && re.memory_usage() > 0);
     Ok(())
 }
 
@@ -213,37 +185,5 @@ fn cache(rt: HostRuntime) -> Result<(), Fail> {
             )
     );
     assert!(rt; first.create_cache()?.memory_usage() > 0 && has_any(&second)?);
-    Ok(())
-}
-
-/// The places of the match that comes next in an input with a cache which is lent.
-fn next_with(
-    re: &Regex,
-    cache: &mut Cache,
-    input: &mut Input<&str>,
-    last: Option<usize>,
-) -> Result<[Option<NonMaxUsize>; 2], MatchError>
-    requires { IsCacheOf re.now cache.old }
-    ensures { IsCacheOf re.now cache.new }
-{
-    let mut slots = [None; 2];
-    if re.pattern_len() == 1 {
-        re.next_slots_with(cache, input, &mut slots, last)?;
-    }
-    Ok(slots)
-}
-
-fn next_after(re: &Regex, input: &mut Input<&str>, last: usize) -> Result<bool, MatchError> {
-    let mut cache = re.create_cache()?;
-    let slots = next_with(re, &mut cache, input, Some(last))?;
-    Ok(slots == [NonMaxUsize::new(3), NonMaxUsize::new(3)])
-}
-
-/// An empty match where the last match ended is passed over, and the one behind it found.
-#[test]
-fn next_slots_with(rt: HostRuntime) -> Result<(), Fail> {
-    let re = Regex::new(rt.alloc(), "x*")?;
-    let mut input = Input::new("x-b").range(2..);
-    assert!(rt; next_after(&re, &mut input, 2)?);
     Ok(())
 }

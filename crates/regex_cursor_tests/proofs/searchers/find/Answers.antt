@@ -1,5 +1,5 @@
 use Rattle.std.proofs.Common.{sym, ap, ◌∙◌}
-use Rattle.rx_tests.proofs.searchers.find.Goals as goal
+use Rattle.regex_cursor_tests.proofs.searchers.find.Goals as goal
 
 pub returns-clause-inside : goal.returns-clause-inside
 returns-clause-inside c = λ m is.
