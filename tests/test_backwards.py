@@ -12,7 +12,7 @@ import random
 import re
 
 from driver import WANT, Case, Settings, answers, check_memory, in_runs, line_of, problems, written
-from harness import short, test
+from harness import share_of, short, test
 from random_patterns import Maker
 from test_all import ANYWHERE, AT_START, FIRST, SECOND, SIZES, SMALL_HAYSTACKS, SMALL_TREES, model_of
 from test_searches import asked_at_random, pairs
@@ -20,7 +20,7 @@ from walks import spelled
 
 LITTLE_ROOM, ALL_ROOM = (0, 700), 2**64 - 1  # of caches, in bytes
 CAPACITIES = (*LITTLE_ROOM, None, ALL_ROOM)  # none: as it is by default
-RANDOM_CASES, TABLE_CASES, IN_ONE_RUN = 4_000, 10_000, 500
+RANDOM_CASES, TABLE_CASES, IN_ONE_RUN = share_of(4_000), share_of(10_000), 500
 UNSUPPORTED = "the search doesn't support this anchoring"
 
 # Patterns, haystacks, and what is found, as pattern and start; where not all is asked for, also the slice, the span and
