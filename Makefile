@@ -47,8 +47,8 @@ news := sed -unE -e 's/^rt: chose .* for (.*)/\1/p' -e 's/^so far: ([0-9]+ of [0
 
 all: $(program)
 
-$(program): minutes := some half an hour on four cores
-bin/librope_search_c.a: minutes := some half an hour on four cores
+$(program): minutes := an hour or two on four cores
+bin/librope_search_c.a: minutes := an hour or two on four cores
 
 programs: $(programs)
 
