@@ -11,8 +11,8 @@ use std::test::Fail;
 /// in pieces.
 #[test]
 fn groups_and_matches(rt: HostRuntime) -> Result<(), Fail> {
-    let vm = PikeVM::new(rt.alloc(), r"(?<name>\w+)@(\w+)")?;
-    let mut cache = vm.create_cache()?;
+    let vm = PikeVM::new(rt.alloc(), r"(?<name>\w+)@(\w+)")?.clone()?;
+    let mut cache = pikevm::Cache::new(rt.alloc(), &vm)?;
     let mut caps = vm.create_captures()?;
     let pieces: [&[u8]; 3] = [b"a frog@pond, ", b"to", b"ad@road"];
     let mut input = Input::new(ChunkCursor::new(&pieces));
