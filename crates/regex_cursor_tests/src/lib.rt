@@ -3,11 +3,15 @@
 #![tactic(auto)]
 
 #[cfg(test)]
+mod engines;
+#[cfg(test)]
 mod lists;
 #[cfg(test)]
 mod literals;
 #[cfg(test)]
 mod own_cursor;
+#[cfg(test)]
+mod patterns;
 #[cfg(test)]
 mod regex;
 #[cfg(test)]

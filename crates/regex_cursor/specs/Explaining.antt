@@ -1,0 +1,9 @@
+-- Why a text is refused as a pattern: the words of the crate below, for crates that stand on this
+-- one.
+pub use Rattle.rx_grammar.specs.Refusals.{IsRefusedAs, SpellsSome}
+pub use Rattle.rx_grammar.specs.Settings.{Settings, default_settings}
+pub use Rattle.rx_grammar.specs.declared.refusals.Refusal.{Refusal}
+pub use Rattle.rx_grammar.specs.declared.refusals.Reason.{Reason}
+pub use Rattle.rx_grammar.specs.declared.refusals.Reason.TheVariants.{TooLong, Nesting, Outside}
+pub use Rattle.rx_grammar.specs.declared.refusals.Mistake.{Mistake}
+pub use Rattle.rx_grammar.specs.declared.refusals.Mistake.TheVariants.{OpenGroup, NoOpenGroup, NothingToRepeat, Count, LargeCount, CountOrder, Escape, Scalar, OpenClass, ClassItem, RangeOrder, GroupHead, RepeatedName, Dot}

@@ -1,0 +1,6 @@
+//! What a pattern's tree is made of: its nodes, and the sets of characters in them.
+
+pub use rx_grammar::{
+    CharacterSet, ClassItem, ClassPerlKind, Look, Node, Properties, Range, Repetition,
+    from_ordinal, ordinal,
+};
