@@ -1,5 +1,6 @@
 pub mod Chunks
 pub mod Comparing
+pub mod Counts
 pub mod Edits
 pub mod Iter
 pub mod Laws

@@ -21,6 +21,7 @@ pub use crate::read_fault::ReadFault;
 pub use crate::rope::Rope;
 pub use crate::rope_builder::RopeBuilder;
 pub use ropey_tree::breaks;
+pub use ropey_tree::counts::{By, Counts};
 pub use ropey_tree::error::Error;
 pub use ropey_walk::ranges::{Ends, TextRange};
-pub use ropey_walk::slice::RopeSlice;
+pub use ropey_walk::slice::{Chunk, RopeSlice};

@@ -1,8 +1,7 @@
 //! How the modules of `str_indices` are used.
 
-use counters::Counter;
 use str_indices::byte_chunk::{ByteChunk, Chunk};
-use str_indices::{chars, lines, lines_crlf, lines_lf, utf16};
+use str_indices::{Counter, chars, lines, lines_crlf, lines_lf, utf16};
 
 /// A character index of an editor is a byte index into its text. A byte inside a character belongs
 /// to it.

@@ -5,9 +5,8 @@ ghost use Rattle.std.specs.Prelude.{◌≡◌, [], ◌∷◌, if◌then◌else�
 ghost use Rattle.std.proofs.Common.{«lit≤», «lit<»};
 ghost use Rattle.str_indices.specs.Lanes.{is_between};
 
-use counters::Counter;
 use str_indices::byte_chunk::ByteChunk;
-use str_indices::{chars, lines_crlf, utf16};
+use str_indices::{Counter, chars, lines_crlf, utf16};
 
 /// Four bytes side by side.
 #[derive(Clone, Copy)]

@@ -1,4 +1,4 @@
-//! A leaf: a piece of text that lies in the leaf itself.
+//! A leaf: a piece of text of 1 to `MAX_BYTES` bytes.
 
 ghost use Rattle.std.specs.Prelude.{◌≡◌, ◌+◌, ◌<◌, ◌≤◌, ◌⊎◌, ◌++◌, [], length, take, drop, true, false, encode_utf8_all, string_bytes, IfOk};
 ghost use Rattle.std.specs.Str.{chars, IsCharBoundary};

@@ -23,7 +23,7 @@ pub enum Joined {
     Two(Rc<Node>, Rc<Node>),
 }
 
-/// Nodes of one height in a siblings, which lie in several places.
+/// Nodes of one height, in order, which are stored in several places.
 #[derive(Clone, Copy)]
 pub(crate) enum Siblings<'a> {
     /// The children of one node.

@@ -121,6 +121,7 @@ impl<'a> RopeSlice<'a> {
     ghost use Rattle.ropey_walk.specs.Slices.{slice_pieces, slice_text, IsNear};
 
     /// The whole text of a tree, or the empty text. `O(1)`.
+    #[doc(hidden)]
     pub fn new(node: Option<&'a Node>) -> Self
         ensures { slice_pieces result ≡ pieces_under node.entry }
     {
@@ -128,6 +129,7 @@ impl<'a> RopeSlice<'a> {
     }
 
     /// `new` where it is known what the text counts, which isn't counted then. `O(1)`.
+    #[doc(hidden)]
     pub fn with_counts(node: Option<&'a Node>, len: Counts) -> Self
         requires cut { IsRopeText (pieces_under node) }
         requires counts { len ≡ counts_of (text_of (pieces_under node)) }
@@ -196,7 +198,7 @@ impl<'a> RopeSlice<'a> {
     }
 
     /// What the text counts. `O(1)`.
-    pub fn counts(&self) -> Counts
+    pub(crate) fn counts(&self) -> Counts
         ensures counts { result ≡ counts_of (slice_text self.now) }
         ensures fits { result.bytes < 2 ^ 63 }
     {

@@ -16,3 +16,5 @@ mod measure;
 mod scan;
 mod uncounted;
 pub mod utf16;
+
+pub use counters::Counter;

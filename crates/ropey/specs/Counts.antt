@@ -1,0 +1,6 @@
+-- What a text counts in each measure, and the chunk in which a place of a measure lies.
+pub use Rattle.ropey_tree.specs.declared.counts.Counts.{Counts}
+pub use Rattle.ropey_tree.specs.declared.counts.By.{By}
+pub use Rattle.ropey_tree.specs.declared.counts.By.TheVariants.{Bytes, Chars, Units, Breaks}
+pub use Rattle.ropey_tree.specs.Counts.{counts_of, amount}
+pub use Rattle.ropey_walk.specs.Standing.{StandsAt}
