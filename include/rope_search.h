@@ -226,7 +226,8 @@ uint32_t rope_search_choose(rope_search *session, uint64_t number);
 
 /*
  * Drops the history: the current text alone is left, and nothing can be undone or redone. The
- * pattern and the report stay. It takes no memory.
+ * pattern and the report stay. It is never refused; the list of texts shrinks if memory for a
+ * shorter one is granted, and else keeps its room.
  */
 uint32_t rope_search_forget(rope_search *session);
 

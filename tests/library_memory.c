@@ -48,7 +48,7 @@ static void see(rope_search *s, struct seen *seen)
 }
 
 enum kind {
-    SET_TEXT, EDIT, EDIT_ALL, UNDO, REDO, SET_PATTERN, OFF, NEXT, REPLACE, FORK, CHOOSE, GROUPS_AT, PATTERN_ERROR
+    SET_TEXT, EDIT, EDIT_ALL, UNDO, REDO, SET_PATTERN, OFF, NEXT, REPLACE, FORK, CHOOSE, FORGET, GROUPS_AT, PATTERN_ERROR
 };
 
 struct call {
@@ -86,6 +86,7 @@ static uint32_t carry_out(rope_search *s, const struct call *call)
     case NEXT: return rope_search_next(s, from, &match);
     case REPLACE: return rope_search_replace(s, text, len, &number);
     case FORK: return rope_search_fork(s, &number);
+    case FORGET: return rope_search_forget(s);
     case GROUPS_AT: return rope_search_groups_at(s, call->line, call->column, groups, 10);
     case PATTERN_ERROR: return rope_search_pattern_error(text, len, &reason);
     default: return rope_search_choose(s, call->line);
@@ -105,12 +106,12 @@ static const struct call calls[] = {
     TEXT(PATTERN_ERROR, "(a|(?<name>b)|(?<name>c"), TEXT(PATTERN_ERROR, "((a)|b{1,3}"),
     CALL(UNDO), CALL(UNDO), CALL(REDO), TEXT(REPLACE, "<$1\n$0>"), CALL(UNDO), CALL(FORK),
     AT(CHOOSE, 1, 0), TEXT(EDIT, "a letter"), TEXT(SET_PATTERN, "\\be"), CALL(UNDO), CALL(OFF),
-    CALL(REDO), AT(CHOOSE, 0, 0), CALL(REDO), AT(GROUPS_AT, 6, 0),
+    CALL(REDO), AT(CHOOSE, 0, 0), CALL(REDO), AT(GROUPS_AT, 6, 0), CALL(FORGET),
 };
 
 static int may_ask(enum kind kind)
 {
-    return kind != OFF && kind != CHOOSE;
+    return kind != OFF && kind != CHOOSE && kind != FORGET;
 }
 
 /* The calls in turn, where one request is refused; how many requests there were. */

@@ -305,7 +305,7 @@ def test_closed():
     refused = {
         "set_text": (b"a", 1), "edit": (origin, origin, b"a", 1),
         "edit_all": ((rope_search._TextEdit * 1)(), 1, b"", 0), "undo": (), "redo": (),
-        "set_pattern": (b"a", 1), "off": (), "next": (origin, rope_search._Match()),
+        "set_pattern": (b"a", 1), "off": (), "next": (origin, rope_search._Match(True)),
         "replace": (b"a", 1, ctypes.c_size_t(7)), "fork": (ctypes.c_size_t(7),), "choose": (0,),
         "column_in": (8, origin, ctypes.c_size_t(7)), "position_in": (8, 0, 0, rope_search._Position()),
         "forget": (), "byte_of": (origin, ctypes.c_size_t(7)), "position_of": (0, rope_search._Position()),
@@ -331,6 +331,9 @@ def test_closed():
     counts = calls.rope_search_counted(handle)
     if (counts.rows, counts.wholes, handle.is_open) != (0, 0, False):
         wrong.append("counted, or the handle, is something")
+    kept = [refused[name][-1].value for name in ("replace", "fork", "byte_of", "column_in")]
+    if kept != [7] * 4 or not refused["next"][1].found:
+        wrong.append(f"a call of a closed session writes: {kept}, {refused['next'][1].found}")
     if any(group.found for group in refused["groups_at"][2]):
         wrong.append("groups of a closed session are told")
     if raised(lambda: session.matches()) is not rope_search.Closed:

@@ -57,6 +57,10 @@ def test_regexes():
     reports = [(path, re.sub(r"^ *ghost use .*", "", text, flags=re.M)) for path, text in above if path not in kept]
     wrong = that_name(r"\bregex_cursor\b", reports)
     test("reports name regex_cursor where searches are counted alone", [f"{path} does" for path in wrong])
+    calls = re.findall(r"\bregex\s*\.\s*(\w+)\(|\.(next_slots)\(", dict(above)[kept[0]])
+    calls = sorted("".join(call) for call in calls)
+    due = ["create_cache", "next_slots", "no_match_before", "search_slots_with"]
+    test("the regex is called there in one line for each way to search", [] if calls == due else [f"{calls}"])
 
 
 def test_breaks():

@@ -433,7 +433,8 @@ class Session:
 
     @property
     def changed(self) -> Stretch:
-        """Which rows the last accepted command on the chosen buffer replaced, of those that may: all but next and fork."""
+        """Which rows the last accepted command on the chosen buffer replaced, of those that may: the setters, edits, undo,
+        redo, off and replace."""
         stretch = self._calls.rope_search_changed(self._open())
         return Stretch(stretch.first, stretch.removed, stretch.added)
 

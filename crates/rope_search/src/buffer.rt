@@ -141,7 +141,7 @@ impl Buffer {
 
         // A report that is made anew has a row for each line, which is counted; a text that is too
         // long is searched nowhere.
-        ensures refused { result ≡ Err Fault.Size → tick.new ≡ tick.old }
+        ensures unsearched { result ≡ Err Fault.Size → tick.new ≡ tick.old }
         ensures rows { MakesAtMost (rows_anew self.old.state (chars text.now)) tick.old tick.new }
         ensures each { OnOk result
             (MakesAsMany (rows_anew self.old.state (chars text.now)) tick.old tick.new) }
@@ -199,8 +199,8 @@ impl Buffer {
         ensures err { OnErr result (self.new ≡ self.old) }
 
         // It makes at most as many rows as what it inserts has lines.
-        ensures astray { result ≡ Err Fault.Range → tick.new ≡ tick.old }
-        ensures refused { result ≡ Err Fault.Size → tick.new ≡ tick.old }
+        ensures range_unsearched { result ≡ Err Fault.Range → tick.new ≡ tick.old }
+        ensures size_unsearched { result ≡ Err Fault.Size → tick.new ≡ tick.old }
         ensures rows { MakesAtMost (rows_anew self.old.state (chars inserted.now))
             tick.old tick.new }
     {
@@ -254,7 +254,7 @@ impl Buffer {
 
         // For each edit it makes at most as many rows as what it inserts has lines; and none where
         // there is a reason to refuse them.
-        ensures refused { (fault : Fault)
+        ensures unsearched { (fault : Fault)
             → RefusesEdits self.old.limit (current_text self.old.state) (map in_full edits.now)
             fault → tick.new ≡ tick.old }
         ensures rows { MakesAtMost (rows_of_edits self.old.state (map in_full edits.now))
@@ -337,7 +337,7 @@ impl Buffer {
 
         // It makes at most as many rows as what comes back has lines, and never more than the text
         // has.
-        ensures refused { result ≡ Err Fault.Nothing → tick.new ≡ tick.old }
+        ensures unsearched { result ≡ Err Fault.Nothing → tick.new ≡ tick.old }
         ensures back { tick.new.count ≤ tick.old.count + rows_back self.old }
         ensures rows { MakesAtMost
             (rows_anew self.old.state (current_text (undone self.old.state))) tick.old tick.new }
@@ -378,7 +378,7 @@ impl Buffer {
 
         // It makes at most as many rows as what comes back has lines, and never more than the text
         // has.
-        ensures refused { result ≡ Err Fault.Nothing → tick.new ≡ tick.old }
+        ensures unsearched { result ≡ Err Fault.Nothing → tick.new ≡ tick.old }
         ensures on { tick.new.count ≤ tick.old.count + rows_on self.old }
         ensures rows { MakesAtMost
             (rows_anew self.old.state (current_text (redone self.old.state))) tick.old tick.new }
@@ -413,8 +413,9 @@ impl Buffer {
     }
 
     /// Drops the history: all texts but the current one, with what changed from each to the next.
-    /// The current text, the pattern and its report stay. It allocates nothing. Linear in the
-    /// texts that are dropped.
+    /// The current text, the pattern and its report stay. It is never refused: the list of texts
+    /// moves into less room if memory for that is granted, and else keeps its room. Linear in the
+    /// number of texts that are dropped.
     pub fn forget(&mut self)
         ensures state { self.new.state
             ≡ with_text self.old.state (current_text self.old.state) }
@@ -448,8 +449,10 @@ impl Buffer {
     pub fn position_of(&self, byte_idx: usize) -> Result<Position, Fault>
         ensures position { IfOk result (λ told.
             (told.line, told.column) ≡ position (current_text self.now.state) byte_idx) }
-        ensures range { IfErr result (λ fault.
-            IsCharBoundary (bytes_of (current_text self.now.state)) byte_idx → ⊥) }
+        ensures boundary { OnOk result
+            (IsCharBoundary (bytes_of (current_text self.now.state)) byte_idx) }
+        ensures range { (result ≡ Err Fault.Range)
+            ↔ (IsCharBoundary (bytes_of (current_text self.now.state)) byte_idx → ⊥) }
         ensures fault { IfErr result (λ fault. fault ≡ Fault.Range) }
     {
         let text = self.text();
@@ -483,7 +486,7 @@ impl Buffer {
 
         // The report has a row for each line, which is counted; for what is no pattern nothing is
         // searched.
-        ensures long_unsearched { result ≡ Err Fault.Limit → tick.new ≡ tick.old }
+        ensures limit_unsearched { result ≡ Err Fault.Limit → tick.new ≡ tick.old }
         ensures unsearched { (IsPattern (chars pattern.now) → ⊥) → tick.new ≡ tick.old }
         ensures rows { MakesAtMost (line_count (current_text self.old.state)) tick.old tick.new }
         ensures each { OnOk result
@@ -617,8 +620,8 @@ impl Buffer {
 
         // For each match it makes at most as many rows as what takes its place has lines; and none
         // where the new text would be too long.
-        ensures astray { result ≡ Err Fault.Nothing → tick.new ≡ tick.old }
-        ensures refused { self.old.limit < length template.now → tick.new ≡ tick.old }
+        ensures nothing_unsearched { result ≡ Err Fault.Nothing → tick.new ≡ tick.old }
+        ensures size_unsearched { self.old.limit < length template.now → tick.new ≡ tick.old }
         ensures unmade { GetsTooLongWith self.old.limit self.old.state (chars template.now)
             → tick.new.count ≡ tick.old.count }
         ensures rows { (n : ℕ) → RowsOfReplacement self.old.state (chars template.now) n

@@ -10,7 +10,7 @@ use rope_search_reports::{PATTERN_LEN, Position};
 
 /// A command, with what there is of its payload: how many bytes it has, or what was kept of them.
 /// `Session::apply` carries it out, and tells what is refused first where more than one thing is.
-#[derive(Clone, Copy, Debug, PartialEq, Eq)]
+#[derive(Clone, Copy, Debug, PartialEq, Eq, Hash)]
 pub enum CommandOf<P> {
     /// Sets the chosen buffer's text; its pattern stays. Refused with `Fault::Utf8` where the
     /// payload isn't UTF-8, `Fault::Size` where it has more bytes than the limit, or
@@ -23,8 +23,8 @@ pub enum CommandOf<P> {
     /// the payload isn't UTF-8, `Fault::Size` where the new text would have more bytes than the
     /// limit, or `Fault::Memory`.
     Edit(Position, Position, P),
-    /// Goes back to the text from before the last edit; the pattern stays. Refused with
-    /// `Fault::Nothing` where there is none, or, where there is a pattern, `Fault::Memory`.
+    /// Goes back to the text from before the last edit or replacement; the pattern stays. Refused
+    /// with `Fault::Nothing` where there is none, or, where there is a pattern, `Fault::Memory`.
     Undo,
     /// Goes forward again to the text that was undone last; the pattern stays. Refused with
     /// `Fault::Nothing` where there is none, or, where there is a pattern, `Fault::Memory`.
@@ -122,7 +122,7 @@ impl CommandOf<u64> {
 }
 
 /// What was kept of a payload.
-#[derive(Clone, Copy, Debug, PartialEq, Eq)]
+#[derive(Clone, Copy, Debug, PartialEq, Eq, Hash)]
 pub enum Payload<'a> {
     /// All of its bytes. They need not be UTF-8.
     Kept(&'a [u8]),
@@ -138,7 +138,7 @@ pub enum Payload<'a> {
 }
 
 /// What an accepted command is answered.
-#[derive(Clone, Copy, Debug, PartialEq, Eq)]
+#[derive(Clone, Copy, Debug, PartialEq, Eq, Hash)]
 pub enum Reply {
     /// It is done.
     Done,

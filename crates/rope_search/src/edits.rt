@@ -11,6 +11,7 @@ use rope_search_io::Fault;
 use rope_search_reports::{Position, places_of};
 use rope_search_templates::{Replacement, Substitution, substitute_all};
 use ropey::Rope;
+use simdutf8::compat::from_utf8;
 use std::alloc::Global;
 
 /// An edit of several that are made as one: all are told in terms of the text before any of them.
@@ -51,7 +52,7 @@ fn text_in<'a>(edit: &Edit<'a>, is_utf8: bool) -> (&'a str, bool)
         × (chars result.0.now ≡ chars edit.now.text.now) }
     ensures broken { result.1 ≡ false → (is_utf8 ≡ false) ⊎ ¬ (IsUtf8 edit.now.text.now) }
 {
-    match str::from_utf8(edit.text) {
+    match from_utf8(edit.text) {
         Ok(text) => (text, is_utf8),
         Err(_) => ("", false),
     }

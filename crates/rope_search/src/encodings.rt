@@ -16,7 +16,7 @@ use rope_search_reports::Position;
 use ropey::Rope;
 
 /// What columns count.
-#[derive(Clone, Copy, Debug, PartialEq, Eq)]
+#[derive(Clone, Copy, Debug, PartialEq, Eq, Hash)]
 pub enum Encoding {
     /// Bytes of UTF-8.
     Utf8,

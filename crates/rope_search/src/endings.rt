@@ -1,7 +1,7 @@
 //! How the input of a run ends.
 
 /// How an input ended.
-#[derive(Clone, Copy, Debug, PartialEq, Eq)]
+#[derive(Clone, Copy, Debug, PartialEq, Eq, Hash)]
 pub enum Ended {
     /// The input ended before a line's first byte.
     Input,

@@ -121,7 +121,8 @@ impl History {
         self.versions.get(self.current + 1)
     }
 
-    /// Drops all texts but the current one, and what changed. It takes no memory.
+    /// Drops all texts but the current one, and what changed. It is never refused: if there is no
+    /// memory for a shorter list, the list keeps its room.
     pub fn forget(&mut self, alloc: Global)
         ensures { self.new ≡ record {
           texts = text_at self.old.texts self.old.current ∷ [];
@@ -131,6 +132,7 @@ impl History {
     {
         self.versions.swap(0, self.current);
         self.versions.truncate(1);
+        self.versions.shrink_to_fit();
         self.versions[0].changes = Changes::Many(Vec::new(alloc));
         self.current = 0;
     }

@@ -11,6 +11,7 @@ use rope_search_io::Fault;
 use rope_search_reports::PATTERN_LEN;
 use rx_grammar::syntax::Config;
 use rx_grammar::{Refusal, explain};
+use simdutf8::compat::from_utf8;
 use std::alloc::Global;
 
 /// Returns where and why `Fault::Pattern` is what refuses these bytes as a pattern, and `None` where
@@ -34,7 +35,7 @@ pub fn pattern_error(alloc: Global, pattern: &[u8]) -> Result<Option<Refusal>, F
     ensures utf8 { (result ≡ Err Fault.Utf8) ↔ ¬ (IsUtf8 pattern.now) }
     ensures fault { IfErr result (λ fault. (fault ≡ Fault.Utf8) ⊎ (fault ≡ Fault.Memory)) }
 {
-    let Ok(text) = str::from_utf8(pattern) else {
+    let Ok(text) = from_utf8(pattern) else {
         return Err(Fault::Utf8);
     };
     if text.len() > PATTERN_LEN {

@@ -314,6 +314,7 @@ impl Search {
         };
         Ok(Some((position_of(text, start), position_of(text, end))))
     }
+
     /// The groups of the match of a number, from 0, in a line of a text, each by its columns. It is
     /// refused with `Fault::Range` where there is no such line, or no such match in it, and perhaps
     /// with `Fault::Memory`. A line that there is is searched, and counted. The report is as before.

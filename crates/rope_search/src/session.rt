@@ -21,6 +21,7 @@ use crate::limits::Limits;
 use crate::stretches::Stretch;
 use rope_search_io::Fault;
 use rope_search_reports::{Groups, Lines, Position};
+use simdutf8::compat::from_utf8;
 use std::alloc::Global;
 use std::marker::Model;
 
@@ -117,7 +118,9 @@ impl Session {
     }
 
     /// Drops the chosen buffer's history: its current text stays, and so do its pattern and its
-    /// report. No other buffer changes. It allocates nothing. Linear in the texts that are dropped.
+    /// report. No other buffer changes. It is never refused: the list of texts moves into less room
+    /// if memory for that is granted, and else keeps its room. Linear in the number of texts that
+    /// are dropped.
     pub fn forget(&mut self)
         ensures state { self.new.state ≡ with_chosen self.old.state
             (with_text (chosen_buffer self.old.state)
@@ -261,7 +264,7 @@ impl Session {
         ensures kept { OnErr result (self.new.changed ≡ self.old.changed) }
 
         // It searches no more lines than the edits have, and none where they are refused.
-        ensures refused { (fault : Fault) → RefusesEdits self.old.limit
+        ensures unsearched { (fault : Fault) → RefusesEdits self.old.limit
             (current_text (chosen_buffer self.old.state)) (map in_full edits.now) fault
             → tick.new ≡ tick.old }
         ensures rows { MakesAtMost
@@ -312,7 +315,7 @@ impl Session {
         ensures kept { OnErr result (self.new.changed ≡ self.old.changed) }
     {
         match payload {
-            Payload::Kept(bytes) => match str::from_utf8(bytes) {
+            Payload::Kept(bytes) => match from_utf8(bytes) {
                 Ok(text) => {
                     self.buffers[self.chosen].set_text(tick, text)?;
                     Ok(Reply::Done)
@@ -352,7 +355,7 @@ impl Session {
         ensures kept { OnErr result (self.new.changed ≡ self.old.changed) }
     {
         match payload {
-            Payload::Kept(bytes) => match str::from_utf8(bytes) {
+            Payload::Kept(bytes) => match from_utf8(bytes) {
                 Ok(text) => {
                     self.buffers[self.chosen].edit(tick, from, to, text)?;
                     Ok(Reply::Done)
@@ -419,7 +422,7 @@ impl Session {
         // A law, for the proof alone.
         rope_search_reports::laws::one_of_three();
         match payload {
-            Payload::Kept(bytes) => match str::from_utf8(bytes) {
+            Payload::Kept(bytes) => match from_utf8(bytes) {
                 Ok(pattern) => {
                     self.buffers[self.chosen].set_pattern(tick, pattern)?;
                     Ok(Reply::Done)
@@ -488,7 +491,7 @@ impl Session {
         // A law, for the proof alone.
         rope_search_reports::laws::replaced_is_text();
         match payload {
-            Payload::Kept(bytes) => match str::from_utf8(bytes) {
+            Payload::Kept(bytes) => match from_utf8(bytes) {
                 Ok(template) => {
                     let number = self.buffers[self.chosen].replace(tick, template)?;
                     Ok(Reply::Number(number))

@@ -33,7 +33,7 @@ refused-edits old edits bytes fault status (inr memory) apart told = record {
         step = refl;
         limit = refl;
         rows = record { grows = omega arith; made = omega arith; no_whole = refl };
-        refused = λ why refuses. refl;
+        unsearched = λ why refuses. refl;
         changed = tt;
         kept = refl;
       });

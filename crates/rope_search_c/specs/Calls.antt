@@ -1,6 +1,7 @@
 -- What a call for a command does, in the words of a session's commands.
-use Rattle.std.specs.Prelude.{◌≡◌, ℕ, Ok, Err, true, false, Option, None, MatchOption}
+use Rattle.std.specs.Prelude.{◌≡◌, ℕ, Result, Ok, Err, true, false, Option, None, MatchOption}
 use Rattle.rope_search_io.specs.Faults.{rank_of}
+use Rattle.rope_search_io.specs.declared.faults.Fault.{Fault}
 use Rattle.rope_search.specs.declared.commands.Reply.TheVariants.{Number, Found}
 use Rattle.rope_search.specs.Order.{Order}
 use Rattle.rope_search.specs.Session.{current_text, chosen_buffer, with_text, with_chosen}
@@ -10,9 +11,9 @@ use Rattle.rope_search.specs.Cost.{SearchesFor}
 use Rattle.rope_search_c.specs.declared.counting.CountingSession.{CountingSession}
 use Rattle.rope_search_c.specs.declared.matches.Match.{Match}
 
--- 0 where a command is done, else the rank of what refuses it
-abbrev pub status_of : Answer → ℕ
-status_of (Ok reply) = 0
+-- 0 where what is asked is done, else the rank of what refuses it
+abbrev pub status_of : {T : Type 0} → Result T Fault → ℕ
+status_of (Ok done) = 0
 status_of (Err fault) = rank_of fault
 
 -- the number that a command is answered, else 0

@@ -1,10 +1,10 @@
 -- Several edits as C hands them over, in the words of a session.
-use Rattle.std.specs.Prelude.{◌≡◌, ℕ, ◌⊎◌, List, [], ◌∷◌, length, take, drop, sum_by, Result, Ok, Err, OnOk, OnErr}
+use Rattle.std.specs.Prelude.{◌≡◌, ℕ, ◌⊎◌, List, [], ◌∷◌, length, take, drop, sum_by, Result, OnOk, OnErr}
 use Rattle.rope_search_io.specs.declared.faults.Fault.{Fault}
-use Rattle.rope_search_io.specs.Faults.{rank_of}
 use Rattle.rope_search_reports.specs.Ticks.{MakesAtMost}
 use Rattle.rope_search.specs.Session.{chosen_buffer, current_text}
 use Rattle.rope_search.specs.Edits.{FullEdit, RefusesEdits, StepByEdits, TellsEdits, rows_of_edits}
+use Rattle.rope_search_c.specs.Calls.{status_of}
 use Rattle.rope_search_c.specs.declared.counting.CountingSession.{CountingSession}
 use Rattle.rope_search_c.specs.declared.edits.TextEdit.{TextEdit}
 
@@ -19,11 +19,6 @@ cut (edit ∷ edits) bytes =
 abbrev pub Fit : List TextEdit → List ℕ → Type 0
 Fit edits bytes = sum_by (λ (edit : TextEdit). edit.len) edits ≡ length bytes
 
--- 0 where they are made, else the rank of what refuses them
-abbrev pub status_of : Result Unit Fault → ℕ
-status_of (Ok done) = 0
-status_of (Err fault) = rank_of fault
-
 -- Edits lead from one session to another by a step, which is answered so, and make no more rows than
 -- their texts have lines, and none where there is a reason to refuse them; the limit stays, and the
 -- buffers tell which rows were replaced.
@@ -33,7 +28,7 @@ pub record CarriesEdits (old : CountingSession) (edits : List FullEdit)
   pub limit : new.session.limit ≡ old.session.limit
   pub rows : MakesAtMost (rows_of_edits (chosen_buffer old.session.state) edits)
       old.lines new.lines
-  pub refused : (fault : Fault)
+  pub unsearched : (fault : Fault)
       → RefusesEdits old.session.limit (current_text (chosen_buffer old.session.state)) edits
       fault
       → new.lines ≡ old.lines

@@ -1,10 +1,10 @@
 -- The groups of a match in a line, in the words of a session.
 use Rattle.std.specs.Prelude.{◌≡◌, ℕ, List, map, true, false, Option, None, Some, Result, Ok, Err}
 use Rattle.rope_search_io.specs.declared.faults.Fault.{Fault}
-use Rattle.rope_search_io.specs.Faults.{rank_of}
 use Rattle.rope_search_reports.specs.Replacement.{Groups}
 use Rattle.rope_search.specs.GroupsAt.{AnswersGroups, SearchesRow}
 use Rattle.rope_search.specs.Session.{chosen_buffer}
+use Rattle.rope_search_c.specs.Calls.{status_of}
 use Rattle.rope_search_c.specs.Reading.{with_front}
 use Rattle.rope_search_c.specs.declared.counting.CountingSession.{CountingSession}
 use Rattle.rope_search_c.specs.declared.matches.Group.{Group}
@@ -14,11 +14,6 @@ abbrev pub group_in : ℕ → Option (ℕ × ℕ) → Group
 group_in line None = record { found = false; line = line; start = 0; stop = 0 }
 group_in line (Some columns) =
     record { found = true; line = line; start = columns.0; stop = columns.1 }
-
--- 0 where they are answered, else the rank of what refuses them
-abbrev pub status_of : Result Groups Fault → ℕ
-status_of (Ok groups) = 0
-status_of (Err fault) = rank_of fault
 
 -- they stand at the buffer's front, as many as fit; where they are refused the buffer is as it was
 abbrev pub PutsGroups : ℕ → Result Groups Fault → List Group → List Group → Type 0

@@ -14,27 +14,27 @@ use Rattle.rope_search.specs.Step.{Refuses}
 use Rattle.rope_search_c.specs.declared.pattern_errors.PatternReason.{PatternReason}
 
 -- how C names what is wrong in a text
-abbrev pub number_of : Mistake → ℕ
-number_of OpenGroup = 2
-number_of NoOpenGroup = 3
-number_of NothingToRepeat = 4
-number_of Count = 5
-number_of LargeCount = 6
-number_of CountOrder = 7
-number_of Escape = 8
-number_of Scalar = 9
-number_of OpenClass = 10
-number_of ClassItem = 11
-number_of RangeOrder = 12
-number_of GroupHead = 13
-number_of RepeatedName = 14
-number_of Dot = 15
+abbrev pub mistake_number : Mistake → ℕ
+mistake_number OpenGroup = 2
+mistake_number NoOpenGroup = 3
+mistake_number NothingToRepeat = 4
+mistake_number Count = 5
+mistake_number LargeCount = 6
+mistake_number CountOrder = 7
+mistake_number Escape = 8
+mistake_number Scalar = 9
+mistake_number OpenClass = 10
+mistake_number ClassItem = 11
+mistake_number RangeOrder = 12
+mistake_number GroupHead = 13
+mistake_number RepeatedName = 14
+mistake_number Dot = 15
 
 -- and why a text is no pattern: 0 names none of these reasons
 abbrev pub reason_number : Reason → ℕ
 reason_number TooLong = 0
 reason_number Nesting = 1
-reason_number (Outside mistake) = number_of mistake
+reason_number (Outside mistake) = mistake_number mistake
 
 -- a session refuses the bytes since they are no pattern, whatever it holds
 abbrev pub AreNoPattern : List ℕ → Type 0

@@ -57,11 +57,13 @@ TellsByte session position status old new =
     ((status ≡ 0) × IsAt (text_in session) (position.line, position.column) new)
     ⊎ ((status ≡ 2) × IsNowhere (text_in session) (position.line, position.column) × (new ≡ old))
 
--- the position of a byte, with status 0; or no character begins there and the text doesn't end
--- there, with status 2, and what stood in the position's place still does
+-- the position of a byte at which a character begins or the text ends, with status 0; or none begins
+-- there and the text doesn't end there, with status 2, and what stood in the position's place still
+-- does
 abbrev pub TellsPosition : CountingSession → ℕ → ℕ → Position → Position → Type 0
 TellsPosition session byte status old new =
-    ((status ≡ 0) × ((new.line, new.column) ≡ position (text_in session) byte))
+    ((status ≡ 0) × IsCharBoundary (text_bytes_in session) byte
+    × ((new.line, new.column) ≡ position (text_in session) byte))
     ⊎ ((status ≡ 2) × (IsCharBoundary (text_bytes_in session) byte → ⊥) × (new ≡ old))
 
 -- ---- columns in bytes and in characters

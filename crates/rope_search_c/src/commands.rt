@@ -174,13 +174,14 @@ pub extern "C" fn rope_search_next(
     from: Position,
     found: &mut Match,
 ) -> u32
-    ensures { LeadsHandle handle.old.held result handle.new.held (λ old new.
+    ensures told { LeadsHandle handle.old.held result handle.new.held (λ old new.
         DoesAndFinds old (FindNext from) result found.new new) }
+    ensures closed { handle.old.held ≡ None → found.new ≡ found.old }
 {
-    let Some(session) = handle.take(alloc) else {
+    let Some(held) = handle.take(alloc) else {
         return CLOSED;
     };
-    let mut session = session;
+    let mut session = held;
     let status = session.next(from, found);
     *handle = Handle::of(session);
     status
@@ -195,8 +196,9 @@ pub extern "C" fn rope_search_replace(
     template: &[u8],
     count: &mut usize,
 ) -> u32
-    ensures { LeadsHandle handle.old.held result handle.new.held (λ old new.
+    ensures told { LeadsHandle handle.old.held result handle.new.held (λ old new.
         DoesAndCounts old (ReplaceAll template.now) result count.new new) }
+    ensures closed { handle.old.held ≡ None → count.new ≡ count.old }
 {
     let Some(session) = handle.take(alloc) else {
         return CLOSED;
@@ -211,8 +213,9 @@ pub extern "C" fn rope_search_replace(
 /// it is refused. `number` is written unless the handle is closed.
 #[unsafe(no_mangle)]
 pub extern "C" fn rope_search_fork(alloc: Global, handle: &mut Handle, number: &mut usize) -> u32
-    ensures { LeadsHandle handle.old.held result handle.new.held (λ old new.
+    ensures told { LeadsHandle handle.old.held result handle.new.held (λ old new.
         DoesAndCounts old ForkBuffer result number.new new) }
+    ensures closed { handle.old.held ≡ None → number.new ≡ number.old }
 {
     let Some(session) = handle.take(alloc) else {
         return CLOSED;
@@ -239,7 +242,7 @@ pub extern "C" fn rope_search_choose(alloc: Global, handle: &mut Handle, number:
 }
 
 /// Drops the chosen buffer's history, as `Session::forget` does: its text, its pattern and its
-/// report stay. It takes no memory.
+/// report stay. It is never refused.
 #[unsafe(no_mangle)]
 pub extern "C" fn rope_search_forget(alloc: Global, handle: &mut Handle) -> u32
     ensures { LeadsHandle handle.old.held result handle.new.held

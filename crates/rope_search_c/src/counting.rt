@@ -6,7 +6,6 @@ ghost use Rattle.rope_search.specs.Stands.{ForOrders};
 ghost use Rattle.rope_search_c.specs.Calls.{Carries, DoesAndCounts, DoesOrder, DoesAndFinds, Forgets, TellsFound};
 ghost use Rattle.rope_search_c.specs.Calls as calls;
 ghost use Rattle.rope_search_c.specs.Edits.{MakesEdits};
-ghost use Rattle.rope_search_c.specs.Edits as text_edits;
 
 use crate::edits::{TextEdit, edits_of};
 use crate::matches::Match;
@@ -20,22 +19,12 @@ pub struct CountingSession {
     pub(crate) lines: Lines,
 }
 
-/// 0 where a command is done, else the rank of what refuses it.
-fn status_of(answer: Result<Reply, Fault>) -> u32
+/// 0 where what is asked is done, else the rank of what refuses it.
+fn status_of<T: Drop>(answer: Result<T, Fault>) -> u32
     ensures { result ≡ calls.status_of answer }
 {
     match answer {
         Ok(_) => 0,
-        Err(fault) => u32::from(fault.rank()),
-    }
-}
-
-/// 0 where edits are made, else the rank of what refuses them.
-fn status_of_edits(answer: Result<(), Fault>) -> u32
-    ensures { result ≡ text_edits.status_of answer }
-{
-    match answer {
-        Ok(()) => 0,
         Err(fault) => u32::from(fault.rank()),
     }
 }
@@ -122,7 +111,7 @@ impl CountingSession {
             Ok(edits) => edits,
             Err(fault) => return u32::from(fault.rank()),
         };
-        status_of_edits(self.session.edit_all(&mut self.lines, &edits))
+        status_of(self.session.edit_all(&mut self.lines, &edits))
     }
 
     pub(crate) fn undo(&mut self) -> u32

@@ -18,8 +18,8 @@ pub struct PatternReason {
 }
 
 /// How C names a mistake in a pattern.
-fn number_of(mistake: Mistake) -> u32
-    ensures { result ≡ errors.number_of mistake }
+fn mistake_number(mistake: Mistake) -> u32
+    ensures { result ≡ errors.mistake_number mistake }
 {
     match mistake {
         Mistake::OpenGroup => 2,
@@ -46,7 +46,7 @@ fn reason_number(reason: Reason) -> u32
     match reason {
         Reason::TooLong => 0,
         Reason::Nesting => 1,
-        Reason::Outside(mistake) => number_of(mistake),
+        Reason::Outside(mistake) => mistake_number(mistake),
     }
 }
 

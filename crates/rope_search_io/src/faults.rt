@@ -5,7 +5,7 @@ use std::fmt;
 /// Why a command is refused. After each the session, its buffers and their reports are as before.
 /// The numbers are the order in which refusals are told: of all that apply, the one with the least.
 /// It is shown by its word.
-#[derive(Clone, Copy, Debug, PartialEq, Eq)]
+#[derive(Clone, Copy, Debug, PartialEq, Eq, Hash)]
 pub enum Fault {
     /// There is no such buffer, no pattern, or no text to go back or forward to.
     Nothing = 1,
@@ -15,7 +15,7 @@ pub enum Fault {
     Utf8 = 3,
     /// The payload is no pattern.
     Pattern = 4,
-    /// The pattern is too long.
+    /// The pattern is too long or too heavy.
     Limit = 5,
     /// The new text would have more bytes than the limit.
     Size = 6,
@@ -87,11 +87,11 @@ impl<T: Drop> From<AllocFailed<T>> for Fault {
 
 /// A source gave no bytes, or a sink took none, though it was to. It is told once and never retried
 /// here. No byte is lost by it.
-#[derive(Clone, Copy, Debug, PartialEq, Eq)]
+#[derive(Clone, Copy, Debug, PartialEq, Eq, Hash)]
 pub struct Failed;
 
 /// Why a run broke off.
-#[derive(Clone, Copy, Debug, PartialEq, Eq)]
+#[derive(Clone, Copy, Debug, PartialEq, Eq, Hash)]
 pub enum Broken {
     /// The source failed. All replies to the commands that were read whole are written, and the
     /// sink wasn't flushed.

@@ -18,7 +18,7 @@ use str_indices::{chars, utf16};
 /// A line, and a column in it: how many UTF-16 code units stand between the line's start and the
 /// place. Both begin at 0.
 #[repr(C)]
-#[derive(Clone, Copy, Debug, PartialEq, Eq)]
+#[derive(Clone, Copy, Debug, PartialEq, Eq, Hash)]
 pub struct Position {
     /// The line's index.
     pub line: usize,

@@ -233,9 +233,8 @@ pub fn find_from(
 
 /// Returns all matches in a whole text with their groups 0 to 9: the first from the text's start,
 /// each further one from the end of the one before, an empty match there passed over. One search of
-/// a whole text is counted, also after an error. Each match takes a search of what is behind the
-/// one before, in time linear in that, times the pattern's weight. Memory is in proportion to their
-/// number.
+/// a whole text is counted, also after an error. Time is linear in the text, times the pattern's
+/// weight. Memory is in proportion to the number of matches.
 ///
 /// Errors: `Fault::Memory`; the finder serves on.
 pub fn find_all(tick: &mut Lines, finder: &mut Finder, text: &Rope) -> Result<Vec<Groups>, Fault>

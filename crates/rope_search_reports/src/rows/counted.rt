@@ -102,8 +102,10 @@ pub fn group_in(slots: &[Slot], group: usize) -> Option<(usize, usize)>
 }
 
 /// The span of what is found in an input's content from a place on. The places of its groups are
-/// put into the slots, of which there are two or more.
+/// put into the slots, of which there are two or more. One search of a whole text is counted as it
+/// begins.
 fn find<C: Cursor>(
+    tick: &mut Lines,
     regex: &Regex,
     cache: &mut Cache,
     input: &mut Input<C>,
@@ -118,7 +120,12 @@ fn find<C: Cursor>(
         → AsksFrom content from input.new }
     ensures made { IsCacheOf regex.now cache.new }
     ensures fault { IfErr result (λ fault. fault ≡ Fault.Memory) }
+    ensures count { tick.new.count ≡ tick.old.count }
+    ensures wholes { tick.new.wholes ≡ min (tick.old.wholes + 1) (2 ^ 64 - 1) }
+    ensures grows { tick.old.wholes ≤ tick.new.wholes }
+    ensures looked { tick.new.looked ≡ tick.old.looked }
 {
+    tick.add_whole();
     match regex.search_slots_with(cache, input, slots) {
         Ok(_) => Ok(group_in(slots, 0)),
         Err(_) => Err(Fault::Memory),
@@ -177,10 +184,15 @@ impl CountedRegex {
         ensures grows { tick.old.wholes ≤ tick.new.wholes }
         ensures looked { tick.new.looked ≡ tick.old.looked }
     {
-        tick.add_whole();
         let len = text.len_bytes();
         let mut input = input_over(RopeyCursor::at(text, from), len, from);
-        find(&self.regex, &mut self.cache, &mut input, &mut [None; 2])
+        find(
+            tick,
+            &self.regex,
+            &mut self.cache,
+            &mut input,
+            &mut [None; 2],
+        )
     }
 
     /// The search of an input, of which no match has come yet.

@@ -49,12 +49,12 @@ returns-in_err-edit-in-Ok-clause-rows c = λ bytes cost stands costs.
     record { inside = omega (arith, inside.buffers.ok.0); is = c.index_mut.ensures.value; all = c.self.invariant.1.0; seen = c.self.view_is } in
     let told = c.edit.ensures in
     let nowhere : HasNoneBetween (current_text old.state) c.args.from c.args.to → c.edit.new.tick.count ≤ c.args.tick.now.count =
-    λ none. omega (arith, ap (λ (t : Ticks). t.count) (told.astray (told.range.1 none))) in
+    λ none. omega (arith, ap (λ (t : Ticks). t.count) (told.range_unsearched (told.range.1 none))) in
     let long : GetsTooLong old.limit (current_text old.state) c.args.from c.args.to (length bytes) → c.edit.new.tick.count ≤ c.args.tick.now.count =
     λ over. omega (
       arith,
       ap (λ (t : Ticks). t.count)
-          (told.refused (told.size.1 (subst (λ t. GetsTooLong old.limit (current_text old.state) c.args.from c.args.to (length t)) (sym same) over))),
+          (told.size_unsearched (told.size.1 (subst (λ t. GetsTooLong old.limit (current_text old.state) c.args.from c.args.to (length t)) (sym same) over))),
     ) in
     let rows : c.edit.new.tick.count ≤ c.args.tick.now.count + rows_anew old.state (chars bytes) =
     omega (arith, told.rows.made, ap (λ t. rows_anew old.state (chars t)) same) in
@@ -89,12 +89,12 @@ returns-in_ok-edit-in-Ok-clause-rows c = λ bytes cost stands costs.
     record { inside = omega (arith, inside.buffers.ok.0); is = c.index_mut.ensures.value; all = c.self.invariant.1.0; seen = c.self.view_is } in
     let told = c.edit.ensures in
     let nowhere : HasNoneBetween (current_text old.state) c.args.from c.args.to → c.edit.new.tick.count ≤ c.args.tick.now.count =
-    λ none. omega (arith, ap (λ (t : Ticks). t.count) (told.astray (told.range.1 none))) in
+    λ none. omega (arith, ap (λ (t : Ticks). t.count) (told.range_unsearched (told.range.1 none))) in
     let long : GetsTooLong old.limit (current_text old.state) c.args.from c.args.to (length bytes) → c.edit.new.tick.count ≤ c.args.tick.now.count =
     λ over. omega (
       arith,
       ap (λ (t : Ticks). t.count)
-          (told.refused (told.size.1 (subst (λ t. GetsTooLong old.limit (current_text old.state) c.args.from c.args.to (length t)) (sym same) over))),
+          (told.size_unsearched (told.size.1 (subst (λ t. GetsTooLong old.limit (current_text old.state) c.args.from c.args.to (length t)) (sym same) over))),
     ) in
     let rows : c.edit.new.tick.count ≤ c.args.tick.now.count + rows_anew old.state (chars bytes) =
     omega (arith, told.rows.made, ap (λ t. rows_anew old.state (chars t)) same) in

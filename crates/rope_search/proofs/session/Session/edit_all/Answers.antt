@@ -39,11 +39,11 @@ returns-clause-changed c =
     record { inside = omega (arith, inside.buffers.ok.0); is = c.index_mut.ensures.value; all = c.self.invariant.1.0; seen = c.self.view_is } in
     tells_told inside.buffers.items inside.chosen limit old c.edit_all.new.self c.args.self.now chosen (map in_full c.args.edits.now) c.edit_all.result c.edit_all.ensures.changed c.edit_all.ensures.added
 
-pub returns-clause-refused : goal.returns-clause-refused
-returns-clause-refused c = λ fault why.
+pub returns-clause-unsearched : goal.returns-clause-unsearched
+returns-clause-unsearched c = λ fault why.
     let inside = c.self.inside in
     let old = c.index_mut.result.now in
     let limit = limit_in inside.buffers.items inside.chosen in
     let chosen : Chosen inside.buffers.items inside.chosen limit old c.args.self.now =
     record { inside = omega (arith, inside.buffers.ok.0); is = c.index_mut.ensures.value; all = c.self.invariant.1.0; seen = c.self.view_is } in
-    c.edit_all.ensures.refused fault (refuses_there inside.buffers.items inside.chosen limit old c.edit_all.new.self c.args.self.now chosen (map in_full c.args.edits.now) fault why)
+    c.edit_all.ensures.unsearched fault (refuses_there inside.buffers.items inside.chosen limit old c.edit_all.new.self c.args.self.now chosen (map in_full c.args.edits.now) fault why)

@@ -47,8 +47,8 @@ returns-in_err-number-in-Ok-clause-rows c = λ bytes cost stands costs.
     rows_replaced inside.buffers.items inside.chosen limit old bytes c.args.self.now c.replace.new.tick.count c.args.tick.now.count
     (record { inside = omega (arith, inside.buffers.ok.0); is = c.index_mut.ensures.value; all = c.self.invariant.1.0; seen = c.self.view_is })
     utf8
-    (λ none. omega (arith, ap (λ (t : Ticks). t.count) (told.astray (told.nothing.1 none))))
-    (λ long. omega (arith, ap (λ (t : Ticks). t.count) (told.refused (omega (arith, long, ap length same)))))
+    (λ none. omega (arith, ap (λ (t : Ticks). t.count) (told.nothing_unsearched (told.nothing.1 none))))
+    (λ long. omega (arith, ap (λ (t : Ticks). t.count) (told.size_unsearched (omega (arith, long, ap length same)))))
     (λ over. omega (arith, told.unmade (subst (λ t. GetsTooLongWith old.limit old.state (chars t)) (sym same) over)))
     (λ n rows. told.rows n (subst (λ t. RowsOfReplacement old.state (chars t) n) (sym same) rows))
     cost costs
@@ -86,8 +86,8 @@ returns-in_ok-number-in-Ok-clause-rows c = λ bytes cost stands costs.
     rows_replaced inside.buffers.items inside.chosen limit old bytes c.args.self.now c.replace.new.tick.count c.args.tick.now.count
     (record { inside = omega (arith, inside.buffers.ok.0); is = c.index_mut.ensures.value; all = c.self.invariant.1.0; seen = c.self.view_is })
     utf8
-    (λ none. omega (arith, ap (λ (t : Ticks). t.count) (told.astray (told.nothing.1 none))))
-    (λ long. omega (arith, ap (λ (t : Ticks). t.count) (told.refused (omega (arith, long, ap length same)))))
+    (λ none. omega (arith, ap (λ (t : Ticks). t.count) (told.nothing_unsearched (told.nothing.1 none))))
+    (λ long. omega (arith, ap (λ (t : Ticks). t.count) (told.size_unsearched (omega (arith, long, ap length same)))))
     (λ over. omega (arith, told.unmade (subst (λ t. GetsTooLongWith old.limit old.state (chars t)) (sym same) over)))
     (λ n rows. told.rows n (subst (λ t. RowsOfReplacement old.state (chars t) n) (sym same) rows))
     cost costs

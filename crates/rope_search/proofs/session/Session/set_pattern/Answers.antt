@@ -63,7 +63,7 @@ returns-in_err-set_pattern-in-Ok-clause-rows c = λ bytes cost stands costs.
     let none : (IsPattern (chars bytes) → ⊥) → c.set_pattern.new.tick.count ≤ c.args.tick.now.count =
     λ is_not. omega (arith, ap (λ (t : Ticks). t.count) (told.unsearched (λ is. is_not (subst (λ bs. IsPattern (chars bs)) same is)))) in
     let long : pattern_limit < length bytes → c.set_pattern.new.tick.count ≤ c.args.tick.now.count =
-    λ over. omega (arith, ap (λ (t : Ticks). t.count) (told.long_unsearched (told.too_long (omega (arith, over, ap length same))))) in
+    λ over. omega (arith, ap (λ (t : Ticks). t.count) (told.limit_unsearched (told.too_long (omega (arith, over, ap length same))))) in
     pattern_rows c.one_of_three.ensures inside.buffers.items inside.chosen limit old bytes c.args.self.now c.set_pattern.new.tick.count c.args.tick.now.count chosen utf8 none long told.rows.made cost costs
 
 pub returns-in_ok-set_pattern-in-Ok-clause-rows : goal.returns-in_ok-set_pattern-in-Ok-clause-rows
@@ -80,7 +80,7 @@ returns-in_ok-set_pattern-in-Ok-clause-rows c = λ bytes cost stands costs.
     let none : (IsPattern (chars bytes) → ⊥) → c.set_pattern.new.tick.count ≤ c.args.tick.now.count =
     λ is_not. omega (arith, ap (λ (t : Ticks). t.count) (told.unsearched (λ is. is_not (subst (λ bs. IsPattern (chars bs)) same is)))) in
     let long : pattern_limit < length bytes → c.set_pattern.new.tick.count ≤ c.args.tick.now.count =
-    λ over. omega (arith, ap (λ (t : Ticks). t.count) (told.long_unsearched (told.too_long (omega (arith, over, ap length same))))) in
+    λ over. omega (arith, ap (λ (t : Ticks). t.count) (told.limit_unsearched (told.too_long (omega (arith, over, ap length same))))) in
     pattern_rows c.one_of_three.ensures inside.buffers.items inside.chosen limit old bytes c.args.self.now c.set_pattern.new.tick.count c.args.tick.now.count chosen utf8 none long told.rows.made cost costs
 
 pub invariant_of-self-in-Ok : goal.invariant_of-self-in-Ok

@@ -34,7 +34,7 @@ returns-in_err-set_text-in-Ok-clause-rows c = λ bytes cost stands costs.
     let same : c.in-Ok.text.now ≡ bytes = c.in-Ok.ensures.cases.0 ∙ sym given in
     let utf8 : IsUtf8 bytes = subst IsUtf8 (sym given) c.in-Ok.ensures.cases.1 in
     let long : old.limit < length bytes → c.set_text.new.tick.count ≤ c.args.tick.now.count =
-    λ over. omega (arith, ap (λ (t : Ticks). t.count) (told.refused (told.size.1 (omega (arith, over, ap length same))))) in
+    λ over. omega (arith, ap (λ (t : Ticks). t.count) (told.unsearched (told.size.1 (omega (arith, over, ap length same))))) in
     let rows : c.set_text.new.tick.count ≤ c.args.tick.now.count + rows_anew old.state (chars bytes) =
     omega (arith, told.rows.made, ap (λ t. rows_anew old.state (chars t)) same) in
     rows_taken inside.buffers.items inside.chosen (limit_in inside.buffers.items inside.chosen) old bytes c.args.self.now c.set_text.new.tick.count c.args.tick.now.count
@@ -50,7 +50,7 @@ returns-in_ok-set_text-in-Ok-clause-rows c = λ bytes cost stands costs.
     let same : c.in-Ok.text.now ≡ bytes = c.in-Ok.ensures.cases.0 ∙ sym given in
     let utf8 : IsUtf8 bytes = subst IsUtf8 (sym given) c.in-Ok.ensures.cases.1 in
     let long : old.limit < length bytes → c.set_text.new.tick.count ≤ c.args.tick.now.count =
-    λ over. omega (arith, ap (λ (t : Ticks). t.count) (told.refused (told.size.1 (omega (arith, over, ap length same))))) in
+    λ over. omega (arith, ap (λ (t : Ticks). t.count) (told.unsearched (told.size.1 (omega (arith, over, ap length same))))) in
     let rows : c.set_text.new.tick.count ≤ c.args.tick.now.count + rows_anew old.state (chars bytes) =
     omega (arith, told.rows.made, ap (λ t. rows_anew old.state (chars t)) same) in
     rows_taken inside.buffers.items inside.chosen (limit_in inside.buffers.items inside.chosen) old bytes c.args.self.now c.set_text.new.tick.count c.args.tick.now.count

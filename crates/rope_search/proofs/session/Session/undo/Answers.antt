@@ -24,7 +24,7 @@ returns-in_err-undo-clause-rows c = λ cost costs.
     let chosen : Chosen inside.buffers.items inside.chosen (limit_in inside.buffers.items inside.chosen) old c.args.self.now =
     record { inside = omega (arith, inside.buffers.ok.0); is = c.index_mut.ensures.value; all = c.self.invariant.1.0; seen = c.self.view_is } in
     rows_undone inside.buffers.items inside.chosen (limit_in inside.buffers.items inside.chosen) old c.args.self.now c.undo.new.tick.count c.args.tick.now.count chosen
-    (λ none. omega (arith, ap (λ (t : Ticks). t.count) (told.refused (told.nothing.1 none)))) told.rows.made cost costs
+    (λ none. omega (arith, ap (λ (t : Ticks). t.count) (told.unsearched (told.nothing.1 none)))) told.rows.made cost costs
 
 pub returns-clause-rows : goal.returns-clause-rows
 returns-clause-rows c = λ cost costs.
@@ -34,7 +34,7 @@ returns-clause-rows c = λ cost costs.
     let chosen : Chosen inside.buffers.items inside.chosen (limit_in inside.buffers.items inside.chosen) old c.args.self.now =
     record { inside = omega (arith, inside.buffers.ok.0); is = c.index_mut.ensures.value; all = c.self.invariant.1.0; seen = c.self.view_is } in
     rows_undone inside.buffers.items inside.chosen (limit_in inside.buffers.items inside.chosen) old c.args.self.now c.undo.new.tick.count c.args.tick.now.count chosen
-    (λ none. omega (arith, ap (λ (t : Ticks). t.count) (told.refused (told.nothing.1 none)))) told.rows.made cost costs
+    (λ none. omega (arith, ap (λ (t : Ticks). t.count) (told.unsearched (told.nothing.1 none)))) told.rows.made cost costs
 
 pub returns-clause-changed : goal.returns-clause-changed
 returns-clause-changed c =
