@@ -4,8 +4,11 @@
 # make check    while one works and before a commit: lays out, proves and tests what changed and all that
 #               stands on it, over the work that earlier runs kept, with the programs, and the gate's
 #               edits of the files that changed. CRATES='NAME ..' names more crates
-# make test     the gate: every proof and test, in a copy with nothing taken from out/, the edits that
-#               must be refused, then the tests of the built programs
+# make test     all tests with nothing proved, in ten minutes in a fresh clone on four cores: what they need is
+#               compiled with checks; where bin/rope-search and the library are built of these sources, and so
+#               proved, these are tested
+# make gate     every proof and test, with nothing taken from out/, the edits that must be refused, then the
+#               tests of the built program and library and of what is compiled with checks
 # make edits    tries each edit of code that the prover must refuse: those of crates/NAME/must-fail-gate,
 #               which the gate tries too, and those of crates/NAME/must-fail-more. CRATES='NAME ..'
 #               names some crates, or files as NAME/src/FILE, JOBS=N tries N crates at a time
@@ -26,8 +29,9 @@ PREFIX ?= /usr/local
 # The command of the Rattle kit; make RT=PROGRAM names another.
 RT ?= rt
 program := bin/rope-search
-# It, and those that only tests take.
-programs := $(program) bin/run-driver bin/rope-driver bin/search-driver
+# Those that only tests take, compiled with checks and not proved.
+drivers := bin/run-driver bin/rope-driver bin/search-driver
+programs := $(program) $(drivers)
 session := examples/first.session
 sources := crates.txt $(shell find crates -name out -prune -o -type f \
 	\( -name '*.rt' -o -name '*.antt' \) -print 2>/dev/null)
@@ -38,30 +42,31 @@ need_rt = $(if $(shell command -v $(RT) 2>/dev/null),,$(error $(missing)))
 news := sed -unE -e 's/^rt: chose .* for (.*)/\1/p' -e 's/^so far: ([0-9]+ of [0-9]+ functions).*/    \1/p' \
 	-e 's/^(logic=[^ ]+ functions=[0-9]+).*/    \1/p'
 
-.PHONY: all programs lib demo check test edits bench install release clean
+.PHONY: all programs lib demo check test gate edits bench install release clean
 .DELETE_ON_ERROR:
 
 all: $(program)
 
-$(program): crate := rope_search_cli
-bin/run-driver: crate := run_driver
-bin/rope-driver: crate := rope_driver
-bin/search-driver: crate := search_driver
-minutes := some minutes
-$(program): minutes := some half an hour on four cores
-bin/librope_search_c.a: minutes := some half an hour on four cores
+$(program): minutes := an hour or two on four cores
+bin/librope_search_c.a: minutes := an hour or two on four cores
 
 programs: $(programs)
 
 # rt builds a program only once it is proved, with all crates below it, and then runs it: here on empty
 # input. All that rt says stands in out/rt.log of the program's crate.
-$(programs): $(sources)
+$(program): $(sources)
 	@:$(need_rt)
 	@echo '$@ is built once all its crates are proved: $(minutes) in a fresh clone, seconds where nothing changed'
-	@mkdir -p $(@D) crates/$(crate)/out
-	@cd crates/$(crate) && { $(RT) run < /dev/null 2>&1; echo $$? > out/rt.status; } | tee out/rt.log | $(news)
-	@cd crates/$(crate) && [ "$$(cat out/rt.status)" = 0 ] || { tail -n 40 out/rt.log; false; }
-	@cp crates/$(crate)/out/$(crate) $@.new && mv $@.new $@
+	@mkdir -p $(@D) crates/rope_search_cli/out
+	@cd crates/rope_search_cli && { $(RT) run < /dev/null 2>&1; echo $$? > out/rt.status; } | tee out/rt.log | $(news)
+	@cd crates/rope_search_cli && [ "$$(cat out/rt.status)" = 0 ] || { tail -n 40 out/rt.log; false; }
+	@RT='$(RT)' tests/check --stamp
+	@cp crates/rope_search_cli/out/rope_search_cli $@.new && mv $@.new $@
+
+# A minute or two each, seconds where no source changed.
+$(drivers): bin/%: $(sources) tests/compile tests/compiled/list.txt $(shell find tests/compiled -name '*.rt.txt')
+	@:$(need_rt)
+	@RT='$(RT)' tests/compile $(subst -,_,$*) $@
 
 lib: bin/librope_search.a bin/librope_search.so bin/rope_search.pc
 
@@ -139,7 +144,11 @@ check:
 
 test:
 	@:$(need_rt)
-	@RT='$(RT)' tests/gate
+	@RT='$(RT)' JOBS='$(JOBS)' MAKE='$(MAKE)' tests/all
+
+gate:
+	@:$(need_rt)
+	@RT='$(RT)' JOBS='$(JOBS)' tests/gate
 
 edits:
 	@:$(need_rt)

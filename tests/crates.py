@@ -1,4 +1,5 @@
 """What crates.txt says of the repository's crates, and copies of them, in which rt works beside a run of rt here."""
+import functools
 import os
 import shutil
 import subprocess
@@ -7,11 +8,36 @@ RT = os.environ.get("RT", "rt")
 ROOT = os.path.dirname(os.path.dirname(os.path.abspath(__file__)))
 
 
-def listed():
-    """Each crate of the repository, and the libraries that it names."""
-    with open(f"{ROOT}/crates.txt", encoding="utf-8") as file:
+def read_list(path):
+    """Each crate of a list, and the libraries that it names."""
+    with open(path, encoding="utf-8") as file:
         lines = [line.partition("#")[0].partition(":") for line in file]
     return {crate.split()[0]: libraries.split() for crate, colon, libraries in lines if colon}
+
+
+def listed():
+    """Each crate of the repository, and the libraries that it names."""
+    return read_list(f"{ROOT}/crates.txt")
+
+
+def compiled():
+    """Each crate that is compiled with checks and not proved, and the libraries that it names: those of tests/compiled, and
+    the benchmarks' program."""
+    return read_list(f"{ROOT}/tests/compiled/list.txt")
+
+
+def sources_of(crate):
+    """The folder of a crate's sources."""
+    if crate not in compiled():
+        return f"{ROOT}/crates/{crate}/src"
+    return f"{ROOT}/bench/program/src" if crate == "bench" else f"{ROOT}/tests/compiled/{crate}/src"
+
+
+@functools.lru_cache(maxsize=None)
+def kit():
+    """The folder of the kit."""
+    doc = subprocess.run([RT, "doc"], stdout=subprocess.PIPE, text=True, check=True).stdout
+    return os.path.dirname(doc.strip())
 
 
 def is_static(name):
@@ -56,19 +82,17 @@ def copied(name, room):
 def words_over(command, name, libraries, jobs):
     """The words of rattle that check or build a crate, in its own folder, over the libraries that are built in a folder
     of crates: so many functions are proved at a time."""
-    doc = subprocess.run([RT, "doc"], stdout=subprocess.PIPE, text=True, check=True).stdout
-    kit = os.path.dirname(doc.strip())
     top = "src/main.rt" if os.path.exists(f"{ROOT}/crates/{name}/src/main.rt") else "src/lib.rt"
-    words = [f"{kit}/bin/rattle", command, "--crate-name", name, top, "--extern", f"std={kit}/rlibs/std.rlib"]
+    words = [f"{kit()}/bin/rattle", command, "--crate-name", name, top, "--extern", f"std={kit()}/rlibs/std.rlib"]
     crates = below(name)
     for library in crates[name]:
-        built = f"{libraries}/{library}/out/rlib" if library in crates else f"{kit}/rlibs"
+        built = f"{libraries}/{library}/out/rlib" if library in crates else f"{kit()}/rlibs"
         words += ["--extern", f"{library}={built}/{library}.rlib"]
     if is_static(name):
         words += ["--crate-type", "staticlib"]
-    for folder in [f"{kit}/rlibs", *(f"{libraries}/{library}/out/rlib" for library in crates if library != name)]:
+    for folder in [f"{kit()}/rlibs", *(f"{libraries}/{library}/out/rlib" for library in crates if library != name)]:
         words += ["-L", f"dependency={folder}"]
-    words += ["--antt-project", f"{kit}/rattle/logic/antt-project.json", "--logic-built", f"{kit}/logic_built"]
+    words += ["--antt-project", f"{kit()}/rattle/logic/antt-project.json", "--logic-built", f"{kit()}/logic_built"]
     if command == "build":
-        words += ["--toolchain", f"{kit}/toolchain", "--backend", "llvm"]
+        words += ["--toolchain", f"{kit()}/toolchain", "--backend", "llvm"]
     return [*words, "--jobs", jobs]

@@ -1,6 +1,6 @@
 """Cases for bin/search-driver: lines that it reads, and what it has to answer to them.
 
-The head of crates/search_driver/src/main.rt says which lines there are.
+The head of tests/compiled/search_driver/src/main.rt.txt says which lines there are.
 """
 import itertools
 from dataclasses import dataclass

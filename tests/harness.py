@@ -20,10 +20,16 @@ LIBRARY = os.path.join(LIBRARY_FOLDER, "librope_search.so")
 ROOM = tempfile.mkdtemp(prefix="rope-search-")  # the one folder that tests write in
 atexit.register(shutil.rmtree, ROOM, ignore_errors=True)
 SECONDS = 120
+SHARE = int(os.environ.get("SHARE") or 100)  # how many percent of the cases at random are tried
 PASSED, FAILED = [], []
 
 # The first session of docs/protocol.md, which is also the stored run of the program.
 FIRST = b"text 5\nab abpattern 6\n(a)(b)replace 4\n$2$1print\nundo\nlist\nprint\nredo\nlist\n"
+
+
+def share_of(cases):
+    """How many of so many cases at random are tried."""
+    return max(1, cases * SHARE // 100)
 
 
 def test(name, problems):

@@ -10,14 +10,14 @@ import itertools
 import random
 
 from driver import PROGRAM_WANT, WANT, Case, Settings, answer_to, check_memory, line_of, problems, written
-from harness import short, test
+from harness import share_of, short, test
 from memory import counted
 from random_patterns import Maker, character
 from test_searches import asked_at_random, pairs
 from walks import Alternation, Concat, Empty, Look, Repeat, Search, Set, spelled
 
 SIZES = (0, 1, 2, 3, 5)  # how many bytes a piece has; 0: all are one piece
-RANDOM_CASES = 4_000
+RANDOM_CASES = share_of(4_000)
 ANYWHERE, AT_START, FIRST, SECOND = 0, 1, 2, 3  # where matches start: at the span's start alone, of this pattern
 BY_SEMICOLON = Settings("m", line_end=ord(";"))
 

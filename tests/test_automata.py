@@ -15,7 +15,7 @@ import re
 
 from driver import PROGRAM_WANT, WANT, Case, Settings
 from driver import answer_to, answers, check_memory, line_of, problems, search, written
-from harness import TOP, differences, short, test
+from harness import TOP, differences, share_of, short, test
 from memory import library, tallied
 from random_patterns import Maker
 from test_all import SIZES
@@ -24,7 +24,7 @@ from test_searches import EXTREMES, SECOND, VECTORS, asked_at_random, listed
 from test_settings import about, engines
 from walks import Search, spelled
 
-RANDOM_CASES, LITERAL_CASES, IN_ONE_RUN = 24_000, 2_000, 500
+RANDOM_CASES, LITERAL_CASES, IN_ONE_RUN = share_of(24_000), share_of(2_000), 500
 LITTLE_ROOM, ALL_ROOM = (0, 700), 2**64 - 1  # of caches, in bytes
 CAPACITIES = (*LITTLE_ROOM, None, ALL_ROOM)  # none: as it is by default
 

@@ -12,7 +12,7 @@ import random
 import re
 
 from driver import WANT, Case, Settings, answers, check_memory, in_runs, line_of, problems, written
-from harness import short, test
+from harness import share_of, short, test
 from random_patterns import Maker
 from test_all import ANYWHERE, AT_START, FIRST, SECOND, SIZES, SMALL_HAYSTACKS, SMALL_TREES, model_of
 from test_searches import asked_at_random, pairs
@@ -20,7 +20,8 @@ from walks import spelled
 
 LITTLE_ROOM, ALL_ROOM = (0, 700), 2**64 - 1  # of caches, in bytes
 CAPACITIES = (*LITTLE_ROOM, None, ALL_ROOM)  # none: as it is by default
-RANDOM_CASES, TABLE_CASES, IN_ONE_RUN = 4_000, 10_000, 500
+RANDOM_CASES, TABLE_CASES, IN_ONE_RUN = share_of(4_000), share_of(10_000), 500
+NO_END = 2**64 - 1  # as of a span of a content of which it isn't told how long it is
 UNSUPPORTED = "the search doesn't support this anchoring"
 
 # Patterns, haystacks, and what is found, as pattern and start; where not all is asked for, also the slice, the span and
@@ -58,8 +59,19 @@ VECTORS = [
     (["b", "ab"], "ab", "0 1", ((0, 2), (0, 2), FIRST)),
     (["b", "ab"], "ab", "1 0", ((0, 2), (0, 2), SECOND)),
     (["b", "ab"], "ab", "none", ((0, 2), (0, 2), SECOND + 1)),
+    # An end past the content is as its end, and a slice's too.
+    (["a*"], "aa", "0 0", ((0, 9), (0, 9), AT_START)),
+    (["a*"], "aa", "0 0", ((0, 2), (0, 3), AT_START)),
+    (["a*"], "aa", "0 0", ((0, 3), (0, 2), AT_START)),
+    (["a*"], "aa", "0 1", ((1, 9), (0, NO_END), AT_START)),
+    (["a*"], "aa", "0 2", ((0, NO_END), (2, NO_END), AT_START)),
+    (["a$", "a"], "ba", "0 1", ((0, 9), (0, 7), AT_START)),
+    (["x*"], "せ", "0 3", ((0, 9), (1, 9), AT_START)),
+    (["b", "ab"], "ab", "1 0", ((0, 9), (0, 9), SECOND)),
+    (["a"], "", "none", ((0, 9), (0, 9), AT_START)),
+    ([""], "", "0 0", ((0, 9), (0, 9), AT_START)),
     # Not where span or slice don't lie so, and not unless it is anchored.
-    (["a*"], "aa", "none", ((0, 9), (0, 9), AT_START)),
+    (["a*"], "aa", "none", ((0, 1), (0, 9), AT_START)),
     (["a*"], "aa", "none", ((0, 1), (0, 2), AT_START)),
     (["a*"], "aa", "none", ((1, 2), (0, 0), AT_START)),
     (["a*"], "aa", "none", ((0, 9), (3, 9), AT_START)),
@@ -67,6 +79,7 @@ VECTORS = [
     ([], "ab", "none"),
     (["a"], "a", UNSUPPORTED, ((0, 1), (0, 1), ANYWHERE)),
     (["a"], "a", UNSUPPORTED, ((0, 1), (0, 9), ANYWHERE)),
+    (["a"], "a", UNSUPPORTED, ((0, 9), (0, 9), ANYWHERE)),
 ]
 
 # By an automaton that has looks of words: before which byte it quits, if one is met before the search is over.
@@ -79,6 +92,7 @@ QUITS = [
     (["\\b.+o"], "aéo", "the search met the byte 169 at 2, and can't go on"),
     (["a\\b"], "éa bb", "none"),
     (["o"], "éoé", "0 2", ((0, 5), (2, 3), AT_START)),
+    (["\\bo"], "éo", "the search met the byte 169 at 1, and can't go on", ((0, 9), (2, 9), AT_START)),
 ]
 
 # With a cache that has room for two states: each letter leads to another one, and so does the first place, and when
@@ -88,6 +102,7 @@ IN_TWO_STATES = [
     (["abcdefg"], "abcdefg", "the search gave up at 0"),
     (["abcdefgh"], "abcdefgh", "the search gave up at 1"),
     (["abcdefgh"], "xabcdefgh", "the search gave up at 2", ((0, 9), (2, 9), AT_START)),
+    (["abcdefgh"], "xabcdefgh", "the search gave up at 2", ((0, NO_END), (2, NO_END), AT_START)),
 ]
 IN_ALL_ROOM = [(["abcdefgh"], "abcdefgh", "0 0"), (["[ab]{5}a[ab]*"], "b" * 99 + "abbab" * 40, "0 94")]
 
@@ -212,7 +227,7 @@ def drawn(count, seed):
 def tables():
     """Searches at random, in short haystacks, in contents that are no UTF-8, and each that stands here, by the
     automaton of the program turned round."""
-    yield from by_table_of(itertools.chain(drawn(TABLE_CASES, 57), in_spans(), in_cut_characters()))
+    yield from by_table_of(itertools.chain(drawn(TABLE_CASES, 57), in_spans(), past_contents(), in_cut_characters()))
     for size, (patterns, haystack, answer, *told) in itertools.product(SIZES, VECTORS):
         asked, inside = (*told, None, False)[:2]
         yield ByTable(patterns, haystack.encode(), answer, size, asked, bool(inside), Settings(), 1)
@@ -226,6 +241,17 @@ def in_spans():
         for slice_ in pairs(0, len(haystack)):
             for span, anchored in itertools.product(pairs(0, len(haystack)), (ANYWHERE, AT_START, FIRST, SECOND)):
                 yield trees, haystack, next(sizes), (slice_, span, anchored)
+
+
+def past_contents():
+    """Spans and slices that end inside a content, at its end and past it."""
+    sizes = itertools.cycle(SIZES)
+    for text, trees in itertools.product(SMALL_HAYSTACKS, SMALL_TREES):
+        haystack = text.encode()
+        ends = *range(len(haystack) + 3), NO_END
+        for slice_end, end, start in itertools.product(ends, ends, range(len(haystack) + 2)):
+            if start <= end + 1:
+                yield trees, haystack, next(sizes), ((0, slice_end), (start, end), AT_START)
 
 
 def in_cut_characters():
@@ -245,6 +271,7 @@ def test_all():
     test("searches backwards answer as they should", problems(vectors()))
     test("searches backwards at random answer as the model", in_runs(cases_of(drawn(RANDOM_CASES, 56))))
     test("searches backwards in all spans of short haystacks answer as the model", in_runs(cases_of(in_spans())))
+    test("searches backwards from ends past the content answer as the model", in_runs(cases_of(past_contents())))
     wrong = problems(cases_of(in_cut_characters()))
     test("searches backwards in contents that are no UTF-8 answer as the model", wrong)
     wrong, how = by_tables(tables())

@@ -72,7 +72,8 @@ def test_code():
         body = re.sub(r"\A(?:use [^;]*;\n)+\n", "", block)
         return bare(body) in bare(code) and used_in(block) <= used_in(code)
 
-    tests = [read(path) for path in glob.glob(os.path.join(TOP, "crates", "*_tests", "src", "*.rt"))]
+    forms = (("crates", "*_tests", "src", "*.rt"), ("tests", "compiled", "*_tests", "src", "*.rt.txt"))
+    tests = [read(path) for form in forms for path in glob.glob(os.path.join(TOP, *form))]
     for form in ("*.md", "docs/*.md", "crates/*/README.md"):
         for path in sorted(glob.glob(os.path.join(TOP, form))):
             name = os.path.relpath(path, TOP)

@@ -1,11 +1,11 @@
 """The first sessions at random of tests/fuzz, and that it shortens one that fails to what is wrong in it."""
 from dataclasses import dataclass
 
-from harness import test
+from harness import share_of, test
 from protocol import read_commands, spelled
 from random_sessions import Trial, failures, shortened, some_trial
 
-SESSIONS, IN_TEST, SEED = 300, 50, 0
+SESSIONS, IN_TEST, SEED = share_of(300), 50, 0
 
 
 @dataclass(frozen=True)

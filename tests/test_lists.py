@@ -9,13 +9,13 @@ import random
 import re
 
 from driver import PROGRAM_WANT, WANT, Case, Settings, check_memory, in_runs, line_of, problems, written
-from harness import short, test
+from harness import share_of, short, test
 from random_patterns import Maker
 from test_all import ANYWHERE, AT_START, FIRST, SECOND, SIZES
 from test_searches import asked_at_random
 from walks import Search, spelled
 
-RANDOM_CASES = 20_000
+RANDOM_CASES = share_of(20_000)
 
 # Patterns, haystacks, and all matches, as pattern, end and slots; where not all is asked for, also the slice, the span
 # and where matches start, and whether empty matches inside a character are found.

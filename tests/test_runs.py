@@ -1,6 +1,7 @@
 """Runs over memory, by bin/run-driver: how many rows they make and how often they search a whole text, with small
-limits on texts, in small reads and writes, and with calls that fail. The head of crates/run_driver/src/main.rt says how rows
-are spelled; what is due is worked out by the model of the protocol, or written out."""
+limits on texts, in small reads and writes, and with calls that fail. The head of
+tests/compiled/run_driver/src/main.rt.txt says how rows are spelled; what is due is worked out by the model of the
+protocol, or written out."""
 import functools
 from dataclasses import dataclass, replace
 from itertools import product

@@ -10,14 +10,14 @@ import re
 
 from driver import OUTSIDE, PROGRAM_WANT, TOO_LARGE, WANT, Case, Settings
 from driver import answer_to, answers, check_memory, in_runs, line_of, problems, written
-from harness import example_rows, short, test
+from harness import example_rows, share_of, short, test
 from memory import library
 from random_patterns import Maker
 from test_all import ANYWHERE, AT_START, FIRST, SIZES
 from test_searches import asked_at_random, listed
 from walks import Search, spelled, static_captures
 
-RANDOM_CASES, STATIC_CASES = 14_000, 5_000
+RANDOM_CASES, STATIC_CASES = share_of(14_000), share_of(5_000)
 LINES = Settings("m")  # under which `^` and `$` are those of lines
 
 # What changes no answer: engines on and off, how many bytes a cache may keep, and how many states are made before.

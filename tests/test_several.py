@@ -9,7 +9,7 @@ import itertools
 import random
 
 from driver import WANT, Case, Settings, check_memory, in_runs, line_of, problems, written
-from harness import short, test
+from harness import share_of, short, test
 from random_patterns import Maker
 from test_all import ANYWHERE, AT_START, FIRST, SECOND, SIZES
 from test_regexes import AROUND, in_rope
@@ -18,7 +18,7 @@ from test_settings import CAPACITIES, engines
 from test_settings import about as about_settings
 from walks import Search, spelled
 
-RANDOM_CASES = 6_000
+RANDOM_CASES = share_of(6_000)
 ROOMS = itertools.cycle(CAPACITIES[:3])  # so many that each comes with each engine
 
 # Patterns, haystacks, and all matches; where not all is asked for, also the slice, the span and where matches start.

@@ -9,7 +9,7 @@ from crates import listed
 from harness import TOP, example_rows, test
 
 # The crates of ropes and of reports.
-CITES_LAWS = re.compile(r"(str_indices|ropey|ropey_tree|ropey_walk|rope_leaves|rope_search_(changes|templates|reports))/")
+CITES_LAWS = re.compile(r"(str_indices|ropey|ropey_tree|ropey_walk|rope_search_(changes|templates|reports))/")
 # Words of definitions that say the same of the types of several crates.
 SHARED = set("""CacheView ComesNext FollowEachOther Gives GivesInOrder GivesNext HasFinds HasFirstMatches InClass IsAnswer
     IsAnswerAt IsCacheOf IsEmptyAtLast IsShowing MatchesStandAtBoundaries Name OneOf StandsAtBoundaries between end_of

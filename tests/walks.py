@@ -361,7 +361,7 @@ class Search:
 
     def find_back(self):
         """The least start of the walks that end where the span ends and count, or None."""
-        end = self.span[1]
+        end = min(self.span[1], len(self.content))
         places = range(self.low, min(end, self.high) + 1)
         return next((place for place in places if end in self.ends(place) and self.counts(place, end)), None)
 
@@ -370,7 +370,8 @@ class Search:
         start, or None. With `pattern` those of that pattern alone."""
         if pattern is not None and pattern >= len(self.trees):
             return None
-        node, end = self.program.start if pattern is None else self.program.patterns[pattern], self.span[1]
+        node = self.program.start if pattern is None else self.program.patterns[pattern]
+        end = min(self.span[1], len(self.content))
         for place in range(self.low, min(end, self.high) + 1):
             matched = [matched for matched, last in self.walked(node, place) if last == end]
             if matched and self.counts(place, end):

@@ -10,7 +10,7 @@ pub mod util;
 
 pub use ropey_cursor::RopeyCursor;
 pub use rx_grammar::{Hir, Mistake, Reason, Refusal, SyntaxError, explain, parse};
-pub use rx_input::{ChunkCursor, Cursor, Input, LookAround};
+pub use rx_input::{ChunkCursor, Cursor, Ends, Input, LookAround, TextRange};
 pub use rx_literals::{Prefilter, literal};
 pub use rx_program::BuildError;
 pub use rx_util::{

@@ -1,5 +1,5 @@
-//! Tests of `regex_cursor` that are proved: an example for each public type, and a cursor of one's
-//! own.
+//! Tests of `regex_cursor` that are proved: an example for each public type, a cursor of one's own,
+//! and finders of one's own for a searcher.
 #![tactic(auto)]
 
 #[cfg(test)]
@@ -16,3 +16,5 @@ mod patterns;
 mod regex;
 #[cfg(test)]
 mod ropey_cursor;
+#[cfg(test)]
+mod searchers;

@@ -1,6 +1,5 @@
-//! Examples of prefilters, and of what a regex tells by the literals that its matches begin with.
+//! An example of prefilters.
 
-use regex_cursor::engines::meta::Regex;
 use regex_cursor::{ChunkCursor, Input, MatchKind, Prefilter, Span, literal};
 use std::test::Fail;
 
@@ -14,20 +13,5 @@ fn prefilter(rt: HostRuntime) -> Result<(), Fail> {
         let found = literal::find(&prefilter, &mut input);
         assert!(rt; found == Some(Span { start: 4, end: 8 }));
     }
-    Ok(())
-}
-
-/// Where a regex says that nothing matches before, in a content.
-fn told(re: &Regex, content: &str) -> Option<usize> {
-    re.no_match_before(&mut Input::new(content))
-}
-
-/// How far nothing matches: to the first of the literals, to the end, or it isn't known.
-#[test]
-fn no_match_before(rt: HostRuntime) -> Result<(), Fail> {
-    let frogs = Regex::new(rt.alloc(), "frog|toad")?;
-    assert!(rt; told(&frogs, "a toad") == Some(2) && told(&frogs, "a newt") == Some(6));
-    let digits = Regex::new(rt.alloc(), "[0-9]")?;
-    assert!(rt; told(&digits, "a newt") == None);
     Ok(())
 }

@@ -2,7 +2,8 @@
 
 ghost use Rattle.std.specs.Prelude.{◌≡◌};
 
-use regex_cursor::{Cursor, Input, MatchKind, Prefilter, Span, literal};
+use regex_cursor::engines::{dfa, hybrid};
+use regex_cursor::{Anchored, Cursor, Input, MatchKind, Prefilter, Span, literal};
 use std::marker::Model;
 use std::test::Fail;
 
@@ -88,5 +89,19 @@ fn a_literal_in_a_cursor_of_ones_own(rt: HostRuntime) -> Result<(), Fail> {
         let mut empty = Input::new(Bytewise::new(b""));
         assert!(rt; literal::find(&prefilter, &mut empty).is_none());
     }
+    Ok(())
+}
+
+/// Searches back from the end of a content of which it isn't told how long it is.
+#[test]
+fn back_in_a_cursor_of_ones_own(rt: HostRuntime) -> Result<(), Fail> {
+    let mut input = Input::new(Bytewise::new("aé été".as_bytes()));
+    input.set_anchored(Anchored::Yes);
+    let re = dfa::Regex::new(rt.alloc(), "t?é")?;
+    let found = dfa::try_search_rev(&re, &mut input)?;
+    assert!(rt; found.map(|found| found.offset()) == Some(6));
+    let re = hybrid::Regex::new(rt.alloc(), "t?é")?;
+    let found = hybrid::try_search_rev(&re, &mut re.create_cache()?, &mut input)?;
+    assert!(rt; found.map(|found| found.offset()) == Some(6));
     Ok(())
 }

@@ -3,12 +3,11 @@
 ghost use Rattle.regex_cursor.specs.Regexes.{IsCacheOf};
 
 use regex_cursor::engines::meta::{
-    Builder, Cache, CapturesMatches, Config, FindMatches, Regex, Split,
+    Builder, Cache, CapturesMatches, Config, FindMatches, Regex, Split, SplitN,
 };
 use regex_cursor::util::syntax;
 use regex_cursor::{
-    BuildError, ChunkCursor, Input, Match, MatchError, MatchKind, NonMaxUsize, Prefilter,
-    RopeyCursor, Span, WhichCaptures, parse,
+    BuildError, ChunkCursor, Input, Match, MatchError, RopeyCursor, Span, WhichCaptures,
 };
 use ropey::Rope;
 use std::alloc::Global;
@@ -69,6 +68,7 @@ fn captures_matches(rt: HostRuntime) -> Result<(), Fail> {
     let re = Regex::new(rt.alloc(), r"\w+@(\w+)")?;
     let mut found = re.captures_iter(Input::new(ChunkCursor::new(&chunks)))?;
     assert!(rt; found.regex().captures_len() == 2);
+    found.input().set_start(1);
     assert!(rt; first_group(&mut found)? == Some(Span { start: 7, end: 11 }));
     assert!(rt; found.next().is_none());
     Ok(())
@@ -85,21 +85,23 @@ fn first_part(re: &Regex) -> Result<Option<Span>, MatchError> {
     }
 }
 
-/// A regex for all matches of two patterns.
-fn of_all(alloc: Global) -> Result<Regex, BuildError> {
-    let mut builder = Regex::builder();
-    builder.configure(Config::new().match_kind(MatchKind::All));
-    builder.build_many(alloc, &["a", "(a)b"])
+/// The last of two parts, once the input was moved past the first match.
+fn last_part(re: &Regex) -> Result<Option<Span>, MatchError> {
+    let mut parts: SplitN<&str> = re.splitn(Input::new("a,b,c"), 2)?;
+    parts.input().set_span(2..5);
+    match parts.last() {
+        Some(part) => Ok(Some(part?)),
+        None => Ok(None),
+    }
 }
 
-/// Parts start at 0, wherever the input was moved to. They are counted, also where the match is
-/// looked for that ends last.
+/// Parts start at 0, wherever the input was moved to.
 #[test]
 fn parts(rt: HostRuntime) -> Result<(), Fail> {
     let re = Regex::new(rt.alloc(), ",")?;
     assert!(rt; first_part(&re)? == Some(Span { start: 0, end: 3 }));
+    assert!(rt; last_part(&re)? == Some(Span { start: 4, end: 5 }));
     assert!(rt; re.split(Input::new("a,b,c"))?.count() == 3);
-    assert!(rt; of_all(rt.alloc())?.split(Input::new("abab"))?.count() == 2);
     Ok(())
 }
 
@@ -129,29 +131,36 @@ fn builder(rt: HostRuntime) -> Result<(), Fail> {
     Ok(())
 }
 
+/// What is found of `git nix`, in any case, from byte 1 on, by a cursor that begins there.
+fn git_nix(alloc: Global, text: &str) -> Result<Option<Span>, Fail> {
+    let mut builder = Regex::builder();
+    builder.syntax(
+        syntax::Config::new()
+            .case_insensitive(true)
+            .multi_line(true),
+    );
+    let re = builder.build(alloc, "git nix")?;
+    let rope = Rope::from_str(alloc, text)?;
+    let slice = rope.slice(..);
+    let cursor = RopeyCursor::at(slice, slice.len_bytes().min(1));
+    let found = re.find(Input::new(cursor).range(1..))?;
+    Ok(found.map(|found| found.span()))
+}
+
+/// Settings of the syntax hold in a rope from a place on.
+#[test]
+fn from_a_place_on(rt: HostRuntime) -> Result<(), Fail> {
+    assert!(rt; git_nix(rt.alloc(), "x")? == None);
+    assert!(rt; git_nix(rt.alloc(), "xgit nix")? == Some(Span { start: 1, end: 8 }));
+    assert!(rt; git_nix(rt.alloc(), "git nix\nGit Nix")? == Some(Span { start: 8, end: 15 }));
+    Ok(())
+}
+
 /// Why there is no regex: here the pattern isn't in the grammar.
 #[test]
 fn build_error(rt: HostRuntime) -> Result<(), Fail> {
     let refused: Option<BuildError> = Regex::builder().build(rt.alloc(), "(").err();
     assert!(rt; refused.is_some_and(|error| error.syntax_error().is_some()));
-    Ok(())
-}
-
-/// A regex of what a pattern spells, which looks for a caller's literal first.
-fn of_tree(alloc: Global, pattern: &str, needle: &[u8]) -> Result<Regex, Fail> {
-    let hir = parse(alloc, pattern, &syntax::Config::new())?;
-    let prefilter = Prefilter::new(alloc, MatchKind::LeftmostFirst, &[needle])?;
-    let mut builder = Builder::new();
-    builder.configure(Config::new().auto_prefilter(false).prefilter(prefilter));
-    Ok(builder.build_from_hir(alloc, &hir)?)
-}
-
-/// It finds what it should.
-#[test]
-fn build_from_hir(rt: HostRuntime) -> Result<(), Fail> {
-    let re = of_tree(rt.alloc(), "ab+", b"a")?;
-    assert!(rt; re.is_accelerated() && re.get_config().get_prefilter().is_some());
-    assert!(rt; re.is_match(Input::new("cab"))? && re.memory_usage() > 0);
     Ok(())
 }
 
@@ -213,37 +222,5 @@ fn cache(rt: HostRuntime) -> Result<(), Fail> {
             )
     );
     assert!(rt; first.create_cache()?.memory_usage() > 0 && has_any(&second)?);
-    Ok(())
-}
-
-/// The places of the match that comes next in an input with a cache which is lent.
-fn next_with(
-    re: &Regex,
-    cache: &mut Cache,
-    input: &mut Input<&str>,
-    last: Option<usize>,
-) -> Result<[Option<NonMaxUsize>; 2], MatchError>
-    requires { IsCacheOf re.now cache.old }
-    ensures { IsCacheOf re.now cache.new }
-{
-    let mut slots = [None; 2];
-    if re.pattern_len() == 1 {
-        re.next_slots_with(cache, input, &mut slots, last)?;
-    }
-    Ok(slots)
-}
-
-fn next_after(re: &Regex, input: &mut Input<&str>, last: usize) -> Result<bool, MatchError> {
-    let mut cache = re.create_cache()?;
-    let slots = next_with(re, &mut cache, input, Some(last))?;
-    Ok(slots == [NonMaxUsize::new(3), NonMaxUsize::new(3)])
-}
-
-/// An empty match where the last match ended is passed over, and the one behind it found.
-#[test]
-fn next_slots_with(rt: HostRuntime) -> Result<(), Fail> {
-    let re = Regex::new(rt.alloc(), "x*")?;
-    let mut input = Input::new("x-b").range(2..);
-    assert!(rt; next_after(&re, &mut input, 2)?);
     Ok(())
 }

@@ -1,9 +1,7 @@
-//! Tests of `rope_search` and the crates below it: an example of each public type, and sources and
-//! sinks that are made up.
+//! Tests of `rope_search` and the crates below it that are proved: an example of each public type,
+//! and a source and a sink of one's own.
 #![tactic(auto)]
 
-#[cfg(test)]
-mod devices;
 #[cfg(test)]
 mod embedded;
 #[cfg(test)]

@@ -1,6 +1,5 @@
-//! Tests of `ropey` and `str_indices` that are proved: an example of each public type, readers,
-//! writers and a chunk that are made up, and sizes. What else ropes answer is tested on the program
-//! `rope_driver`.
+//! Tests of `ropey` and `str_indices` that are proved: an example of each public type, and a chunk of
+//! one's own.
 #![tactic(auto)]
 
 #[cfg(test)]
@@ -9,11 +8,3 @@ mod examples;
 mod index_examples;
 #[cfg(test)]
 mod own_chunk;
-#[cfg(test)]
-mod reading;
-#[cfg(test)]
-mod sizes;
-#[cfg(test)]
-mod texts;
-#[cfg(test)]
-mod writing;

@@ -9,6 +9,7 @@ use Rattle.rx_util.specs.Search.{Found}
 use Rattle.rx_input.specs.Cursors.{IsSameContent}
 use Rattle.rx_input.specs.Inputs.{InputState}
 use Rattle.rx_input.specs.Searchers.{items_at_most}
+pub use Rattle.rx_input.specs.Searchers.{is_last_end}
 use Rattle.rx_walks.specs.Machines.{Outcome}
 use Rattle.rx_walks.specs.Programs.{Notes}
 use Rattle.rx_walks.specs.Finds.{Search, from_place_on}
@@ -53,11 +54,6 @@ pub record GivesNext {A : Type 0} (finding : Finding) (item_of : Outcome Notes �
     (m : MatchesLeft) (item : Option (Result A MatchError)) (n : MatchesLeft) : Type 0 where
   pub gives : GivesMatch finding item_of m item n
   pub refused : IsWantOfMemory item
-
--- the last match ended here
-abbrev pub is_last_end : Option ℕ → ℕ → Bool
-is_last_end None place = false
-is_last_end (Some end) place = end == place
 
 -- a match that comes next ends in the span, not before its start, and behind that where the last
 -- one ended there

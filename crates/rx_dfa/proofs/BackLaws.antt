@@ -1,13 +1,17 @@
 -- A search back, place after place.
 use Rattle.std.proofs.Common.{inl, inr, ◌≡◌, ℕ, suc, ◌+◌, ◌-◌, ◌<◌, ◌≤◌, ◌==◌, Bool, true, false, not, ◌&&◌, cond, List, [], ◌∷◌, ◌++◌, length, take, Option, Some, None, Result, Ok, Err, option_map, slice_get, refl, sym, ap, ap₂, subst, ◌∙◌, arith}
-use Rattle.std.specs.Prelude.{IfErr, IfSome}
+use Rattle.std.specs.Prelude.{IfErr, IfSome, IsTrue}
 use Rattle.std.proofs.lemmas.Bool.{le-ltb, lt-ltb}
 use Rattle.std.proofs.lemmas.List.{append-nil, length-take}
 use Rattle.std.proofs.lemmas.Option.{slice_get_within}
+use Rattle.rx_util.specs.Anchoring as modes
 use Rattle.rx_util.specs.Search.{HalfFound}
+use Rattle.rx_util.specs.declared.search.Anchored.{Anchored}
+use Rattle.rx_util.specs.declared.search.Anchored.TheVariants as anchored
 use Rattle.rx_util.specs.declared.search.MatchError.{MatchError}
 use Rattle.rx_util.specs.declared.search.MatchError.TheVariants.{Memory, Quit, GaveUp, UnsupportedAnchored}
-use Rattle.rx_walks.specs.Finds.{Search, IsInside}
+use Rattle.rx_walks.specs.Backward.{end_in_content}
+use Rattle.rx_walks.specs.Finds.{Search, IsInside, is_anchored}
 use Rattle.rx_walks.specs.Looks as walks
 use Rattle.rx_walks.specs.Looks.{start_text, end_text, start_line, end_line, word_boundary, no_word_boundary, is_same}
 use Rattle.rx_walks.specs.ProgramFinds.{lowest, before_in, after_in}
@@ -20,7 +24,7 @@ use Rattle.rx_steps.specs.declared.asked.AskedLooks.{AskedLooks}
 use Rattle.rx_steps.specs.Lists.{Asks, is_among}
 use Rattle.rx_steps.specs.ListsAll.{nodes_of}
 use Rattle.rx_steps.specs.Reversed.{IsNextListBack}
-use Rattle.rx_steps.specs.Searching.{haystack_in}
+use Rattle.rx_steps.specs.Searching.{anchoring_of, haystack_in}
 use Rattle.rx_steps.specs.Threads.{Thread}
 use Rattle.rx_steps.specs.ComingBack.{HasComeBack, IsOverBack, IsStepBack, back_machine_in, byte_taken_back, mirror_match, mirror_of}
 use Rattle.rx_steps.proofs.AlikeBackLaws.{starts_are_met_unread, steps_thinned}
@@ -34,7 +38,7 @@ use Rattle.rx_dfa.specs.declared.states.Starting.{Starting}
 use Rattle.rx_dfa.specs.declared.states.Starting.TheVariants.{Never, Once, Always}
 use Rattle.rx_dfa.specs.Alphabets.{ahead_at, ahead_in, column_count}
 use Rattle.rx_dfa.specs.Automata.{ReadsBack, directed}
-use Rattle.rx_dfa.specs.Back.{HasEndedBack, HasReachedBack, IsBehindBack, IsFirstColumn, IsRefusalBackBy, MeetsStart, StandBefore, StandsBack, StartsBack, best_from, nodes_at, place_back, placed_error}
+use Rattle.rx_dfa.specs.Back.{HasEndedBack, HasReachedBack, IsBehindBack, IsFirstColumn, IsRefusalBackBy, MeetsStart, StandBefore, StandsBack, StartsBack, StopsBack, best_from, nodes_at, place_back, placed_error}
 use Rattle.rx_dfa.specs.Behind.{behind_of, ends_line_at, is_end, is_start, is_word_ascii, is_word_at, looks_of, quits, starts_line, was_word}
 use Rattle.rx_dfa.specs.Caches.{HasFirst}
 use Rattle.rx_dfa.specs.Classes.{byte_of, class_of}
@@ -113,8 +117,8 @@ come_thin p s q i threads thin best thins come = λ next ends after out steps la
 
 -- ---- where it begins
 
--- a search begins with one walk, at the span's end
-pub begun_back : (a : Automaton) (s : Search) (q i : ℕ) (states : List AutomatonState) (number : ℕ) (o : Option ℕ) {behind : Behind} → i ≡ s.end → HasFirst states (Once q) behind number → o ≡ byte_after s i → behind ≡ behind_of a.alphabet.now.asked (directed a).bytes.line_terminator o
+-- a search begins with one walk, at the end
+pub begun_back : (a : Automaton) (s : Search) (q i : ℕ) (states : List AutomatonState) (number : ℕ) (o : Option ℕ) {behind : Behind} → i ≡ end_in_content s → HasFirst states (Once q) behind number → o ≡ byte_after s i → behind ≡ behind_of a.alphabet.now.asked (directed a).bytes.line_terminator o
     → quits a.alphabet.now.asked o ≡ false → StandsBack a s q i states number None
 begun_back a s q i states number o here first seen side told =
     let p = (directed a).bytes in
@@ -156,7 +160,7 @@ inside_after s i (Some k) met inside was =
     subst (λ j. IsInside s j) (sym there) inside
 
 -- a search stands at the place before
-passed_one : (p : Directed) (asked : AskedLooks) (s : Search) (q i b : ℕ) (x y : AutomatonState) (met : Option HalfFound) → p.is_back ≡ true → AreAskedBy p.bytes.states asked → IsInside s s.end → IsInside s i → lowest s < i → slice_get s.content (i - 1) ≡ Some b → quits asked (Some b) ≡ false
+passed_one : (p : Directed) (asked : AskedLooks) (s : Search) (q i b : ℕ) (x y : AutomatonState) (met : Option HalfFound) → p.is_back ≡ true → AreAskedBy p.bytes.states asked → IsInside s (end_in_content s) → IsInside s i → lowest s < i → slice_get s.content (i - 1) ≡ Some b → quits asked (Some b) ≡ false
     → IsStep p asked x (ahead_of false b) y → HasReachedBack p.bytes s q i x met → IsBehindBack p.bytes asked s i x
     → HasReachedBack p.bytes s q (i - 1) y (met_after (s.end - i) y.ended met) × IsBehindBack p.bytes asked s (i - 1) y
 passed_one p asked s q i b x y met way are last inside lt byte told step reached behind =
@@ -193,7 +197,7 @@ rest_before s i b bytes there = record {
 }
 
 -- a search that stands at a state stands before these bytes at the one to which they lead
-bytes_passed_back : (a : Automaton) (s : Search) (q : ℕ) (bytes : List ℕ) (i d : ℕ) (x y : AutomatonState) (met met' : Option HalfFound) → ReadsBack a → IsInside s s.end → IsInside s i → StandBefore s i bytes → d ≡ s.end - i
+bytes_passed_back : (a : Automaton) (s : Search) (q : ℕ) (bytes : List ℕ) (i d : ℕ) (x y : AutomatonState) (met met' : Option HalfFound) → ReadsBack a → IsInside s (end_in_content s) → IsInside s i → StandBefore s i bytes → d ≡ s.end - i
     → Passes a bytes d x met y met' → HasReachedBack (directed a).bytes s q i x met → IsBehindBack (directed a).bytes a.alphabet.now.asked s i x
     → HasReachedBack (directed a).bytes s q (i - length bytes) y met' × IsBehindBack (directed a).bytes a.alphabet.now.asked s (i - length bytes) y
 bytes_passed_back a s q [] i d x y met met' back last inside there e none reached behind =
@@ -218,7 +222,7 @@ first_before s i n bytes there = record {
   low = omega (arith, there.low, length-take n bytes);
 }
 
-pub stands_on_back : (a : Automaton) (s : Search) (q i d n : ℕ) (bytes : List ℕ) (states states' : List AutomatonState) (number number' : ℕ) (met met' : Option HalfFound) → ReadsBack a → IsInside s s.end → IsInside s i → StandBefore s i bytes → d ≡ s.end - i → n ≤ length bytes
+pub stands_on_back : (a : Automaton) (s : Search) (q i d n : ℕ) (bytes : List ℕ) (states states' : List AutomatonState) (number number' : ℕ) (met met' : Option HalfFound) → ReadsBack a → IsInside s (end_in_content s) → IsInside s i → StandBefore s i bytes → d ≡ s.end - i → n ≤ length bytes
     → ((x : AutomatonState) → slice_get states number ≡ Some x → HasPassed a states' x (take n bytes) d met number' met') → StandsBack a s q i states number met → StandsBack a s q (i - n) states' number' met'
 stands_on_back a s q i d n bytes states states' number number' met met' back last inside there e le passed at =
     let on = passed at.state at.stands in
@@ -256,7 +260,7 @@ over_ends p s q i x met inside gone never reached =
     }
 
 -- the step at the first place
-pub first_ends : (p : ByteProgram) (asked : AskedLooks) (s : Search) (q i : ℕ) (x : AutomatonState) (ended : Option ℕ) (met : Option HalfFound) → AreAskedBy p.states asked → IsInside s s.end → IsInside s i → i ≡ lowest s → quits asked (byte_before s i) ≡ false
+pub first_ends : (p : ByteProgram) (asked : AskedLooks) (s : Search) (q i : ℕ) (x : AutomatonState) (ended : Option ℕ) (met : Option HalfFound) → AreAskedBy p.states asked → IsInside s (end_in_content s) → IsInside s i → i ≡ lowest s → quits asked (byte_before s i) ≡ false
     → MeetsStart p s i x ended → IsBehindBack p asked s i x → HasReachedBack p s q i x met → HasEndedBack p s q (best_from s.end (met_after (s.end - i) ended met))
 first_ends p asked s q i x ended met are last inside first told meets behind reached =
     let best = best_from s.end met in
@@ -313,7 +317,7 @@ pub err_each : {A : Type 0} {P Q : MatchError → Type 0} (r : Result A MatchErr
 err_each (Ok x) on is = is
 err_each (Err e) on is = on e is
 
-pub refused_before : (is_whole : Bool) (a : Automaton) (s : Search) (i d : ℕ) (bytes : List ℕ) (e : MatchError) → StandBefore s i bytes → IsInside s i → d ≡ s.end - i → IsRefusalAmong is_whole a d bytes e → IsRefusalBackBy is_whole a.alphabet.now.asked s (placed_error s.end e)
+pub refused_before : (is_whole : Bool) (a : Automaton) (s : Search) (i d : ℕ) (bytes : List ℕ) (e : MatchError) → StandBefore s i bytes → IsInside s i → d ≡ s.end - i → IsRefusalAmong is_whole a d bytes e → StopsBack is_whole a.alphabet.now.asked s (placed_error s.end e)
 refused_before is_whole a s i d bytes Memory there inside at why = why
 refused_before is_whole a s i d bytes (Quit b j) there inside at (le, e, told) =
     let lt = slice_get_within bytes (j - d) b e in
@@ -331,7 +335,20 @@ refused_before is_whole a s i d bytes (GaveUp j) there inside at (part, le, lt) 
 )
 refused_before is_whole a s i d bytes (UnsupportedAnchored mode) there inside at why = absurd why
 
-pub lacks_back : (is_whole : Bool) (asked : AskedLooks) (s : Search) (i at : ℕ) (e : MatchError) → IsInside s i → at ≡ i → IsLack is_whole at e → IsRefusalBackBy is_whole asked s e
+pub lacks_back : (is_whole : Bool) (asked : AskedLooks) (s : Search) (i at : ℕ) (e : MatchError) → IsInside s i → at ≡ i → IsLack is_whole at e → StopsBack is_whole asked s e
 lacks_back true asked s i at e inside here lack = absurd lack
-lacks_back false asked s i at e inside here (inl is) = subst (λ r. IsRefusalBackBy false asked s r) (sym is) refl
-lacks_back false asked s i at e inside here (inr is) = subst (λ r. IsRefusalBackBy false asked s r) (sym is) (refl, subst (λ k. IsInside s k) (sym here) inside)
+lacks_back false asked s i at e inside here (inl is) = subst (λ r. StopsBack false asked s r) (sym is) refl
+lacks_back false asked s i at e inside here (inr is) = subst (λ r. StopsBack false asked s r) (sym is) (refl, subst (λ k. IsInside s k) (sym here) inside)
+
+-- a search back that began on an anchored input and stops is refused so
+pub stops_refused : (is_whole : Bool) (asked : AskedLooks) (s : Search) (e : MatchError) → IsTrue (is_anchored s.anchoring) → StopsBack is_whole asked s e → IsRefusalBackBy is_whole asked s e
+stops_refused is_whole asked s Memory on why = (on, why)
+stops_refused is_whole asked s (Quit b i) on why = (on, why)
+stops_refused is_whole asked s (GaveUp i) on why = (on, why)
+stops_refused is_whole asked s (UnsupportedAnchored mode) on why = absurd why
+
+-- a mode that is anchored
+pub is_on : (a mode : Anchored) → mode ≡ a → modes.is_anchored mode ≡ true → IsTrue (is_anchored (anchoring_of a))
+is_on a anchored.No same on = absurd (cc on)
+is_on a anchored.Yes same on = subst (λ z. IsTrue (is_anchored (anchoring_of z))) same refl
+is_on a (anchored.Pattern k) same on = subst (λ z. IsTrue (is_anchored (anchoring_of z))) same refl

@@ -1,6 +1,6 @@
 -- What a search by an automaton that reads backwards knows where it stands. It counts places from
--- the span's end back.
-use Rattle.std.specs.Prelude.{◌≡◌, ℕ, ◌+◌, ◌-◌, ◌<◌, ◌≤◌, Bool, true, false, List, [], ◌++◌, length, Option, Some, None, option_map, slice_get, IfSome}
+-- the span's end back, also where the content ends before.
+use Rattle.std.specs.Prelude.{◌≡◌, ℕ, ◌+◌, ◌-◌, ◌<◌, ◌≤◌, Bool, true, false, List, [], ◌++◌, length, Option, Some, None, option_map, slice_get, IfSome, IsTrue}
 use Rattle.rx_util.specs.Search.{HalfFound}
 use Rattle.rx_util.specs.declared.search.Anchored.TheVariants.{No}
 use Rattle.rx_util.specs.declared.search.MatchError.{MatchError}
@@ -105,15 +105,21 @@ pub record HasEndedBack (p : ByteProgram) (s : Search) (q : ℕ) (best : Option 
     pub over : IsOverBack p s q best
     pub inside : IfSome best (λ found. IsInside s found.offset)
 
--- why a search back answers nothing: there was no memory; it met a byte of the slice before which
--- it can't go on; it gave up at a place inside; or it isn't anchored. Where all steps are known it
--- doesn't want for memory or room.
+-- why a search back that began stops: there was no memory; it met a byte of the slice before which
+-- it can't go on; or it gave up at a place inside. Where all steps are known it doesn't want for
+-- memory or room.
+abbrev pub StopsBack : Bool → AskedLooks → Search → MatchError → Type 0
+StopsBack is_whole asked s error.Memory = is_whole ≡ false
+StopsBack is_whole asked s (error.Quit b i) = IsRefusal asked s (error.Quit b i)
+StopsBack is_whole asked s (error.GaveUp i) = (is_whole ≡ false) × IsInside s i
+StopsBack is_whole asked s (error.UnsupportedAnchored mode) = ⊥
+
+-- why a search back answers nothing: it stops, or it isn't anchored and doesn't begin
 abbrev pub IsRefusalBackBy : Bool → AskedLooks → Search → MatchError → Type 0
-IsRefusalBackBy is_whole asked s error.Memory = is_whole ≡ false
-IsRefusalBackBy is_whole asked s (error.Quit b i) = IsRefusal asked s (error.Quit b i)
-IsRefusalBackBy is_whole asked s (error.GaveUp i) = (is_whole ≡ false) × IsInside s i
 IsRefusalBackBy is_whole asked s (error.UnsupportedAnchored mode) =
     (mode ≡ No) × (is_anchored s.anchoring ≡ false)
+IsRefusalBackBy is_whole asked s error =
+    IsTrue (is_anchored s.anchoring) × StopsBack is_whole asked s error
 
 -- so it is for a search by states that are made as it comes to them
 abbrev pub IsLazyRefusalBack : AskedLooks → Search → MatchError → Type 0

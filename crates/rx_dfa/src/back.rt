@@ -1,9 +1,10 @@
-//! Searches back by an automaton of a program turned round, from the end of the span on. Places are
-//! counted from there, and bytes are turned round, so that the loop over them is the one that
+//! Searches back by an automaton of a program turned round, from the end of the span on, or of the
+//! content where that comes first. Places are counted from the span's end, and bytes are turned round, so that the loop over them is the one that
 //! searches forward.
 
 ghost use Rattle.std.specs.Prelude.{◌≡◌, ◌-◌, ◌<◌, ◌≤◌, ℕ, Bool, IsTrue, true, false, None, Some, get_or, length, min, take, IfErr, IfOk, OnOk};
 ghost use Rattle.rx_util.specs.declared.search.MatchError.{MatchError};
+ghost use Rattle.rx_walks.specs.Backward.{end_in_content};
 ghost use Rattle.rx_walks.specs.Finds.{IsInside, Search, is_anchored};
 ghost use Rattle.rx_walks.specs.ProgramFinds.{lowest, start_node};
 ghost use Rattle.rx_input.specs.Cursors.{IsSameContent};
@@ -14,7 +15,7 @@ ghost use Rattle.rx_steps.specs.Reversed.{IsHalfAnswerBack, IsReverseOf};
 ghost use Rattle.rx_steps.specs.Searching.{anchoring_of, search_of};
 ghost use Rattle.rx_dfa.specs.Alphabets.{IsAlphabetBack};
 ghost use Rattle.rx_dfa.specs.Automata.{ReadsBack, directed};
-ghost use Rattle.rx_dfa.specs.Back.{HasEndedBack, IsFirstColumn, IsLazyRefusalBack, IsRefusalBackBy, StandBefore, StandsBack, best_from, placed_error};
+ghost use Rattle.rx_dfa.specs.Back.{HasEndedBack, IsFirstColumn, IsLazyRefusalBack, IsRefusalBackBy, StandBefore, StandsBack, StopsBack, best_from, placed_error};
 ghost use Rattle.rx_dfa.specs.Behind.{quits};
 ghost use Rattle.rx_dfa.specs.Caches.{GivesUpLate, IsCacheOf};
 ghost use Rattle.rx_dfa.specs.Directions.{backward};
@@ -144,7 +145,8 @@ fn pass_back<T: Table, C: Cursor>(
     ensures table { IsTable T.is_whole automaton.now (T.shown table.new) }
     ensures number { IfOk result (λ next. next < length (T.shown table.new).states) }
     ensures stands { IfOk result (λ next. (utf8_empty : Bool) → (q : ℕ)
-        → IsInside (search_of utf8_empty input.old) input.old.asked.span.end
+        → IsInside (search_of utf8_empty input.old)
+        (end_in_content (search_of utf8_empty input.old))
         → StandsBack automaton.now (search_of utf8_empty input.old) q input.old.position
         (T.shown table.old).states number met.old
         → StandsBack automaton.now (search_of utf8_empty input.old) q input.new.position
@@ -156,7 +158,7 @@ fn pass_back<T: Table, C: Cursor>(
         → input.new.position < input.old.position) }
     ensures same { IsMoved input.old input.new input.new.position input.old.asked }
     ensures refused { IfErr result (λ error. (utf8_empty : Bool)
-        → IsRefusalBackBy T.is_whole automaton.now.alphabet.now.asked
+        → StopsBack T.is_whole automaton.now.alphabet.now.asked
         (search_of utf8_empty input.old) error) }
     ensures late { IfErr result (GivesUpLate (T.shown table.new)) }
 {
@@ -189,13 +191,14 @@ fn finish_back<T: Table, C: Cursor>(
         → input.old.position ≡ lowest (search_of utf8_empty input.old) }
     ensures table { IsTable T.is_whole automaton.now (T.shown table.new) }
     ensures ended { IfOk result (λ best. (utf8_empty : Bool) → (q : ℕ)
-        → IsInside (search_of utf8_empty input.old) input.old.asked.span.end
+        → IsInside (search_of utf8_empty input.old)
+        (end_in_content (search_of utf8_empty input.old))
         → StandsBack automaton.now (search_of utf8_empty input.old) q input.old.position
         (T.shown table.old).states number met
         → HasEndedBack (directed automaton.now).bytes (search_of utf8_empty input.old) q best) }
     ensures same { IsMoved input.old input.new input.old.position input.old.asked }
     ensures refused { IfErr result (λ error. (utf8_empty : Bool)
-        → IsRefusalBackBy T.is_whole automaton.now.alphabet.now.asked
+        → StopsBack T.is_whole automaton.now.alphabet.now.asked
         (search_of utf8_empty input.old) error) }
     ensures late { IfErr result (GivesUpLate (T.shown table.new)) }
 {
@@ -215,7 +218,7 @@ fn finish_back<T: Table, C: Cursor>(
     }
 }
 
-/// Searches back from a state, from where an input stands, the end of its span.
+/// Searches back from a state, from where an input stands, the end of its span or content.
 fn follow_back<T: Table, C: Cursor>(
     table: &mut T,
     automaton: &Automaton,
@@ -227,7 +230,8 @@ fn follow_back<T: Table, C: Cursor>(
     requires first { first < length (T.shown table.old).states }
     requires inside { (utf8_empty : Bool)
         → IsInside (search_of utf8_empty input.old) input.old.position }
-    requires end { input.old.position ≡ input.old.asked.span.end }
+    requires end { (utf8_empty : Bool)
+        → input.old.position ≡ end_in_content (search_of utf8_empty input.old) }
     ensures table { IsTable T.is_whole automaton.now (T.shown table.new) }
     ensures ended { IfOk result (λ best. (utf8_empty : Bool) → (q : ℕ)
         → StandsBack automaton.now (search_of utf8_empty input.old) q input.old.position
@@ -236,7 +240,7 @@ fn follow_back<T: Table, C: Cursor>(
     ensures same { IsSameContent input.old.cursor input.new.cursor }
     ensures asked { input.new.asked ≡ input.old.asked }
     ensures refused { IfErr result (λ error. (utf8_empty : Bool)
-        → IsRefusalBackBy T.is_whole automaton.now.alphabet.now.asked
+        → StopsBack T.is_whole automaton.now.alphabet.now.asked
         (search_of utf8_empty input.old) error) }
     ensures late { IfErr result (GivesUpLate (T.shown table.new)) }
 {
@@ -254,8 +258,8 @@ fn follow_back<T: Table, C: Cursor>(
     }
 }
 
-/// Searches back from the end of the span, at which an input has to stand, with walks that start
-/// from a state of the program.
+/// Searches back from the end of the span or content, at which an input has to stand, with walks
+/// that start from a state of the program.
 fn begin_back<T: Table, C: Cursor>(
     table: &mut T,
     automaton: &Automaton,
@@ -268,7 +272,8 @@ fn begin_back<T: Table, C: Cursor>(
         (anchoring_of input.old.asked.anchored) ≡ Some start }
     requires inside { (utf8_empty : Bool)
         → IsInside (search_of utf8_empty input.old) input.old.position }
-    requires end { input.old.position ≡ input.old.asked.span.end }
+    requires end { (utf8_empty : Bool)
+        → input.old.position ≡ end_in_content (search_of utf8_empty input.old) }
     ensures table { IsTable T.is_whole automaton.now (T.shown table.new) }
     ensures ended { IfOk result (λ best. (utf8_empty : Bool)
         → HasEndedBack (directed automaton.now).bytes (search_of utf8_empty input.old) start
@@ -276,7 +281,7 @@ fn begin_back<T: Table, C: Cursor>(
     ensures same { IsSameContent input.old.cursor input.new.cursor }
     ensures asked { input.new.asked ≡ input.old.asked }
     ensures refused { IfErr result (λ error. (utf8_empty : Bool)
-        → IsRefusalBackBy T.is_whole automaton.now.alphabet.now.asked
+        → StopsBack T.is_whole automaton.now.alphabet.now.asked
         (search_of utf8_empty input.old) error) }
     ensures late { IfErr result (GivesUpLate (T.shown table.new)) }
 {
@@ -293,7 +298,8 @@ fn begin_back<T: Table, C: Cursor>(
 }
 
 /// Searches back by a table of an automaton of a program turned round: of the matches that end at
-/// the end of the span, answers the least start, and the least pattern with it.
+/// the end of the span, or of the content where that comes first, answers the least start, and the
+/// least pattern with it.
 pub(crate) fn search_back<T: Table, C: Cursor>(
     table: &mut T,
     automaton: &Automaton,
@@ -333,12 +339,12 @@ pub(crate) fn search_back<T: Table, C: Cursor>(
 }
 
 /// Searches backwards by the automaton of a program turned round: of the matches that end at the
-/// end of the span and lie inside span and slice, answers the least start, and the least pattern
-/// with it, as the program that it was turned from finds them. The cache must be one for searches
-/// back by that automaton, and still is one afterwards, whatever is answered. `utf8_empty` passes
-/// over an empty match inside a character.
+/// end of the span, or of the content where that comes first, and lie inside span and slice,
+/// answers the least start, and the least pattern with it, as the program that it was turned from
+/// finds them. The cache must be one for searches back by that automaton, and still is one
+/// afterwards, whatever is answered. `utf8_empty` passes over an empty match inside a character.
 ///
-/// Refusals are `UnsupportedAnchored` where the input isn't anchored; `Memory`; `Quit`, with a byte
+/// Refusals are `UnsupportedAnchored` where the input isn't anchored; else `Memory`; `Quit`, with a byte
 /// of 128 or more of the slice and its place, where the program asks for looks of words; and
 /// `GaveUp`, with a place inside, at which the cache would have been cleared for the fourth time in
 /// this search.

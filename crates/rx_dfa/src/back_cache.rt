@@ -103,11 +103,12 @@ impl BackCache {
     }
 }
 
-/// Searches backwards: of the matches that end at the end of the span and lie inside span and
-/// slice, answers the least start, and the least pattern with it, as the program that this one was
-/// turned from finds them. The cache must be one for it, and still is one afterwards, whatever is
-/// answered. `utf8_empty` passes over an empty match inside a character. The refusals are
-/// `UnsupportedAnchored` where the input isn't anchored, and else `Memory`.
+/// Searches backwards: of the matches that end at the end of the span, or of the content where that
+/// comes first, and lie inside span and slice, answers the least start, and the least pattern with
+/// it, as the program that this one was turned from finds them. The cache must be one for it, and
+/// still is one afterwards, whatever is answered. `utf8_empty` passes over an empty match inside a
+/// character. The refusals are `UnsupportedAnchored` where the input isn't anchored, and else
+/// `Memory`.
 ///
 /// It searches by the automaton, and where that quits or gives up by walks side by side. It reads
 /// back from the end of the span to its start, or to where no walk lives.

@@ -82,14 +82,19 @@ impl BackTable {
         ensures asked { input.new.asked ≡ input.old.asked }
         ensures refused { IfErr result (IsRefusalBack (search_of utf8_empty input.old)) }
     {
+        let mode = input.get_anchored();
+        if !mode.is_anchored() {
+            return Err(MatchError::UnsupportedAnchored { mode });
+        }
         let mut room = ReverseCache::new(self.reverse.allocator(), &self.reverse)?;
         search_rev(&self.reverse, &mut room, input, utf8_empty)
     }
 
-    /// Searches backwards: of the matches that end at the end of the span and lie inside span and
-    /// slice, answers the least start, and the least pattern with it, as the program that this one
-    /// was turned from finds them. `utf8_empty` passes over an empty match inside a character. The
-    /// refusals are `UnsupportedAnchored` where the input isn't anchored, and else `Memory`.
+    /// Searches backwards: of the matches that end at the end of the span, or of the content where
+    /// that comes first, and lie inside span and slice, answers the least start, and the least
+    /// pattern with it, as the program that this one was turned from finds them. `utf8_empty`
+    /// passes over an empty match inside a character. The refusals are `UnsupportedAnchored` where
+    /// the input isn't anchored, and else `Memory`.
     pub(crate) fn search<C: Cursor>(
         &self,
         input: &mut Input<C>,

@@ -192,9 +192,10 @@ impl DenseTable {
         search(&mut table, &automaton, program, input)
     }
 
-    /// Searches backwards: of the matches that end at the end of the span and lie inside span and
-    /// slice, answers the least start, and the least pattern with it, as the program that this one
-    /// was turned from finds them. `utf8_empty` passes over an empty match inside a character.
+    /// Searches backwards: of the matches that end at the end of the span, or of the content where
+    /// that comes first, and lie inside span and slice, answers the least start, and the least
+    /// pattern with it, as the program that this one was turned from finds them. `utf8_empty`
+    /// passes over an empty match inside a character.
     ///
     /// The refusals are `UnsupportedAnchored` where the input isn't anchored, and `Quit`, with a
     /// byte of 128 or more of the slice and its place, where the program asks for looks of words.

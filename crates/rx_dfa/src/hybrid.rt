@@ -282,10 +282,10 @@ pub fn try_search_fwd<C: Cursor>(
     search::try_search_fwd(re.compiled.program(), &re.dfa, &mut cache.states, input)
 }
 
-/// Searches backwards, on an anchored input: of the matches that end at the end of the span and lie
-/// inside span and slice, answers the least start, and the least pattern with it; with
-/// `Anchored::Pattern` of that pattern's alone. The cache must be one for the engine, and still is
-/// one afterwards, whatever is answered.
+/// Searches backwards, on an anchored input: of the matches that end at the end of the span, or of
+/// the content where that comes first, and lie inside span and slice, answers the least start, and
+/// the least pattern with it; with `Anchored::Pattern` of that pattern's alone. The cache must be
+/// one for the engine, and still is one afterwards, whatever is answered.
 ///
 /// The refusals are `UnsupportedAnchored` where the input isn't anchored, and else `Memory`. It
 /// reads back to the span's start, or to where no match may start any more, and takes a look-up in

@@ -1,11 +1,10 @@
 -- Where in a content a search stands, and what it is asked for. Places are byte indices into the
 -- content.
 use Rattle.std.specs.Prelude.{◌≡◌, ℕ, ◌+◌, ◌-◌, ◌^◌, ◌<◌, ◌≤◌, Bool, false, not, ◌&&◌, nat_lt, List, length, take, drop, min, max, if◌then◌else◌, unwrap_or}
-use Rattle.std.specs.Range.Bound.{start_index, end_index}
-use Rattle.std.specs.declared.ops.Bound.{Bound}
 use Rattle.rx_util.specs.declared.search.Span.{Span}
 use Rattle.rx_util.specs.declared.search.Anchored.{Anchored}
 use Rattle.rx_util.specs.declared.search.Anchored.TheVariants.{No}
+use Rattle.rx_input.specs.declared.ranges.Ends.{Ends}
 use Rattle.rx_input.specs.Cursors.{CursorState, IsLawful, IsSameContent, told_length}
 
 -- what a search is asked for: where a match may lie, what looks may see, where a match may start,
@@ -77,15 +76,9 @@ abbrev pub HasSlice : InputState → InputState → Span → Type 0
 HasSlice old new span =
     IsMoved old new (moved_into old span) (record old.asked { span = span; slice = span })
 
--- the span of a range; an open end is the content's, as far as the cursor tells it
-abbrev pub span_of : Bound ℕ → Bound ℕ → CursorState → Span
-span_of start end c = record { start = start_index start; end = end_index end (told_end c) }
-
--- no bound overflows, and the range is a span
-pub record IsRange (span : Span) : Type 0 where
-  pub start : span.start < 2 ^ 64
-  pub end : span.end < 2 ^ 64
-  pub ordered : IsSpan span
+-- the span of a range; an open start is 0, an open end the content's, as far as the cursor tells it
+abbrev pub span_of : Ends → CursorState → Span
+span_of ends c = record { start = unwrap_or ends.start 0; end = unwrap_or ends.end (told_end c) }
 
 -- bytes around a place, and how many of them stand before it
 pub record Seen : Type 0 where

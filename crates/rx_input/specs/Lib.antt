@@ -3,3 +3,4 @@ pub mod Chunks
 pub mod Inputs
 pub mod Searchers
 pub mod Lending
+pub mod Ranges

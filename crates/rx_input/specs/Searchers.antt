@@ -1,5 +1,5 @@
 -- What a searcher does with what a finder tells.
-use Rattle.std.specs.Prelude.{◌≡◌, ℕ, ◌≤◌, ◌+◌, ◌-◌, ◌<◌, ◌^◌, ◌⊎◌, Bool, true, false, Option, Some, None, is_some, Result, Ok, Err}
+use Rattle.std.specs.Prelude.{◌≡◌, ℕ, ◌≤◌, ◌+◌, ◌-◌, ◌<◌, ◌^◌, ◌⊎◌, ◌==◌, Bool, true, false, Option, Some, None, Result, Ok, Err}
 use Rattle.std.specs.Borrow.{MutBor}
 use Rattle.std.specs.Fn.{Mut, CalledAtMut, always_mut}
 use Rattle.std.specs.Iterator.{Count, at_most}
@@ -129,20 +129,22 @@ module _ {F I : Type 0}
     pub left : F
     pub advances : GivesHalfMatchBy finder left old r new
 
--- the span starts where the last match ended
-abbrev pub StandsAtLast : SearcherState → Type 0
-StandsAtLast s = (end : ℕ) → s.last_match_end ≡ Some end → s.input.asked.span.start ≡ end
+-- the last match ended here
+abbrev pub is_last_end : Option ℕ → ℕ → Bool
+is_last_end None place = false
+is_last_end (Some end) place = end == place
 
--- at most so many items come, with so many bytes ahead: each match but the first ends further on
--- than the one before, and a refusal is the last
+-- at most so many items come, with so many bytes ahead, where the last match ended here or not: each
+-- further one ends further on than the one before, and a refusal is the last
 abbrev pub items_at_most : Bool → Bool → ℕ → ℕ
-items_at_most true has_matched ahead = 0
+items_at_most true is_at_last ahead = 0
 items_at_most false true ahead = ahead + 1
 items_at_most false false ahead = ahead + 2
 
--- how many half matches come at most, where the span starts at the last one's end
+-- how many half matches come at most, wherever the span starts
 abbrev pub half_matches_left : SearcherState → Bool → Count
-half_matches_left s is_over = at_most (items_at_most is_over (is_some s.last_match_end)
+half_matches_left s is_over =
+    at_most (items_at_most is_over (is_last_end s.last_match_end s.input.asked.span.start)
     (s.input.asked.span.end - s.input.asked.span.start))
 
 -- what an iterator gives, by what a step of its searcher answers: none comes where none is

@@ -5,14 +5,14 @@ ghost use Rattle.std.specs.Bool.{OnTrue};
 ghost use Rattle.std.specs.Str.{IsCharBoundary};
 ghost use Rattle.rx_util.specs.declared.search.Span.{Span};
 ghost use Rattle.rx_input.specs.Cursors.{piece_of};
-ghost use Rattle.rx_input.specs.Inputs.{HoldsPlace, asked_first, is_done, IsSpan, HasSpan, HasSlice, IsMoved, IsRange, span_of, seen_around};
+ghost use Rattle.rx_input.specs.Inputs.{HoldsPlace, asked_first, is_done, IsSpan, HasSpan, HasSlice, IsMoved, span_of, seen_around};
 
 use crate::cursor::Cursor;
 use crate::look_around::{LookAround, SIDE};
-use crate::places::{move_to, read_at, span_of};
+use crate::places::{move_to, read_at};
+use crate::ranges::{Ends, TextRange};
 use rx_util::{Anchored, Span};
 use std::marker::Model;
-use std::ops::RangeBounds;
 
 /// A content to search in, with a position in it, and what the search is asked for: a span, in
 /// which a match has to lie; a slice, outside of which looks see nothing; whether a match may start
@@ -184,6 +184,18 @@ impl<C: Cursor> Input<C> {
         self.earliest = yes;
     }
 
+    // The span of a range.
+    fn span_of(&self, ends: Ends) -> Span
+        ensures { result ≡ span_of ends self.now.cursor }
+    {
+        Span {
+            start: ends.start.unwrap_or(0),
+            end: ends
+                .end
+                .unwrap_or(self.cursor.total_bytes().unwrap_or(usize::MAX)),
+        }
+    }
+
     // Sets the span, and moves the position into it.
     fn move_into(&mut self, span: Span)
         requires { IsSpan span }
@@ -249,27 +261,19 @@ impl<C: Cursor> Input<C> {
     /// Sets the span to a range, as `set_span` does. An open start is 0, an open end the content's
     /// end, or `usize::MAX` where the cursor doesn't tell how long the content is.
     ///
-    /// Requires that the range starts at most one place past its end, and that no bound overflows,
-    /// as the end of `0..=usize::MAX` does.
-    pub fn set_range<R: RangeBounds<usize>>(&mut self, range: R)
-        requires known { R.has_bounds range }
-        requires span { IsRange
-            (span_of (R.start_bound range) (R.end_bound range) self.old.cursor) }
-        ensures { HasSpan self.old self.new
-            (span_of (R.start_bound range) (R.end_bound range) self.old.cursor) }
+    /// Requires that the range starts at most one place past its end.
+    pub fn set_range<R: TextRange>(&mut self, range: R)
+        requires { IsSpan (span_of (R.ends range) self.old.cursor) }
+        ensures { HasSpan self.old self.new (span_of (R.ends range) self.old.cursor) }
     {
-        let end = self.cursor.total_bytes().unwrap_or(usize::MAX);
-        self.move_into(span_of(range, end));
+        let span = self.span_of(range.ends());
+        self.move_into(span);
     }
 
-    /// Returns the input with its span set to a range, as `set_range` does and under its
-    /// conditions.
-    pub fn range<R: RangeBounds<usize>>(mut self, range: R) -> Input<C>
-        requires known { R.has_bounds range }
-        requires span { IsRange
-            (span_of (R.start_bound range) (R.end_bound range) self.cursor) }
-        ensures { HasSpan self result
-            (span_of (R.start_bound range) (R.end_bound range) self.cursor) }
+    /// Returns the input with its span set to a range, as `set_range` does and under its condition.
+    pub fn range<R: TextRange>(mut self, range: R) -> Input<C>
+        requires { IsSpan (span_of (R.ends range) self.cursor) }
+        ensures { HasSpan self result (span_of (R.ends range) self.cursor) }
     {
         self.set_range(range);
         self
@@ -289,17 +293,13 @@ impl<C: Cursor> Input<C> {
     }
 
     /// Sets the slice to a range, and the span too, as `slice_span` does, and returns the input. An
-    /// open end is as that of `set_range`, and so are the conditions.
-    pub fn slice<R: RangeBounds<usize>>(&mut self, range: R) -> &mut Input<C>
-        requires known { R.has_bounds range }
-        requires span { IsRange
-            (span_of (R.start_bound range) (R.end_bound range) self.old.cursor) }
-        ensures set { HasSlice self.old result.now
-            (span_of (R.start_bound range) (R.end_bound range) self.old.cursor) }
+    /// open end is as that of `set_range`, and so is the condition.
+    pub fn slice<R: TextRange>(&mut self, range: R) -> &mut Input<C>
+        requires { IsSpan (span_of (R.ends range) self.old.cursor) }
+        ensures set { HasSlice self.old result.now (span_of (R.ends range) self.old.cursor) }
         ensures same_reference { result.ghost_name ≡ self.entry.ghost_name }
     {
-        let end = self.cursor.total_bytes().unwrap_or(usize::MAX);
-        let span = span_of(range, end);
+        let span = self.span_of(range.ends());
         self.move_into(span);
         self.slice = span;
         self

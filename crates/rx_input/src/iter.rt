@@ -1,7 +1,7 @@
 //! Matches one after the other.
 
 ghost use Rattle.std.specs.Prelude.{◌≡◌, ◌+◌, ◌^◌, ◌<◌, ◌≤◌, None, Some, true, false};
-ghost use Rattle.rx_input.specs.Searchers.{GivesHalfMatchBy, GivesAnswer, GivesNextHalfMatch, GivesNextMatch, HasPassedMatch, IsEmptyAtLast, IsHalfMatchFinder, IsMatchFinder, IsSetTo, StandsAtLast, half_matches_left};
+ghost use Rattle.rx_input.specs.Searchers.{GivesHalfMatchBy, GivesAnswer, GivesNextHalfMatch, GivesNextMatch, HasPassedMatch, IsEmptyAtLast, IsHalfMatchFinder, IsMatchFinder, IsSetTo, half_matches_left};
 
 use crate::cursor::Cursor;
 use crate::input::Input;
@@ -76,7 +76,7 @@ impl<I: Searched> Searcher<I> {
     }
 
     /// Returns the input in which the next search is, which may be changed. The end of the last
-    /// match is kept: an empty match that ends there is passed over, and no other.
+    /// match is kept: an empty match that is found there at once is passed over, and no other.
     pub fn input(&mut self) -> &mut I
         ensures* writes_back { sem 𝓛 (LendsInput I.row I.Searched self.entry result) }
         ensures input { I.state result.now ≡ self.old.input }
@@ -221,8 +221,7 @@ impl<I: Searched> Searcher<I> {
     }
 }
 
-/// Half matches one after the other, each or a refusal, after which there are no more. The input's
-/// span must start where the last match ended, as it does unless it was set.
+/// Half matches one after the other, each or a refusal, after which there are no more.
 #[derive(Drop)]
 pub struct TryHalfMatchesIter<I: Searched, F> {
     searcher: Searcher<I>,
@@ -238,8 +237,7 @@ where
 {
     type Item = Result<HalfMatch, MatchError>;
 
-    ghost can_next = { λ it. IsHalfMatchFinder F.FnMut I.state it.finder
-        × (it.is_over ≡ false → StandsAtLast it.searcher) };
+    ghost can_next = { λ it. IsHalfMatchFinder F.FnMut I.state it.finder };
 
     ghost next_gives = { λ it item left. GivesAnswer (λ r. GivesHalfMatchBy F.FnMut I.state
         it.finder left.finder it.searcher r left.searcher) it.is_over item left.is_over };

@@ -1,34 +1,10 @@
-//! Moving a cursor to a place of its content, reading there, and the places of a range.
+//! Moving a cursor to a place of its content, and reading there.
 
 ghost use Rattle.std.specs.Prelude.{◌≡◌, ◌+◌, ◌-◌, ◌≤◌, length, min, take, drop, slice_get, ◌^◌, ◌<◌};
-ghost use Rattle.std.specs.Range.Bound.{start_index, end_index};
 ghost use Rattle.rx_input.specs.Cursors.{IsSameContent};
 ghost use Rattle.rx_input.specs.Inputs.{HoldsPlace};
 
 use crate::cursor::Cursor;
-use rx_util::Span;
-use std::ops::{Bound, RangeBounds};
-
-/// The span of a range, where an open end is this place.
-pub(crate) fn span_of<R: RangeBounds<usize>>(range: R, open_end: usize) -> Span
-    requires known { R.has_bounds range }
-    requires start { start_index (R.start_bound range) < 2 ^ 64 }
-    requires end { end_index (R.end_bound range) open_end < 2 ^ 64 }
-    ensures start { result.start ≡ start_index (R.start_bound range) }
-    ensures end { result.end ≡ end_index (R.end_bound range) open_end }
-{
-    let start = match range.start_bound() {
-        Bound::Included(start) => *start,
-        Bound::Excluded(start) => *start + 1,
-        Bound::Unbounded => 0,
-    };
-    let end = match range.end_bound() {
-        Bound::Included(end) => *end + 1,
-        Bound::Excluded(end) => *end,
-        Bound::Unbounded => open_end,
-    };
-    Span { start, end }
-}
 
 /// Goes back until the piece starts at the place or before it.
 fn back_to<C: Cursor>(cursor: &mut C, at: usize)

@@ -7,7 +7,7 @@ use Rattle.rx_grammar.specs.Subtrees.{subtrees_of, all_subtrees_of, root_of, IsB
 use Rattle.rx_grammar.specs.Weights.{may_be_empty, all_may_be_empty, any_may_be_empty}
 use Rattle.rx_program.specs.Taking.{Times, Takes, TakesInTurn, TakesOneOf, no_character, looks_hold, MayBeEmptyIsTold, EmptyPathsAreTold}
 use Rattle.rx_program.proofs.NoteLaws.{all_left, all_right}
-use Rattle.rx_program.proofs.TakingLaws.{AreBounded, up_to, below, is_bounded, got, paths_are_taken}
+use Rattle.rx_program.proofs.TakingLaws.{AreBounded, up_to, below, parts_are_bounded, got, paths_are_taken}
 
 abbrev Passes : Tree → ℕ → ℕ → Type 0
 Passes tree i j = Takes no_character looks_hold tree i j
@@ -85,11 +85,12 @@ mutual
   branch_may (more one others) i j (inr b) = or_right (may_be_empty one) (any_may_be_empty others) (branch_may others i j b)
 
 pub may_be_empty_is_told : MayBeEmptyIsTold
-may_be_empty_is_told tree well = ((λ may. may_pass tree (is_bounded tree well) 0 may), (λ taken. pass_may tree 0 0 taken))
+may_be_empty_is_told tree bounded = ((λ may. may_pass tree (parts_are_bounded tree bounded) 0 may), (λ taken. pass_may tree 0 0 taken))
 
 pub empty_paths_are_told : EmptyPathsAreTold
 empty_paths_are_told trees terminator well p same k q tree is is' =
-    let told = may_be_empty_is_told tree (got IsWellFormed trees k tree well is) in
+    let whole = got IsWellFormed trees k tree well is in
+    let told = may_be_empty_is_told tree whole.repetitions in
     let both = paths_are_taken trees terminator well no_character looks_hold p same k q tree is is' 0 k 0 (omega arith) in (
       (λ may. both.1 (refl, refl, told.0 may)),
       (λ path. told.1 (both.0 path).2),

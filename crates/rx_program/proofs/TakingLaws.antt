@@ -8,7 +8,7 @@ use Rattle.std.proofs.lemmas.Option.{slice_get_within, get_or_from_slice_get}
 use Rattle.std.proofs.lemmas.List.Elements.{All-cons, All-nil, All-head, All-tail, All-get_or}
 use Rattle.rx_sets.specs.Sets.{Range}
 use Rattle.rx_grammar.specs.Trees.{Tree, Trees, empty, one_of, look_at, group, concat, alternation, repeated, two, more, numbers_of}
-use Rattle.rx_grammar.specs.Subtrees.{subtrees_of, all_subtrees_of, root_of, IsMost, IsBounded, IsWellFormed}
+use Rattle.rx_grammar.specs.Subtrees.{subtrees_of, all_subtrees_of, root_of, nodes_of, IsMost, IsBounded, IsWellFormed}
 use Rattle.rx_grammar.specs.Weights.{may_be_empty, size_of, all_sizes_of, repeated_weight}
 use Rattle.rx_walks.specs.Looks as walks
 use Rattle.rx_walks.specs.Machines.{Move, Machine, ends, goes, reads}
@@ -676,8 +676,11 @@ unmapped P f (x ∷ xs) all = All-cons (λ x. P (f x)) x xs (All-head P (f x) (m
 pub got : {X : Type 0} (P : X → Type 0) (xs : List X) (k : ℕ) (x : X) → All P xs → slice_get xs k ≡ Some x → P x
 got P xs k x all at = subst P (get_or_from_slice_get xs k x x at) (All-get_or P xs k x (slice_get_within xs k x at) all)
 
-pub is_bounded : (tree : Tree) → IsWellFormed tree → All (λ part. IsBounded (root_of part)) (subtrees_of tree)
-is_bounded tree well = unmapped IsBounded root_of (subtrees_of tree) well.repetitions
+pub parts_are_bounded : (tree : Tree) → All IsBounded (nodes_of tree) → All (λ part. IsBounded (root_of part)) (subtrees_of tree)
+parts_are_bounded tree bounded = unmapped IsBounded root_of (subtrees_of tree) bounded
+
+is_bounded : (tree : Tree) → IsWellFormed tree → All (λ part. IsBounded (root_of part)) (subtrees_of tree)
+is_bounded tree well = parts_are_bounded tree well.repetitions
 
 within_from : (s : Search) (i : ℕ) → IsInside s i → is_within (lowest s) (highest s) i ≡ true
 within_from s i inside = and_from (nat_le (lowest s) i) (nat_le i (highest s)) (le-leb (lowest s) i (omega (arith, inside))) (le-leb i (highest s) (omega (arith, inside)))

@@ -3,7 +3,7 @@ use Rattle.std.specs.Prelude.{◌≡◌, ℕ, zero, suc, ◌+◌, ◌≤◌, ◌
 use Rattle.rx_sets.specs.Sets.{Range}
 use Rattle.rx_utf8.specs.Automata.{is_in}
 use Rattle.rx_grammar.specs.Trees.{Tree, Trees, empty, one_of, look_at, group, concat, alternation, repeated, two, more}
-use Rattle.rx_grammar.specs.Subtrees.{IsWellFormed}
+use Rattle.rx_grammar.specs.Subtrees.{IsBounded, IsWellFormed, nodes_of}
 use Rattle.rx_grammar.specs.Weights.{may_be_empty}
 use Rattle.rx_walks.specs.Looks as walks
 use Rattle.rx_walks.specs.Paths.{Path}
@@ -89,9 +89,9 @@ abbrev pub looks_hold : Haystack walks.Look
 looks_hold = record { content = []; low = 0; high = 0; holds = λ asked i. true }
 
 -- what `may_be_empty` says of a tree by its parts, by which programs are laid out, is whether it
--- matches then
+-- matches then: of a whole pattern, or of a part of one, with whatever numbers its groups have
 abbrev pub MayBeEmptyIsTold : Type 0
-MayBeEmptyIsTold = (tree : Tree) → IsWellFormed tree
+MayBeEmptyIsTold = (tree : Tree) → All IsBounded (nodes_of tree)
     → IsTrue (may_be_empty tree) ↔ Takes no_character looks_hold tree 0 0
 
 -- which is whether a path leads from its start node to its match that reads no character, whatever

@@ -55,9 +55,10 @@ pub fn paths_are_taken()
 {}
 
 /// What is said of a tree by its parts, that it may be empty, by which its program is laid out, is
-/// whether it matches where there is no character and all looks hold; and whether a path through
-/// the program of the patterns among which it is, from its start node to its match, reads no
-/// character, whatever looks stand on it.
+/// whether it matches where there is no character and all looks hold: of a part of a pattern too,
+/// whatever numbers its groups have. Of a whole pattern it is whether a path through the program of
+/// the patterns among which it is, from its start node to its match, reads no character, whatever
+/// looks stand on it.
 pub fn may_be_empty_is_told()
     ensures trees { MayBeEmptyIsTold }
     ensures paths { EmptyPathsAreTold }

@@ -9,8 +9,8 @@ use std::alloc::Global;
 use std::marker::Model;
 
 /// Patterns compiled to states over bytes. It comes from `compile` alone. Contracts see its
-/// states, where walks start, and the byte that ends a line (`ByteProgram`); `characters_of` is the
-/// program over characters that it stands for.
+/// states, where walks start, and the byte that ends a line (`ByteProgram`); `character_program` is
+/// the program over characters that it stands for.
 #[derive(Debug, Drop)]
 pub struct Program {
     states: Vec<State>,

@@ -8,7 +8,7 @@ use Rattle.unicode.specs.Perl.{is_word_char}
 use Rattle.rx_sets.specs.Sets.{Range}
 use Rattle.rx_util.specs.Search.{HalfFound}
 use Rattle.rx_utf8.specs.Automata.{is_in}
-use Rattle.rx_walks.specs.Backward.{IsFindBack, none_back, FitsContent, ProgramFindsBack, IsToldBack, none_found, told, not_told, mirrored_search, turned_match}
+use Rattle.rx_walks.specs.Backward.{IsFindBack, none_back, FitsContent, ProgramFindsBack, IsToldBack, none_found, told, not_told, mirrored_search, turned_match, end_in_content}
 use Rattle.rx_walks.specs.BackLaws.{ProgramIsSearchedBack, SearchesBack}
 use Rattle.rx_walks.specs.Bytes.{Automaton, over_bytes, run}
 use Rattle.rx_walks.specs.Finds.{Search, PatternMatch, IsInside}
@@ -65,8 +65,8 @@ reads_back p nodes e is = λ q r x at bs.
 abbrev Finds : ByteProgram → Search → Option PatternMatch → Type 0
 Finds p s out = ProgramFindsBack is_in is_word_char (character_program p) s out
 
--- where the span's end doesn't lie inside, no match ends there
-none_ends : (p : ByteProgram) (s : Search) (q : ℕ) → (IsInside s s.end → ⊥) → IsFindBack (machine_of is_in is_word_char (character_program p) s) fresh_notes s q None
+-- where the end doesn't lie inside, no match ends there
+none_ends : (p : ByteProgram) (s : Search) (q : ℕ) → (IsInside s (end_in_content s) → ⊥) → IsFindBack (machine_of is_in is_word_char (character_program p) s) fresh_notes s q None
 none_ends p s q never = none_back (λ a counts.
     let h = haystack_of (holds_in is_word_char (character_program p).line_terminator s) s in
     let on = trail_within (first_by is_in) (character_program p).nodes h (path_trail put_note (first_by is_in) (character_program p).nodes h (walk_reaches counts.reaches)) in
@@ -79,7 +79,7 @@ by_start p s out o e finds = subst (λ z. IfStarts z (IsFindBack (machine_of is_
 half_none : (p : ByteProgram) (s : Search) → Finds p s None → IsHalfAnswerBack p s None
 half_none p s finds = record { found = None; finds = finds; met_is = refl }
 
-pub outside_answers : (p : ByteProgram) (s : Search) → (IsInside s s.end → ⊥) → IsHalfAnswerBack p s None
+pub outside_answers : (p : ByteProgram) (s : Search) → (IsInside s (end_in_content s) → ⊥) → IsHalfAnswerBack p s None
 outside_answers p s never = half_none p s (by (start_node (character_program p) s.anchoring) refl)
   where
     by : (o : Option ℕ) → start_node (character_program p) s.anchoring ≡ o → Finds p s None
@@ -88,10 +88,10 @@ outside_answers p s never = half_none p s (by (start_node (character_program p) 
 
 -- ---- what is found
 
-fits : (s : Search) → IsInside s s.end → FitsContent s
-fits s inside = record { slice_start = omega (arith, inside.0, inside.4); start = omega (arith, inside.2, inside.4); end = inside.4 }
+fits : (s : Search) → IsInside s (end_in_content s) → FitsContent s
+fits s inside = record { slice_start = omega (arith, inside.0, inside.4); start = omega (arith, inside.2, inside.4) }
 
-module _ (p : ByteProgram) (turned : ReverseByteProgram) (s : Search) (is : IsReverseOf p turned) (reads : IsReverseByteProgram turned) (law : SearchedBackLaw) (last : IsInside s s.end) where
+module _ (p : ByteProgram) (turned : ReverseByteProgram) (s : Search) (is : IsReverseOf p turned) (reads : IsReverseByteProgram turned) (law : SearchedBackLaw) (last : IsInside s (end_in_content s)) where
   nodes : (back_characters_of turned).nodes ≡ (back_program (character_program p)).nodes
   nodes = ap (λ c. c.nodes) is.characters
 
@@ -122,9 +122,9 @@ no_truth b is e = let told : b ≡ true = is in absurd (cc (sym told ∙ e))
 abbrev MayBeEmpty : Search → ℕ → Type 0
 MayBeEmpty s i = IsTrue s.utf8_empty → IsCharBoundary s.content i
 
--- where an empty match may stand at the span's end, or not
+-- where an empty match may stand at the end, or not
 abbrev pub Tells : Search → Bool → Type 0
-Tells s may = IsTrue may ↔ MayBeEmpty s s.end
+Tells s may = IsTrue may ↔ MayBeEmpty s (end_in_content s)
 
 pub told_none : (s : Search) (best answer : Option HalfFound) → best ≡ None → answer ≡ None → IsHalfToldBack s best answer
 told_none s best answer e f = record {
@@ -137,16 +137,16 @@ told_none s best answer e f = record {
 start_is : (s : Search) (f : HalfFound) → f.offset ≤ length s.content → (turned_match s (mirror_match s f)).start ≡ f.offset
 start_is s f le = omega (arith, le)
 
-end_is : (s : Search) (f : HalfFound) → IsInside s s.end → (turned_match s (mirror_match s f)).end ≡ s.end
+end_is : (s : Search) (f : HalfFound) → IsInside s (end_in_content s) → (turned_match s (mirror_match s f)).end ≡ end_in_content s
 end_is s f inside = omega (arith, inside.4)
 
-pub told_some : (s : Search) (best answer : Option HalfFound) (f : HalfFound) (may : Bool) → IsInside s s.end → IsInside s f.offset → Tells s may → best ≡ Some f → answer ≡ Some f → (f.offset ≡ s.end → may ≡ true) → IsHalfToldBack s best answer
+pub told_some : (s : Search) (best answer : Option HalfFound) (f : HalfFound) (may : Bool) → IsInside s (end_in_content s) → IsInside s f.offset → Tells s may → best ≡ Some f → answer ≡ Some f → (f.offset ≡ end_in_content s → may ≡ true) → IsHalfToldBack s best answer
 told_some s best answer f may last inside tells e g so =
     let start = start_is s f inside.4 in
     record {
       found = Some (turned_match s (mirror_match s f));
       is = g ∙ ap (λ k. Some (record { pattern = f.pattern; offset = k })) (sym start);
-      told = subst (λ o. IsToldBack s (option_map (mirror_match s) o) (Some (turned_match s (mirror_match s f)))) (sym e) (told (elim (same_or_not f.offset s.end) [
+      told = subst (λ o. IsToldBack s (option_map (mirror_match s) o) (Some (turned_match s (mirror_match s f)))) (sym e) (told (elim (same_or_not f.offset (end_in_content s)) [
         | inl here ↦ inr (subst (λ k. MayBeEmpty s k) (sym (start ∙ here)) (tells.0 (so here)))
         | inr other ↦ inl (λ back. other (sym start ∙ sym back ∙ end_is s f last))
       ]));
@@ -158,7 +158,7 @@ told_some s best answer f may last inside tells e g so =
       | inr other ↦ inr (λ e. elim other [ inl below ↦ omega (arith, e, below) | inr above ↦ omega (arith, e, above) ])
     ]
 
-pub told_not : (s : Search) (best answer : Option HalfFound) (f : HalfFound) (may : Bool) → IsInside s s.end → IsInside s f.offset → Tells s may → best ≡ Some f → answer ≡ None → f.offset ≡ s.end → may ≡ false → IsHalfToldBack s best answer
+pub told_not : (s : Search) (best answer : Option HalfFound) (f : HalfFound) (may : Bool) → IsInside s (end_in_content s) → IsInside s f.offset → Tells s may → best ≡ Some f → answer ≡ None → f.offset ≡ end_in_content s → may ≡ false → IsHalfToldBack s best answer
 told_not s best answer f may last inside tells e g here not_may =
     let start = start_is s f inside.4 in
     record {

@@ -1,11 +1,11 @@
--- How far a search back has come, from the span's end to where it is over.
+-- How far a search back has come, from the end to where it is over.
 use Rattle.std.proofs.Common.{inl, inr, ◌≡◌, ℕ, suc, ◌+◌, ◌-◌, ◌<◌, ◌≤◌, ◌⊎◌, true, false, cond, IsTrue, List, [], ◌∷◌, map, length, reverse, take, drop, min, Option, Some, None, option_map, slice_get, All, refl, sym, ap, ap₂, subst, ◌∙◌, arith}
 use Rattle.std.proofs.lemmas.Bool.{le-ltb, lt-ltb}
 use Rattle.std.proofs.lemmas.List.{get_or-reverse, length-reverse}
 use Rattle.std.proofs.lemmas.List.Elements.{All-cons, All-nil}
 use Rattle.std.proofs.lemmas.Option.{slice_get-get_or}
 use Rattle.rx_util.specs.Search.{HalfFound}
-use Rattle.rx_walks.specs.Backward.{mirrored_search}
+use Rattle.rx_walks.specs.Backward.{end_in_content, mirrored_search}
 use Rattle.rx_walks.specs.Finds.{Search, PatternMatch, IsInside}
 use Rattle.rx_walks.specs.Laws.{MayBegin}
 use Rattle.rx_walks.specs.Looks as walks
@@ -101,8 +101,13 @@ pub begins_not : (s : Search) (k : ℕ) → mirror_of s s.end < k → MayBegin (
 begins_not s k lt begins = omega (arith, lt, begins.0.1 refl)
 
 -- a search begins with one walk
-pub come_first : (p : ByteProgram) (s : Search) (q : ℕ) → HasComeBack p s q s.end ((q, 0) ∷ []) None
-come_first p s q = λ next ends after out steps latest rest. started (begins_back s) steps latest rest
+pub come_first : (p : ByteProgram) (s : Search) (q : ℕ) → HasComeBack p s q (end_in_content s) ((q, 0) ∷ []) None
+come_first p s q = λ next ends after out steps latest rest.
+    let here : mirror_of s (end_in_content s) ≡ mirror_of s s.end = omega arith in
+    started (begins_back s)
+    (subst (λ k. StepsAll (back_machine_in p s) k [] (started_at (mirror_of s s.end) ((q, 0) ∷ [])) next ends) here steps)
+    (subst (λ k. Latest k None ends after) here latest)
+    (subst (λ k. SearchesAll (back_machine_in p s) (MayBegin (mirrored_search s)) (q, 0) (k + 1) next after out) here rest)
 
 -- ---- a place is passed
 
@@ -128,7 +133,7 @@ goes_on p s q j nodes next met' best step come = λ out rest.
     come (started_at (mirror_of s s.end) next) step.ends (option_map (mirror_match s) (best_back j met' best)) out step.steps (latest_back s j step.ends met' best step.best) rest
 
 -- the place before it is come to
-come_back : (p : ByteProgram) (s : Search) (q j : ℕ) (next : List (ℕ × ℕ)) (best : Option HalfFound) → IsInside s s.end → IsInside s j → lowest s < j → GoesOn p s q j next best → HasComeBack p s q (j - 1) next best
+come_back : (p : ByteProgram) (s : Search) (q j : ℕ) (next : List (ℕ × ℕ)) (best : Option HalfFound) → IsInside s (end_in_content s) → IsInside s j → lowest s < j → GoesOn p s q j next best → HasComeBack p s q (j - 1) next best
 come_back p s q j next best last inside lt on = λ next' ends after out steps latest rest.
     let place : mirror_of s (j - 1) ≡ mirror_of s j + 1 = omega (arith, lt, inside.4) in
     let past : mirror_of s s.end < mirror_of s (j - 1) = omega (arith, lt, inside.3, inside.4, last.4) in
@@ -165,7 +170,7 @@ none_beyond p s j nodes next met' le step =
 
 -- a step was made at a place
 pub record Stepped (p : ByteProgram) (s : Search) (q j : ℕ) (nodes next : List (ℕ × ℕ)) (met' : Option ℕ) (best after : Option HalfFound) : Type 0 where
-  pub last : IsInside s s.end
+  pub last : IsInside s (end_in_content s)
   pub inside : IsInside s j
   pub step : IsStepAll (back_machine_in p s) (mirror_of s j) (started_at (mirror_of s s.end) nodes) (started_at (mirror_of s s.end) next) (end_met_by (mirror_of s s.end) met')
   pub come : HasComeBack p s q j nodes best

@@ -1,6 +1,6 @@
 -- Searches that read backwards: by a program turned round, whose walks are followed from where they
 -- end to where they start.
-use Rattle.std.specs.Prelude.{◌≡◌, ℕ, false, List, map, Option, option_map}
+use Rattle.std.specs.Prelude.{◌≡◌, ℕ, false, IsTrue, List, map, Option, option_map}
 use Rattle.unicode.specs.Perl.{is_word_char}
 use Rattle.rx_util.specs.Search.{HalfFound}
 use Rattle.rx_util.specs.declared.search.Anchored.TheVariants.{No}
@@ -24,16 +24,16 @@ use Rattle.rx_steps.specs.ListsAll.{IsStepAll, MovesSo, end_met_by, started_at}
 
 -- ---- what is found
 
--- what a search answers that reads backwards from the end of the span: of the matches that end
--- there the least start, and the least pattern with it
+-- what a search answers that reads backwards from the end of the span, or of the content where that
+-- comes first: of the matches that end there the least start, and the least pattern with it
 pub record IsHalfAnswerBack (p : ByteProgram) (s : Search) (met : Option HalfFound) : Type 0 where
   pub found : Option PatternMatch
   pub finds : ProgramFindsBack is_in is_word_char (character_program p) s found
   pub met_is : met ≡ option_map (λ a. record { pattern = a.pattern; offset = a.start }) found
 
--- why it answers nothing: there was no memory, or it isn't anchored
+-- why it answers nothing: it is anchored and there was no memory, or it isn't anchored
 abbrev pub IsRefusalBack : Search → MatchError → Type 0
-IsRefusalBack s error.Memory = Unit {0}
+IsRefusalBack s error.Memory = IsTrue (is_anchored s.anchoring)
 IsRefusalBack s (error.UnsupportedAnchored mode) =
     (mode ≡ No) × (is_anchored s.anchoring ≡ false)
 IsRefusalBack s _ = ⊥

@@ -3,6 +3,7 @@
 ghost use Rattle.std.specs.Prelude.{Bool, List, ◌≡◌, ◌↔◌, ◌-◌, ◌<◌, [], ◌∷◌, Some, None, true, false, All, IsTrue, IfOk, IfErr, IfSome, OnOk};
 ghost use Rattle.std.specs.Str.{IsCharBoundary};
 ghost use Rattle.rx_util.specs.declared.search.MatchError.{MatchError};
+ghost use Rattle.rx_walks.specs.Backward.{end_in_content};
 ghost use Rattle.rx_walks.specs.Finds.{IsInside, Search, is_anchored};
 ghost use Rattle.rx_walks.specs.Looks as walks;
 ghost use Rattle.rx_walks.specs.ProgramFinds.{start_node};
@@ -42,23 +43,24 @@ pub fn start_back(program: &ReverseProgram, anchored: Anchored) -> Option<StateI
     }
 }
 
-/// Moves an input to the end of its span, and tells whether that lies inside slice and content and
-/// not before the start; where it doesn't, the input stands anywhere.
+/// Moves an input to the end of its span, or of its content where that comes first, and tells
+/// whether that lies inside the slice and not before the start; where it doesn't, the input stands
+/// anywhere.
 pub fn enter_end<C: Cursor>(input: &mut Input<C>) -> bool
     ensures inside { result ≡ true → (utf8_empty : Bool)
         → IsInside (search_of utf8_empty input.old) input.new.position }
-    ensures end { result ≡ true → input.new.position ≡ input.old.asked.span.end }
+    ensures end { result ≡ true → (utf8_empty : Bool)
+        → input.new.position ≡ end_in_content (search_of utf8_empty input.old) }
     ensures none { result ≡ false → (utf8_empty : Bool)
-        → IsInside (search_of utf8_empty input.old) input.old.asked.span.end → ⊥ }
+        → IsInside (search_of utf8_empty input.old)
+        (end_in_content (search_of utf8_empty input.old)) → ⊥ }
     ensures same { IsMoved input.old input.new input.new.position input.old.asked }
 {
-    let end = input.end();
+    let span_end = input.end();
+    input.move_to(span_end);
+    let end = input.position();
     let slice = input.get_slice();
-    if end < input.start() || end < slice.start || slice.end < end {
-        return false;
-    }
-    input.move_to(end);
-    input.position() == end
+    input.start() <= end && slice.start <= end && end <= slice.end
 }
 
 /// The looks that hold where an input stands, if looks are asked for. The piece that is shown may
@@ -110,7 +112,7 @@ struct WalksBack {
     stepper: Stepper,
     // Whether the program asks for looks.
     asks_looks: bool,
-    // Those at the place. All began at the span's end.
+    // Those at the place. All began where the search did.
     live: ThreadList,
     // Room for those at the place before.
     next: ThreadList,
@@ -166,7 +168,7 @@ impl WalksBack {
     }
 
     /// Follows the walk back from a state, from the place at which an input stands, the end of its
-    /// span, on: answers the match of the least start, then of the least pattern.
+    /// span or content, on: answers the match of the least start, then of the least pattern.
     fn follow<C: Cursor>(
         &mut self,
         program: &ReverseProgram,
@@ -176,7 +178,8 @@ impl WalksBack {
         requires made { AreOfReverse program.now self.old.stepper.widths self.old.asks_looks }
         requires inside { (utf8_empty : Bool)
             → IsInside (search_of utf8_empty input.old) input.old.position }
-        requires end { input.old.position ≡ input.old.asked.span.end }
+        requires end { (utf8_empty : Bool)
+            → input.old.position ≡ end_in_content (search_of utf8_empty input.old) }
         ensures over { IfOk result (λ best. (utf8_empty : Bool)
             → IsOverBack (byte_program_of program.now)
             (search_of utf8_empty input.old) start best) }
@@ -255,12 +258,12 @@ impl ReverseCache {
     }
 }
 
-/// What is told of the match that was met, if one was: an empty one, which starts at the span's
-/// end, only where it may stand there.
+/// What is told of the match that was met, if one was: an empty one, which starts at the end, only
+/// where it may stand there.
 pub fn told_back(best: Option<HalfMatch>, end: usize, may_be_empty: bool) -> Option<HalfMatch>
-    ensures { (s : Search) → s.end ≡ end → IsInside s s.end
+    ensures { (s : Search) → end_in_content s ≡ end → IsInside s end
         → IfSome best (λ met. IsInside s met.offset)
-        → (IsTrue may_be_empty ↔ (IsTrue s.utf8_empty → IsCharBoundary s.content s.end))
+        → (IsTrue may_be_empty ↔ (IsTrue s.utf8_empty → IsCharBoundary s.content end))
         → IsHalfToldBack s best result }
 {
     let Some(found) = best else {
@@ -272,12 +275,12 @@ pub fn told_back(best: Option<HalfMatch>, end: usize, may_be_empty: bool) -> Opt
     Some(found)
 }
 
-/// Searches backwards: of the matches that end at the end of the span and lie inside span and
-/// slice, answers the least start, and the least pattern with it. The program has to be turned
-/// round; the answer is that of the program that it was. The cache must be one for the program, and
-/// still is one afterwards, whatever is answered. `utf8_empty` passes over an empty match inside a
-/// character. The refusals are `UnsupportedAnchored` where the input isn't anchored, and else
-/// `Memory`.
+/// Searches backwards: of the matches that end at the end of the span, or of the content where that
+/// comes first, and lie inside span and slice, answers the least start, and the least pattern with
+/// it. The program has to be turned round; the answer is that of the program that it was. The cache
+/// must be one for the program, and still is one afterwards, whatever is answered. `utf8_empty`
+/// passes over an empty match inside a character. The refusals are `UnsupportedAnchored` where the
+/// input isn't anchored, and else `Memory`.
 ///
 /// It reads back from the end of the span to its start, or to where no walk lives. It follows each
 /// node of the program once at most at each place, which takes time in proportion to the edges of

@@ -101,7 +101,7 @@ module _ {S : Type 0} (member : S → ℕ → Bool) (is_word : ℕ → Bool) (p 
   ]
     where
       path : Path m q a.start a.pattern t.end
-      path = grown_path within (subst (λ z. Path (back t.end) q a.start a.pattern z) back_counts.at_end (walk_reaches back_counts.reaches))
+      path = grown_path within (subst (λ z. Path (back t.end) q a.start a.pattern z) (omega (arith, back_counts.at_end, within)) (walk_reaches back_counts.reaches))
 
       whole : a.start < i → IsCharBoundary s.content a.start
       whole below = elim (path_read s.content (reads_whole put_note member p.nodes h) path) [ inl e ↦ absurd (omega (arith, e, below, ordered)) | inr boundary ↦ boundary ]
@@ -127,7 +127,7 @@ module _ {S : Type 0} (member : S → ℕ → Bool) (is_word : ℕ → Bool) (p 
       itself = let inside = counts.possible.0 in record {
         inside = (inside.0, inside.1, inside.2, on.1, inside.4);
         reaches = path_has_walk number_told (cut_path own) (fresh_notes i);
-        at_end = refl;
+        at_end = omega (arith, on.2);
         may_end = counts.may_end;
       }
 
@@ -137,7 +137,7 @@ module _ {S : Type 0} (member : S → ℕ → Bool) (is_word : ℕ → Bool) (p 
           let no_later = best _ itself in
           let no_sooner = no_earlier q i t counts before on.1 on.2 a back_counts in
           let same : a.start ≡ i = omega (arith, no_later.0, no_sooner) in
-          record { found = a; is = refl; start = same ∙ sym start; end = back_counts.at_end; pattern = no_later.1 (sym same) }
+          record { found = a; is = refl; start = same ∙ sym start; end = omega (arith, back_counts.at_end, on.2); pattern = no_later.1 (sym same) }
 
   pub finds_start_back : (t : Outcome Notes) (out : Option PatternMatch) → ProgramFinds member is_word p s (Some t) → ProgramFindsBack member is_word p (back_from s t.end) out → IsStartOf t out
   finds_start_back t out found back_found =
@@ -214,11 +214,12 @@ module _ {S : Type 0} (member : S → ℕ → Bool) (is_word : ℕ → Bool) (p 
           let start : t.notes.start ≡ i = keeps_start (first_by member) p.nodes h' counts.least.walk in
           let trail = path_trail put_note (first_by member) p.nodes h' (walk_has_path counts.least.walk) in
           let within = trail_within (first_by member) p.nodes h' trail in
-          let path = grown_path member is_word p s within.2 (subst (λ z. Path (machine_of member is_word p (back_from s t.end)) q a.start a.pattern z) back_counts.at_end (walk_reaches back_counts.reaches)) in
+          let at_end : a.end ≡ t.end = omega (arith, back_counts.at_end, within.2) in
+          let path = grown_path member is_word p s within.2 (subst (λ z. Path (machine_of member is_word p (back_from s t.end)) q a.start a.pattern z) at_end (walk_reaches back_counts.reaches)) in
           let at_i : a.start ≡ i = ap (λ z. z.start) (sym same) ∙ own.start ∙ start in
           let up = least_pattern s.anchoring q i a.pattern t.end t starts counts.least (subst (λ z. Path m' q z a.pattern t.end) at_i path) in
           let down : a.pattern ≤ t.pattern = subst (λ z. z.pattern ≤ t.pattern) same own.pattern in
-          is ∙ ap Some (match_is a (record { start = start_of t; pattern = t.pattern; end = t.end }) (at_i ∙ sym start) (omega (arith, up, down)) back_counts.at_end)
+          is ∙ ap Some (match_is a (record { start = start_of t; pattern = t.pattern; end = t.end }) (at_i ∙ sym start) (omega (arith, up, down)) at_end)
 
   pub finds_match_back : (t : Outcome Notes) (out : Option PatternMatch) → ProgramFinds member is_word p s (Some t) → ProgramFindsBack member is_word p (back_from s t.end) out
       → out ≡ Some (record { start = start_of t; pattern = t.pattern; end = t.end })
@@ -234,10 +235,8 @@ module _ {S : Type 0} (member : S → ℕ → Bool) (is_word : ℕ → Bool) (p 
 module _ {S : Type 0} (member : S → ℕ → Bool) (is_word : ℕ → Bool) (p : Program Look S) (s : Search) where
   must_fit : (q : ℕ) (a : PatternMatch) → CountsBack (machine_of member is_word p s) fresh_notes s q a → FitsContent s
   must_fit q a counts =
-      let trail = path_trail put_note (first_by member) p.nodes (haystack_of (holds_in is_word p.line_terminator s) s) (walk_reaches counts.reaches) in
-      let on = trail_within (first_by member) p.nodes (haystack_of (holds_in is_word p.line_terminator s) s) trail in
       let inside = counts.inside in
-      record { slice_start = omega (arith, inside.0, inside.4); start = omega (arith, inside.2, inside.4); end = omega (arith, on.2, counts.at_end) }
+      record { slice_start = omega (arith, inside.0, inside.4); start = omega (arith, inside.2, inside.4) }
 
   pub nothing_is_found_outside : (FitsContent s → ⊥) → ProgramFindsBack member is_word p s None
   nothing_is_found_outside outside = by_node (start_node p s.anchoring)

@@ -15,7 +15,7 @@ use Rattle.rx_walks.proofs.WalkLaws.{same_some}
 use Rattle.rx_walks.proofs.PathLaws.{path_has_walk, walk_reaches}
 use Rattle.rx_walks.proofs.ForwardLaws.{number_told}
 use Rattle.rx_walks.proofs.AllFindLaws.{readers_find_all}
-use Rattle.rx_walks.specs.Backward.{CountsBack, IsFindBack, none_back, least_back, FitsContent, mirrored_search, turned_match, IsToldBack, none_found, told, not_told}
+use Rattle.rx_walks.specs.Backward.{CountsBack, IsFindBack, none_back, least_back, FitsContent, mirrored_search, turned_match, IsToldBack, none_found, told, not_told, end_in_content}
 use Rattle.rx_walks.specs.Reversed.{mirrored, last_by, back_start, back_program}
 use Rattle.rx_walks.specs.Owners.{KeepsPatterns}
 use Rattle.rx_walks.specs.BackLaws.{SearchesBack}
@@ -131,7 +131,7 @@ module _ {S : Type 0} (member : S → ℕ → Bool) (is_word : ℕ → Bool) (p 
     path_in : (b : PatternMatch) → CountsBack m fresh_notes s q b → (b.start ≤ size) × (b.end ≤ size) × (b.start ≤ b.end)
     path_in b counts =
         let on = trail_within (first_by member) p.nodes h (path_trail put_note (first_by member) p.nodes h (walk_reaches counts.reaches)) in
-        (counts.inside.4, omega (arith, counts.at_end, fits.end), on.1)
+        (counts.inside.4, omega (arith, counts.at_end), on.1)
 
     abbrev mirror : PatternMatch → PatternMatch
     mirror b = turned_match s b
@@ -139,7 +139,7 @@ module _ {S : Type 0} (member : S → ℕ → Bool) (is_word : ℕ → Bool) (p 
     counts_turned : (b : PatternMatch) → CountsBack m fresh_notes s q b → CountsAmongAll c fresh_notes (mirrored_search s) r (mirror b)
     counts_turned b counts =
         let inside = path_in b counts in
-        let start : size - b.end ≡ size - s.end = ap (λ z. size - z) counts.at_end in
+        let start : size - b.end ≡ size - s.end = omega (arith, counts.at_end) in
         record {
           possible = ((omega arith, omega arith, omega (arith, start), omega arith, omega (arith, length_zeros s.content)), λ on. start);
           reaches = path_has_walk number_told (links.forth b.start b.pattern b.end inside.0 inside.1 (walk_reaches counts.reaches)) (fresh_notes (size - b.end));
@@ -148,20 +148,20 @@ module _ {S : Type 0} (member : S → ℕ → Bool) (is_word : ℕ → Bool) (p 
 
     record Answer (a : PatternMatch) : Type 0 where
       path : Path m q (turned_match s a).start a.pattern (turned_match s a).end
-      end : (turned_match s a).end ≡ s.end
+      end : (turned_match s a).end ≡ end_in_content s
       within : a.end ≤ size
       inside : IsInside s (turned_match s a).start
-      ordered : (turned_match s a).start ≤ s.end
+      ordered : (turned_match s a).start ≤ end_in_content s
 
     answer_is : (a : PatternMatch) → CountsAmongAll c fresh_notes (mirrored_search s) r a → Answer a
     answer_is a counts =
-        let start : a.start ≡ size - s.end = counts.possible.1 refl in
-        let on = links.back a.pattern a.end s.end fits.end (subst (λ z. Path c r z a.pattern a.end) start (walk_reaches counts.reaches)) in
+        let start : a.start ≡ size - end_in_content s = omega (arith, counts.possible.1 refl) in
+        let on = links.back a.pattern a.end (end_in_content s) (omega arith) (subst (λ z. Path c r z a.pattern a.end) start (walk_reaches counts.reaches)) in
         let place : on.0 ≡ size - a.end = omega (arith, on.1) in
-        let end : s.end ≡ size - a.start = omega (arith, start, fits.end) in
+        let end : end_in_content s ≡ size - a.start = omega (arith, start) in
         let in_trail = trail_within (first_by member) p.nodes h (path_trail put_note (first_by member) p.nodes h on.2) in
         record {
-          path = subst (λ z. Path m q (size - a.end) a.pattern z) end (subst (λ z. Path m q z a.pattern s.end) place on.2);
+          path = subst (λ z. Path m q (size - a.end) a.pattern z) end (subst (λ z. Path m q z a.pattern (end_in_content s)) place on.2);
           end = sym end;
           within = omega (arith, on.1);
           inside = (omega (arith, place, in_trail.0), omega (arith, place, in_trail.1, in_trail.2), omega (arith, place, in_trail.0), omega (arith, place, in_trail.1), omega arith);

@@ -106,7 +106,7 @@ abbrev pub OwnersKeepPatterns : {S : Type 0} → (S → ℕ → Bool) → (ℕ �
 OwnersKeepPatterns member is_word p = (owner : ℕ → Option ℕ) → HasOwners p owner → (s : Search)
     → KeepsPatterns member is_word p s
 
--- where the span or the slice begins behind the content, or the span ends there, nothing is found
+-- where the span or the slice begins behind the content, nothing is found
 abbrev pub NothingIsFoundOutside : {S : Type 0} → (S → ℕ → Bool) → (ℕ → Bool) → Program Look S
     → Type 0
 NothingIsFoundOutside member is_word p = (s : Search) → (FitsContent s → ⊥)

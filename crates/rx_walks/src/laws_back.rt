@@ -106,7 +106,7 @@ pub fn finds_match_back<S>()
         → FindsMatchBack member is_word p }
 {}
 
-/// Where the span doesn't fit the content, nothing is found.
+/// Where the span or the slice begins behind the content, nothing is found.
 pub fn nothing_is_found_outside<S>()
     ensures { (member : S → ℕ → Bool) (is_word : ℕ → Bool) (p : Program Look S)
         → NothingIsFoundOutside member is_word p }

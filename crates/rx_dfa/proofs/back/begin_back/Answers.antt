@@ -44,5 +44,5 @@ returns-in-Ok-clause-ended g c =
     let a = c.args.automaton.now in
     let states = (g.T.Table.shown c.first.new.self).states in
     let found = c.in-Ok.ensures.first in
-    if_ok c.follow_back.result (λ best ended b. ended b c.args.start (begun_back a (search_of b c.args.input.now) c.args.start c.args.input.now.position states c.in-Ok.first c.byte_seen-seen.result c.requires.end found
+    if_ok c.follow_back.result (λ best ended b. ended b c.args.start (begun_back a (search_of b c.args.input.now) c.args.start c.args.input.now.position states c.in-Ok.first c.byte_seen-seen.result (c.requires.end b) found
     (c.byte_seen-seen.ensures b) c.side-side.ensures.side (c.byte_that_quits.ensures.none c.in_default.is))) c.follow_back.ensures.ended

@@ -1,5 +1,6 @@
 use Rattle.std.proofs.Common.{◌<◌, true, length, sym, ap, subst, ◌∙◌, arith}
 use Rattle.std.proofs.lemmas.Result.{err_from_is_err_and}
+use Rattle.rx_walks.specs.Backward.{end_in_content}
 use Rattle.rx_walks.specs.Finds.{IsInside}
 use Rattle.rx_walks.specs.ProgramFinds.{lowest}
 use Rattle.rx_steps.specs.Searching.{search_of}
@@ -7,7 +8,7 @@ use Rattle.rx_steps.proofs.FollowLaws.{if_ok}
 use Rattle.rx_steps.proofs.OverLaws.{same_search}
 use Rattle.rx_dfa.specs.declared.states.AutomatonState.{AutomatonState}
 use Rattle.rx_dfa.specs.Automata.{directed}
-use Rattle.rx_dfa.specs.Back.{HasEndedBack, IsRefusalBackBy, StandsBack, best_from}
+use Rattle.rx_dfa.specs.Back.{HasEndedBack, StandsBack, StopsBack, best_from}
 use Rattle.rx_dfa.specs.Caches.{CacheView}
 use Rattle.rx_dfa.specs.Passing.{IsDeadState}
 use Rattle.rx_dfa.proofs.BackLaws.{err_each, over_ends}
@@ -50,14 +51,14 @@ returns-then-position-first_place-clause-ended g c =
     let states = (g.T.Table.shown c.loop-met.table).states in
     if_ok c.finish_back.result (λ best ended b q at.
     let same = same_search b here old c.loop-met.invariant.same.content c.loop-met.invariant.asked in
-    let last : IsInside (search_of b here) here.asked.span.end = subst (λ x. IsInside x x.end) (sym same) (subst (λ k. IsInside (search_of b old) k) c.requires.end (c.requires.inside b)) in
+    let last : IsInside (search_of b here) (end_in_content (search_of b here)) = subst (λ x. IsInside x (end_in_content x)) (sym same) (subst (λ k. IsInside (search_of b old) k) (c.requires.end b) (c.requires.inside b)) in
     subst (λ x. HasEndedBack p x q best) same (ended b q last (subst (λ x. StandsBack a x q here.position states c.loop-met.number c.loop-met.met) (sym same) (c.loop-met.invariant.stands b q at)))) c.finish_back.ensures.ended
 
 pub returns-then-position-first_place-clause-refused : goal.returns-then-position-first_place-clause-refused
 returns-then-position-first_place-clause-refused g c =
     let asked = c.args.automaton.now.alphabet.now.asked in
     let here = c.loop-met.input in
-    err_each c.finish_back.result (λ error why b. subst (λ x. IsRefusalBackBy g.T.Table.is_whole asked x error) (same_search b here c.args.input.now c.loop-met.invariant.same.content c.loop-met.invariant.asked) (why b)) c.finish_back.ensures.refused
+    err_each c.finish_back.result (λ error why b. subst (λ x. StopsBack g.T.Table.is_whole asked x error) (same_search b here c.args.input.now c.loop-met.invariant.same.content c.loop-met.invariant.asked) (why b)) c.finish_back.ensures.refused
 
 pub pass_back-requires-clause-inside : goal.pass_back-requires-clause-inside
 pass_back-requires-clause-inside g c = λ b.
@@ -70,7 +71,7 @@ returns-in_err-number-clause-refused g c =
     let asked = c.args.automaton.now.alphabet.now.asked in
     let here = c.loop-met.input in
     let p = err_from_is_err_and c.from_residual.result c.from_residual.ensures.1 in
-    rw (p.1, p.2) (λ b. subst (λ x. IsRefusalBackBy g.T.Table.is_whole asked x c.in_err-number.field-0.0) (same_search b here c.args.input.now c.loop-met.invariant.same.content c.loop-met.invariant.asked) (c.in_err-number.ensures.refused b))
+    rw (p.1, p.2) (λ b. subst (λ x. StopsBack g.T.Table.is_whole asked x c.in_err-number.field-0.0) (same_search b here c.args.input.now c.loop-met.invariant.same.content c.loop-met.invariant.asked) (c.in_err-number.ensures.refused b))
 
 pub loop-met-smaller : goal.loop-met-smaller
 loop-met-smaller g c =
@@ -90,7 +91,7 @@ loop-met-preserved g c =
       inside = λ b. subst (λ x. IsInside x there.position) (same_search b here old was.same.content was.asked) (c.in_ok-number.ensures.inside b);
       stands = λ b q at.
           let same = same_search b here old was.same.content was.asked in
-          let last : IsInside (search_of b here) here.asked.span.end = subst (λ x. IsInside x x.end) (sym same) (subst (λ k. IsInside (search_of b old) k) c.requires.end (c.requires.inside b)) in
+          let last : IsInside (search_of b here) (end_in_content (search_of b here)) = subst (λ x. IsInside x (end_in_content x)) (sym same) (subst (λ k. IsInside (search_of b old) k) (c.requires.end b) (c.requires.inside b)) in
           subst (λ x. StandsBack a x q there.position (g.T.Table.shown c.pass_back.new.table).states c.in_ok-number.number c.pass_back.new.met) same
           (c.in_ok-number.ensures.stands b q last (subst (λ x. StandsBack a x q here.position (g.T.Table.shown c.loop-met.table).states c.loop-met.number c.loop-met.met) (sym same) (was.stands b q at)));
       same = record {

@@ -2,7 +2,7 @@ use Rattle.std.proofs.Common.{ℕ, ◌≡◌, ◌-◌, ◌<◌, true, List, leng
 use Rattle.std.proofs.lemmas.List.{length-take}
 use Rattle.std.proofs.lemmas.Option.{slice_get_within}
 use Rattle.rx_steps.specs.Searching.{search_of}
-use Rattle.rx_dfa.specs.Back.{IsRefusalBackBy, StandsBack, placed_error}
+use Rattle.rx_dfa.specs.Back.{StandsBack, StopsBack, placed_error}
 use Rattle.rx_dfa.proofs.BackLaws.{refused_before, stands_on_back}
 use Rattle.rx_dfa.proofs.TableLaws.{there_is}
 use Rattle.rx_dfa.proofs.back.pass_back.Goals as goal
@@ -32,7 +32,7 @@ returns-in-Err-clause-refused g c = λ b.
     let there = c.bytes_before-len.ensures.stand b (c.requires.inside b) in
     let far : c.end-end.result - c.position-at.result ≡ s.end - input.position = ap (λ e. e - c.position-at.result) c.end-end.ensures ∙ ap (λ k. s.end - k) c.position-at.ensures.position in
     let told = refused_before w a s input.position (c.end-end.result - c.position-at.result) bytes c.in-Err.error there (c.requires.inside b) far c.in-Err.ensures.refused in
-    subst (λ e. IsRefusalBackBy w asked s e) (sym (c.placed_error.ensures ∙ ap (λ e. placed_error e c.in-Err.error) c.end-end.ensures)) told
+    subst (λ e. StopsBack w asked s e) (sym (c.placed_error.ensures ∙ ap (λ e. placed_error e c.in-Err.error) c.end-end.ensures)) told
 
 pub returns-in-Ok-clause-number : goal.returns-in-Ok-clause-number
 returns-in-Ok-clause-number g c =

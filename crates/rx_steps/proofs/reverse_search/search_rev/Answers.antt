@@ -2,13 +2,14 @@ use Rattle.std.proofs.Common.{◌≡◌, Option, Some, None, IsTrue, sym, subst,
 use Rattle.std.specs.Prelude.{◌↔◌, IfSome}
 use Rattle.std.specs.Str.{IsCharBoundary}
 use Rattle.rx_util.specs.Search.{HalfFound}
+use Rattle.rx_walks.specs.Backward.{end_in_content}
 use Rattle.rx_walks.specs.Finds.{IsInside}
 use Rattle.rx_walks.specs.ProgramFinds.{start_node}
 use Rattle.rx_program.specs.Reversed.{back_characters_of}
 use Rattle.rx_steps.specs.Reversed.{byte_program_of}
 use Rattle.rx_steps.specs.Searching.{anchoring_of, search_of}
 use Rattle.rx_steps.specs.ComingBack.{IsHalfToldBack, IsOverBack}
-use Rattle.rx_steps.proofs.BackAnswerLaws.{Tells, outside_answers, over_answers_back, unknown_answers}
+use Rattle.rx_steps.proofs.BackAnswerLaws.{outside_answers, over_answers_back, unknown_answers}
 use Rattle.rx_steps.proofs.OverLaws.{same_search}
 use Rattle.rx_steps.proofs.reverse_search.search_rev.Goals as goal
 
@@ -29,7 +30,7 @@ returns-in_default-clause-answer g c = λ p is.
     let s = search_of b old in
     let starts : start_node (back_characters_of turned) (anchoring_of old.asked.anchored) ≡ None =
     subst (λ a. start_node (back_characters_of turned) (anchoring_of a) ≡ None) c.get_anchored-mode.ensures (sym c.start_back.ensures ∙ c.in_default.is) in
-    let last : IsInside s s.end = subst (λ k. IsInside s k) (c.enter_end.ensures.end c.if-not-enter_end.false) (c.enter_end.ensures.inside c.if-not-enter_end.false b) in
+    let last : IsInside s (end_in_content s) = subst (λ k. IsInside s k) (c.enter_end.ensures.end c.if-not-enter_end.false b) (c.enter_end.ensures.inside c.if-not-enter_end.false b) in
     unknown_answers p turned s is c.reads_backwards.ensures c.program_is_searched_back.ensures last starts
 
 pub follow-requires-clause-inside : goal.follow-requires-clause-inside
@@ -38,6 +39,13 @@ follow-requires-clause-inside g c = λ b.
     let new = c.enter_end.new.input in
     let same : search_of b new ≡ search_of b old = same_search b new old c.enter_end.ensures.same.same.content c.enter_end.ensures.same.asked_is in
     subst (λ x. IsInside x new.position) (sym same) (c.enter_end.ensures.inside c.if-not-enter_end.false b)
+
+pub follow-requires-clause-end : goal.follow-requires-clause-end
+follow-requires-clause-end g c = λ b.
+    let old = c.args.input.now in
+    let new = c.enter_end.new.input in
+    let same : search_of b new ≡ search_of b old = same_search b new old c.enter_end.ensures.same.same.content c.enter_end.ensures.same.asked_is in
+    subst (λ x. new.position ≡ end_in_content x) (sym same) (c.enter_end.ensures.end c.if-not-enter_end.false b)
 
 pub returns-clause-answer : goal.returns-clause-answer
 returns-clause-answer g c = λ p is.
@@ -52,11 +60,13 @@ returns-clause-answer g c = λ p is.
     let same : search_of b new ≡ s = same_search b new old c.enter_end.ensures.same.same.content c.enter_end.ensures.same.asked_is in
     let starts : start_node (back_characters_of turned) (anchoring_of old.asked.anchored) ≡ Some q =
     subst (λ a. start_node (back_characters_of turned) (anchoring_of a) ≡ Some q) c.get_anchored-mode.ensures (sym c.start_back.ensures ∙ c.in-Some.is) in
-    let place : new.position ≡ s.end = c.enter_end.ensures.end c.if-not-enter_end.false in
-    let last : IsInside s s.end = subst (λ k. IsInside s k) place (c.enter_end.ensures.inside c.if-not-enter_end.false b) in
+    let place : new.position ≡ end_in_content s = c.enter_end.ensures.end c.if-not-enter_end.false b in
+    let last : IsInside s (end_in_content s) = subst (λ k. IsInside s k) place (c.enter_end.ensures.inside c.if-not-enter_end.false b) in
     let way : IsOverBack (byte_program_of turned) s q best = subst (λ x. IsOverBack (byte_program_of turned) x q best) same (c.in_ok-best.ensures.over b) in
     let met : IfSome best (λ f. IsInside s f.offset) = each best (λ f inside. subst (λ x. IsInside x f.offset) same (inside b)) c.in_ok-best.ensures.inside in
-    let tells : Tells s c.may_be_empty-may.result = subst (λ k. IsTrue c.may_be_empty-may.result ↔ (IsTrue b → IsCharBoundary s.content k)) place
+    let here : end_in_content s ≡ c.position-end.result = sym place ∙ sym c.position-end.ensures.position in
+    let tells : IsTrue c.may_be_empty-may.result ↔ (IsTrue b → IsCharBoundary s.content c.position-end.result) =
+    subst (λ k. IsTrue c.may_be_empty-may.result ↔ (IsTrue b → IsCharBoundary s.content k)) (sym c.position-end.ensures.position)
     (subst (λ xs. IsTrue c.may_be_empty-may.result ↔ (IsTrue b → IsCharBoundary xs new.position)) c.enter_end.ensures.same.same.content c.may_be_empty-may.ensures) in
-    let told : IsHalfToldBack s best answer = c.told_back.ensures s (sym place ∙ sym c.position-end.ensures.position) last met tells in
+    let told : IsHalfToldBack s best answer = c.told_back.ensures s here (subst (λ k. IsInside s k) here last) met tells in
     over_answers_back p turned s is c.reads_backwards.ensures c.program_is_searched_back.ensures last q best answer starts way told

@@ -1,7 +1,7 @@
 use Rattle.std.proofs.Common.{◌<◌, true, inl, inr, refl, sym, subst}
 use Rattle.std.specs.Iterator.{size}
 use Rattle.rx_input.specs.Searchers.{finder_of, half_matches_left}
-use Rattle.rx_input.proofs.SearcherLaws.{half_fewer, half_stands, some_left}
+use Rattle.rx_input.proofs.SearcherLaws.{half_fewer, some_left}
 use Rattle.rx_input.proofs.iter.TryHalfMatchesIterIterator.next.Goals as goal
 
 -- ---- nothing comes any more
@@ -20,12 +20,11 @@ returns-in-Ok-Some-clause-goes g c =
     let p = c.args.self.now.finder in
     let q = c.advance_half_by.new.finder in
     let a = c.in-Ok-Some.found in
-    let stands = c.requires.1 c.if-self.false in
     let advances = rw c.in-Ok-Some.field-0-is at c.in-Ok-Some.ensures.advances in
-    let fewer = half_fewer tells p q old new a c.requires.0.inside stands advances in
+    let fewer = half_fewer tells p q old new a c.requires.inside advances in
     record {
-      on = λ _. ((c.in-Ok-Some.ensures.finder, λ _. half_stands tells p q old new a c.requires.0.inside stands advances), tt, subst (λ b. size (half_matches_left new b) < size (half_matches_left old b)) (sym c.if-self.false) fewer);
-      keeps = (c.in-Ok-Some.ensures.finder, λ _. half_stands tells p q old new a c.requires.0.inside stands advances);
+      on = λ _. (c.in-Ok-Some.ensures.finder, tt, subst (λ b. size (half_matches_left new b) < size (half_matches_left old b)) (sym c.if-self.false) fewer);
+      keeps = c.in-Ok-Some.ensures.finder;
       rests = λ _. tt;
     }
 
@@ -42,7 +41,7 @@ returns-in-Err-clause-goes g c =
     let old = c.args.self.now.searcher in
     let new = c.advance_half_by.new.self in
     record {
-      on = λ _. ((c.in-Err.ensures.finder, λ goes_on. absurd (cc goes_on)), tt, subst (λ b. size (half_matches_left new true) < size (half_matches_left old b)) (sym c.if-self.false) (some_left old new));
-      keeps = (c.in-Err.ensures.finder, λ goes_on. absurd (cc goes_on));
+      on = λ _. (c.in-Err.ensures.finder, tt, subst (λ b. size (half_matches_left new true) < size (half_matches_left old b)) (sym c.if-self.false) (some_left old new));
+      keeps = c.in-Err.ensures.finder;
       rests = λ _. tt;
     }

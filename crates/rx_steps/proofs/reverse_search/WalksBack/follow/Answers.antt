@@ -1,5 +1,6 @@
 use Rattle.std.proofs.Common.{inl, inr, ◌≡◌, ◌+◌, ◌-◌, ◌<◌, Bool, true, [], ◌∷◌, None, refl, sym, ap, subst, ◌∙◌, arith}
 use Rattle.std.specs.Prelude.{IfSome}
+use Rattle.rx_walks.specs.Backward.{end_in_content}
 use Rattle.rx_walks.specs.Finds.{IsInside}
 use Rattle.rx_walks.specs.ProgramFinds.{lowest}
 use Rattle.rx_steps.specs.ListsAll.{nodes_of}
@@ -26,7 +27,7 @@ loop-pattern-init g c =
       inside = c.requires.inside;
       come = λ b.
           let s = search_of b c.args.input.now in
-          subst (λ k. HasComeBack p s q k (nodes_of live) None) (sym c.requires.end) (subst (λ ts. HasComeBack p s q s.end (nodes_of ts) None) (sym begun) (come_first p s q));
+          subst (λ k. HasComeBack p s q k (nodes_of live) None) (sym (c.requires.end b)) (subst (λ ts. HasComeBack p s q (end_in_content s) (nodes_of ts) None) (sym begun) (come_first p s q));
       met_inside = tt;
       same = record { content = refl; is_sized = refl };
       asked = refl;
@@ -62,7 +63,7 @@ returns-then-len-eq0-clause-over g c = λ b.
       | in_default w ↦ w.best-is ∙ sym (ap (λ o. best_back i o best) w.in_default.is)
     ] in
     let on : Stepped p s q i nodes next met best after = record {
-      last = subst (λ k. IsInside s k) c.requires.end (c.requires.inside b);
+      last = subst (λ k. IsInside s k) (c.requires.end b) (c.requires.inside b);
       inside = inside;
       step = subst (λ x. IsStepBack p x i nodes next met) same (c.in_ok-pattern.ensures.step b here);
       come = c.loop-pattern.invariant.come b;
@@ -112,7 +113,7 @@ loop-pattern-preserved g c =
       come = λ b.
           let s = search_of b c.args.input.now in
           let on : Stepped p s q i nodes next met best after = record {
-            last = subst (λ k. IsInside s k) c.requires.end (c.requires.inside b);
+            last = subst (λ k. IsInside s k) (c.requires.end b) (c.requires.inside b);
             inside = c.loop-pattern.invariant.inside b;
             step = subst (λ x. IsStepBack p x i nodes next met) (same b) (c.in_ok-pattern.ensures.step b (here b));
             come = c.loop-pattern.invariant.come b;
