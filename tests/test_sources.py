@@ -17,8 +17,8 @@ SHARED = set("""CacheView ComesNext FollowEachOther Gives GivesInOrder GivesNext
     with_replaced""".split())
 # What crates above reports take of regex_cursor: why a text is no pattern.
 EXPLAINS = "explain util syntax Config Mistake Reason Refusal".split()
-# Inner crates, and the crates that name them: those of their group, and programs for tests.
-GROUPS = {r"ropey_(tree|walk)": r"ropey\w*|rope_leaves|\w+_driver", r"rx_\w+": r"rx_\w+|regex_cursor\w*|\w+_driver",
+# Inner crates, and the crates of their group, which alone name them.
+GROUPS = {r"ropey_(tree|walk)": r"ropey\w*", r"rx_\w+": r"rx_\w+|regex_cursor\w*",
           r"rope_search_(io|changes|reports|templates)": r"rope_search\w*"}
 # A line whose call does nothing but to show a proof what the type keeps.
 FOR_PROOFS = r"^ *let _ = \(?[\w.]+\(\)"

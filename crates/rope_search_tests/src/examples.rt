@@ -196,63 +196,6 @@ fn an_edit_of_a_line(rt: HostRuntime) -> Result<(), Fail> {
     Ok(())
 }
 
-// So it is with these.
-fn next_from(
-    buffer: &mut Buffer,
-    tick: &mut Lines,
-    from: Position,
-) -> Result<Option<(Position, Position)>, Fault> {
-    buffer.next_from(tick, from)
-}
-
-fn replace(buffer: &mut Buffer, tick: &mut Lines, template: &str) -> Result<usize, Fault> {
-    buffer.replace(tick, template)
-}
-
-fn position_of(buffer: &Buffer, byte_idx: usize) -> Result<Position, Fault> {
-    buffer.position_of(byte_idx)
-}
-
-/// `Buffer::{next_from, replace, undo, redo, fork, off}`: the first match at a position or after it;
-/// all matches replaced, undone and redone. A fork has the text, and neither history nor pattern.
-#[test]
-fn calls_of_a_buffer(rt: HostRuntime) -> Result<(), Fail> {
-    let mut tick = Lines::new(&rt);
-    let mut buffer = buffer_of(&rt, &mut tick, "a frog\na toad", "frog|toad")?;
-    let from = Position { line: 0, column: 3 };
-    let start = Position { line: 1, column: 2 };
-    let end = Position { line: 1, column: 6 };
-    assert!(rt; next_from(&mut buffer, &mut tick, from) == Ok(Some((start, end))));
-    assert!(rt; next_from(&mut buffer, &mut tick, end) == Ok(None));
-    assert!(rt; replace(&mut buffer, &mut tick, "<$0>") == Ok(2) && tick.wholes() == 3);
-    assert!(rt; buffer.text().eq_str("a <frog>\na <toad>"));
-    buffer.undo(&mut tick)?;
-    assert!(rt; buffer.text().eq_str("a frog\na toad"));
-    buffer.redo(&mut tick)?;
-    let fork = buffer.fork()?;
-    assert!(rt; fork.text().eq_str("a <frog>\na <toad>"));
-    assert!(rt; fork.report().is_none() && !fork.can_undo());
-    buffer.off();
-    assert!(rt; buffer.report().is_none() && buffer.can_undo());
-    assert!(rt; next_from(&mut buffer, &mut tick, start) == Err(Fault::Nothing));
-    Ok(())
-}
-
-/// `Buffer::position_of`: the position of a byte at which a character begins, or the text ends; a
-/// byte inside a character, or past the end, is refused.
-#[test]
-fn positions_of_bytes(rt: HostRuntime) -> Result<(), Fail> {
-    let mut tick = Lines::new(&rt);
-    let buffer = buffer_of(&rt, &mut tick, "a🐸\nb", "b")?;
-    let end = Position { line: 1, column: 1 };
-    assert!(rt; position_of(&buffer, 5) == Ok(Position { line: 0, column: 3 }));
-    assert!(rt; position_of(&buffer, 7) == Ok(end));
-    for byte_idx in [2, 4, 8, usize::MAX] {
-        assert!(rt; position_of(&buffer, byte_idx) == Err(Fault::Range));
-    }
-    Ok(())
-}
-
 // So it is with this.
 fn edit_all(session: &mut Session, tick: &mut Lines, edits: &[Edit<'_>]) -> Result<(), Fault> {
     session.edit_all(tick, edits)
