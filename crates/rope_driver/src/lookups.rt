@@ -45,6 +45,59 @@ macro_rules! tell_places {
 
 pub(crate) use tell_places;
 
+/// Writes what an index stands for by the plain forms, if it is one of the text's.
+macro_rules! tell_plain_places {
+    ($text:expr, $idx:expr, $out:expr) => {{
+        let idx: usize = $idx;
+        if idx <= $text.len_bytes() {
+            let (character, line) = ($text.byte_to_char(idx), $text.byte_to_line(idx));
+            write!($out, "{character} {line} ")?;
+        }
+        if idx <= $text.len_chars() {
+            let (byte, line) = ($text.char_to_byte(idx), $text.char_to_line(idx));
+            let unit = $text.char_to_utf16_cu(idx);
+            write!($out, "{byte} {line} {unit} ")?;
+        }
+        if idx <= $text.len_utf16_cu() {
+            let character = $text.utf16_cu_to_char(idx);
+            write!($out, "{character} ")?;
+        }
+        if idx <= $text.len_lines() {
+            let (byte, character) = ($text.line_to_byte(idx), $text.line_to_char(idx));
+            write!($out, "{byte} {character} ")?;
+        }
+        if idx < $text.len_bytes() {
+            let byte = $text.byte(idx);
+            write!($out, "{byte} ")?;
+        }
+        if idx < $text.len_chars() {
+            let character = $text.char(idx) as u32;
+            write!($out, "{character} ")?;
+        }
+    }};
+}
+
+pub(crate) use tell_plain_places;
+
+/// Writes the chunks that hold a byte, a character and the end of a line break, by the plain forms,
+/// if the index is one of the text's.
+macro_rules! tell_plain_chunks {
+    ($text:expr, $idx:expr, $out:expr) => {{
+        let idx: usize = $idx;
+        if idx <= $text.len_bytes() {
+            tell_chunk($out, Some($text.chunk_at_byte(idx)))?;
+        }
+        if idx <= $text.len_chars() {
+            tell_chunk($out, Some($text.chunk_at_char(idx)))?;
+        }
+        if idx <= $text.len_lines() {
+            tell_chunk($out, Some($text.chunk_at_line_break(idx)))?;
+        }
+    }};
+}
+
+pub(crate) use tell_plain_chunks;
+
 /// Writes the parts that the six ranges from one index up to another are.
 macro_rules! tell_parts {
     ($text:expr, $call:ident, $tell:ident, $start:expr, $end:expr, $out:expr) => {{

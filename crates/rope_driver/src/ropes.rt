@@ -2,7 +2,10 @@
 //! `append` and `swap` take the rope that was kept last.
 
 use crate::fault::Fault;
-use crate::lookups::{tell_chunk, tell_lengths, tell_part, tell_parts, tell_places};
+use crate::lookups::{
+    tell_chunk, tell_lengths, tell_part, tell_part_or_error, tell_parts, tell_places,
+    tell_plain_chunks, tell_plain_places,
+};
 use crate::texts::{asked, number, tell_slice, tell_text, text, texts};
 use crate::walks::{follow, walk_chunks, walk_over};
 use ropey::{Error, ReadFault, Rope, RopeBuilder};
@@ -119,7 +122,7 @@ impl Ropes {
             "same" => self.tell_same(alloc, out)?,
             "compare" => self.tell_compared(out)?,
             "written" => self.tell_written(alloc, out)?,
-            "places" => tell_places!(rope, number(first)?, out)?,
+            "places" => self.tell_index(number(first)?, out)?,
             "chunk" => self.tell_chunks(number(first)?, out)?,
             "parts" => self.tell_all_parts(number(first)?, number(second)?, out)?,
             "build" => {
@@ -178,15 +181,34 @@ impl Ropes {
         Ok(())
     }
 
+    /// Writes what an index stands for.
+    fn tell_index(&self, idx: usize, out: &mut String) -> Result<(), AllocError> {
+        tell_places!(self.rope, idx, out)?;
+        tell_plain_places!(self.rope, idx, out);
+        Ok(())
+    }
+
     /// Writes the chunks that hold a byte, a character and the end of a line break.
     fn tell_chunks(&self, idx: usize, out: &mut String) -> Result<(), AllocError> {
         tell_chunk(out, self.rope.get_chunk_at_byte(idx))?;
         tell_chunk(out, self.rope.get_chunk_at_char(idx))?;
-        tell_chunk(out, self.rope.get_chunk_at_line_break(idx))
+        tell_chunk(out, self.rope.get_chunk_at_line_break(idx))?;
+        tell_plain_chunks!(self.rope, idx, out);
+        Ok(())
     }
 
-    /// Writes the parts of characters and of bytes from one index up to another.
+    /// Writes the parts of characters and of bytes from one index up to another, or why there are
+    /// none; and then those parts again, or none.
     fn tell_all_parts(&self, start: usize, end: usize, out: &mut String) -> Result<(), AllocError> {
+        tell_parts!(self.rope, try_slice, tell_part_or_error, start, end, out);
+        tell_parts!(
+            self.rope,
+            try_byte_slice,
+            tell_part_or_error,
+            start,
+            end,
+            out
+        );
         tell_parts!(self.rope, get_slice, tell_part, start, end, out);
         tell_parts!(self.rope, get_byte_slice, tell_part, start, end, out);
         Ok(())

@@ -5,6 +5,7 @@ use crate::fault::Fault;
 use crate::leaves;
 use crate::lookups::{
     tell_chunk, tell_lengths, tell_part, tell_part_or_error, tell_parts, tell_places,
+    tell_plain_chunks, tell_plain_places,
 };
 use crate::texts::{asked, number, tell_slice, tell_text};
 use crate::walks::{follow, walk_chunks, walk_over};
@@ -67,11 +68,18 @@ fn tell(
             None => out.push_str("None")?,
             Some(text) => tell_text(out, text)?,
         },
-        "places" => tell_places!(slice, number(first)?, out)?,
+        "places" => tell_index(slice, number(first)?, out)?,
         "chunk" => tell_chunks(slice, number(first)?, out)?,
         "parts" => tell_all_parts(slice, number(first)?, number(second)?, out)?,
         kind => walk_over!(slice, kind, number(first)?, second, out),
     }
+    Ok(())
+}
+
+/// Writes what an index stands for.
+fn tell_index(slice: RopeSlice<'_>, idx: usize, out: &mut String) -> Result<(), Fault> {
+    tell_places!(slice, idx, out)?;
+    tell_plain_places!(slice, idx, out);
     Ok(())
 }
 
@@ -83,6 +91,7 @@ fn tell_chunks(slice: RopeSlice<'_>, idx: usize, out: &mut String) -> Result<(),
     }
     tell_chunk(out, slice.get_chunk_at_char(idx))?;
     tell_chunk(out, slice.get_chunk_at_line_break(idx))?;
+    tell_plain_chunks!(slice, idx, out);
     Ok(())
 }
 
