@@ -5,6 +5,7 @@ import re
 import subprocess
 import sys
 
+from crates import listed
 from harness import TOP, example_rows, test
 
 # The crates of ropes and of reports.
@@ -14,6 +15,11 @@ SHARED = set("""CacheView ComesNext FollowEachOther Gives GivesInOrder GivesNext
     IsAnswerAt IsCacheOf IsEmptyAtLast IsShowing MatchesStandAtBoundaries Name OneOf StandsAtBoundaries between end_of
     is_among is_anchored joined left_of limit_in nodes_of none_set prefilter_of search_by showing span_of start_of
     with_replaced""".split())
+# What crates above reports take of regex_cursor: why a text is no pattern.
+EXPLAINS = "explain util syntax Config Mistake Reason Refusal".split()
+# Inner crates, and the crates that name them: those of their group, and programs for tests.
+GROUPS = {r"ropey_(tree|walk)": r"ropey\w*|rope_leaves|\w+_driver", r"rx_\w+": r"rx_\w+|regex_cursor\w*|\w+_driver",
+          r"rope_search_(io|changes|reports|templates)": r"rope_search\w*"}
 # A line whose call does nothing but to show a proof what the type keeps.
 FOR_PROOFS = r"^ *let _ = \(?[\w.]+\(\)"
 
@@ -51,16 +57,26 @@ def test_regexes():
     built = that_name(r"\bRegex\s*::\s*(new|builder)\b|\bPikeVM\s*::\s*new\b|\bBuilder\s*::\s*new\b", above)
     wrong = [f"{path} builds one" for path in built if not path.startswith("rope_search_reports/src/rows")]
     test("a regex is built where its searches are counted alone", wrong + ([] if len(built) == 1 else [f"{built}"]))
-    named = {path.split("/")[0] for path in that_name(r"\bregex_cursor\s*::", above)}
-    test("no other crate above names regex_cursor", [f"{crate} does" for crate in named - {"rope_search_reports"}])
+    taken = [(path, item) for path, text in above if not path.startswith("rope_search_reports/")
+             for found in re.findall(r"\bregex_cursor\s*::\s*([^;]+)", text) for item in re.findall(r"\w+", found)]
+    wrong = [f"{path} takes {item}" for path, item in taken if item not in EXPLAINS]
+    test("no other crate above takes of regex_cursor what searches", wrong)
     kept = ("rope_search_reports/src/rows/counted.rt", "rope_search_reports/src/laws.rt")
-    reports = [(path, re.sub(r"^ *ghost use .*", "", text, flags=re.M)) for path, text in above if path not in kept]
+    reports = [(path, re.sub(r"^ *ghost use .*", "", text, flags=re.M)) for path, text in above
+               if path.startswith("rope_search_reports/") and path not in kept]
     wrong = that_name(r"\bregex_cursor\b", reports)
     test("reports name regex_cursor where searches are counted alone", [f"{path} does" for path in wrong])
     calls = re.findall(r"\bregex\s*\.\s*(\w+)\(|\.(next_slots)\(", dict(above)[kept[0]])
     calls = sorted("".join(call) for call in calls)
     due = ["create_cache", "next_slots", "no_match_before", "search_slots_with"]
     test("the regex is called there in one line for each way to search", [] if calls == due else [f"{calls}"])
+
+
+def test_groups():
+    """An inner crate is named inside its group alone: what crates.txt doesn't list, no file of a crate can name."""
+    wrong = [f"{crate} names {library}" for crate, libraries in listed().items() for library in libraries
+             for inner, group in GROUPS.items() if re.fullmatch(inner, library) and not re.fullmatch(group, crate)]
+    test(f"{len(listed())} crates name inner crates of their group alone", wrong)
 
 
 def test_breaks():
@@ -177,4 +193,5 @@ def test_all():
     test_positions()
     test_counters()
     test_regexes()
+    test_groups()
     test_breaks()

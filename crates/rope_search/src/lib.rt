@@ -31,6 +31,7 @@ pub use encodings::Encoding;
 pub use endings::Ended;
 pub use limits::Limits;
 pub use pattern_errors::pattern_error;
+pub use regex_cursor::{Mistake, Reason, Refusal};
 pub use rope_search_io::{Broken, Device, Failed, Fault, MemorySink, MemorySource, Sink, Source};
 pub use rope_search_reports::{
     Finder, Groups, Lines, Position, Row, byte_of, find_all, find_from, groups_at, position_of,
@@ -38,6 +39,5 @@ pub use rope_search_reports::{
 };
 pub use ropey::Rope;
 pub use runs::{run, run_limited};
-pub use rx_grammar::{Mistake, Reason, Refusal};
 pub use session::Session;
 pub use stretches::Stretch;

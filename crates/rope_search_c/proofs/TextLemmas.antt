@@ -6,8 +6,8 @@ use Rattle.std.proofs.lemmas.List.{nil_from_length, length-append, length-drop, 
 use Rattle.std.specs.Prelude.{Option, None, Some, IsSome}
 use Rattle.std.specs.Str.{IsUtf8}
 use Rattle.std.proofs.lemmas.Str.{encodes-append, encodes-chars}
-use Rattle.ropey_walk.specs.Chunks.{text_of}
-use Rattle.ropey_walk.specs.Clips.{pieces_from_char, pieces_to_char, clip}
+use Rattle.ropey.specs.Chunks.{text_of}
+use Rattle.ropey.specs.Slices.{pieces_from_char, pieces_to_char, clip}
 use Rattle.rope_search_reports.specs.Text.{bytes_of}
 
 -- ---- a rope as a slice of itself

@@ -1,8 +1,7 @@
 -- What is read of a session's chosen buffer.
 use Rattle.std.specs.Prelude.{◌≡◌, ℕ, ◌+◌, ◌-◌, ◌<◌, ◌≤◌, ◌⊎◌, List, [], ◌∷◌, ◌++◌, take, drop, map, length, slice_index_or, Bool, true, false, Some}
 use Rattle.std.specs.Str.{IsCharBoundary}
-use Rattle.ropey_walk.specs.Clips.{between}
-use Rattle.ropey_walk.specs.Ranges.{IsByteRangeIn}
+use Rattle.ropey.specs.Slices.{between, IsByteRangeIn}
 use Rattle.rope_search_reports.specs.Text.{bytes_of}
 use Rattle.rope_search_reports.specs.Report.{match_count}
 use Rattle.rope_search_reports.specs.Position.{IsAt, IsNowhere, position}

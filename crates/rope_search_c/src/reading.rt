@@ -1,7 +1,7 @@
 //! What is read of a session: its text and its report.
 ghost use Rattle.std.specs.Prelude.{◌≡◌, MatchOption, ◌^◌, ◌<◌, ◌≤◌, ◌+◌, ◌++◌, List, length, map};
 ghost use Rattle.ropey.specs.Chunks.{text_of};
-ghost use Rattle.ropey_walk.specs.Comparing.{slice_bytes};
+ghost use Rattle.ropey.specs.Slices.{slice_bytes};
 ghost use Rattle.rope_search_reports.specs.Report.{match_count};
 ghost use Rattle.rope_search_c.specs.Reading.{AreRowsOf, CopiesMatches, CopiesText, CountsMatches, TellsByte, TellsColumn, TellsPosition, TellsPositionIn, bits_of, span_in, spans_from, text_in, with_front};
 ghost use Rattle.rope_search_c.specs.Reading as reading;

@@ -8,10 +8,8 @@ use Rattle.std.proofs.lemmas.Str.{chars-encodes, encodes-append, encodes-chars, 
 use Rattle.str_indices.specs.FirstBreak.{IsBreak}
 use Rattle.str_indices.specs.Text.{breaks, break_ends, byte_len, char_ends, cuts_cr_lf, ends_up_to, ends_with_cr, starts_with_lf, unit_ends, units, units_of, NoCrLfBetween}
 use Rattle.str_indices.proofs.TextLaws.{breaks_of_joined_texts-lines_crlf, conversion_there_and_back-lines, counts_are_at_most_bytes-lines, ends_of_a_part-lines}
-use Rattle.ropey_tree.specs.declared.counts.By.TheVariants.{Units}
-use Rattle.ropey_tree.specs.declared.counts.Counts.{Counts}
+use Rattle.ropey.specs.Counts.{Units, Counts, StandsAt}
 use Rattle.ropey.specs.Chunks.{IsCutting, ShowsChunk, is_break, text_of}
-use Rattle.ropey_walk.specs.Standing.{StandsAt}
 use Rattle.rope_search_reports.specs.declared.positions.Place.{Place}
 use Rattle.rope_search_reports.specs.Text.{bytes_of, line_count}
 use Rattle.rope_search_reports.specs.Position.{line_start, line_text, IsAt, IsPlaceOf, LiesInPlace}

@@ -4,10 +4,8 @@ use Rattle.std.specs.Str.{IsCharBoundary, all_scalars}
 use Rattle.std.proofs.lemmas.Str.{encodes-chars, scalars-chars}
 use Rattle.str_indices.specs.Text.{breaks, break_ends, byte_len, end_place, ends_up_to, unit_ends, units}
 use Rattle.str_indices.proofs.TextLaws.{to_byte_idx_is_a_boundary-lines}
-use Rattle.ropey_tree.specs.declared.counts.By.TheVariants.{Bytes, Breaks}
-use Rattle.ropey_tree.specs.declared.counts.Counts.{Counts}
+use Rattle.ropey.specs.Counts.{Bytes, Breaks, Counts, StandsAt}
 use Rattle.ropey.specs.Chunks.{IsCutting, ShowsChunk, is_break, text_of}
-use Rattle.ropey_walk.specs.Standing.{StandsAt}
 use Rattle.rope_search_reports.specs.Text.{bytes_of, line_count}
 use Rattle.rope_search_reports.specs.Position.{column_at, line_at, line_start}
 use Rattle.rope_search_reports.proofs.ChunkColumns.{line-of-place}

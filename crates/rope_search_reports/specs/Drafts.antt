@@ -2,7 +2,7 @@
 use Rattle.std.specs.Prelude.{◌≡◌, ◌⊎◌, ◌+◌, ◌-◌, ◌^◌, ◌<◌, ◌≤◌, List, ℕ, [], ◌∷◌, ◌++◌, None, length, take, drop, IfSome}
 use Rattle.std.specs.Str.{NonePass, IsUtf8, IsCharBoundary, chars}
 use Rattle.ropey.specs.Chunks.{is_break}
-use Rattle.ropey_walk.specs.Slices.{slice_text}
+use Rattle.ropey.specs.Slices.{slice_text}
 use Rattle.str_indices.specs.FirstBreak.{IsBreak}
 use Rattle.str_indices.specs.Text.{breaks, byte_len, char_ends, ends_up_to, units, NoCrLfBetween}
 use Rattle.regex_cursor.specs.Patterns.{between}

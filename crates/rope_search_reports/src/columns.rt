@@ -1,7 +1,7 @@
 //! Columns of a line: UTF-16 code units from its start.
 ghost use Rattle.std.specs.Prelude.{◌≡◌, IfSome, option_map};
 ghost use Rattle.std.specs.Str.{IsCharBoundary};
-ghost use Rattle.ropey_walk.specs.Comparing.{slice_bytes};
+ghost use Rattle.ropey.specs.Slices.{slice_bytes};
 ghost use Rattle.rope_search_reports.specs.Replacement.{HasSpansIn, IsSpanIn};
 ghost use Rattle.rope_search_reports.specs.LineGroups.{in_columns};
 ghost use Rattle.rope_search_reports.specs.Report.{column, columns};

@@ -2,7 +2,7 @@
 ghost use Rattle.std.specs.Prelude.{◌≡◌, ◌+◌, ◌≤◌};
 ghost use Rattle.std.specs.Str.{IsCharBoundary};
 ghost use Rattle.str_indices.specs.Text.{byte_len};
-ghost use Rattle.ropey_walk.specs.Slices.{slice_text};
+ghost use Rattle.ropey.specs.Slices.{slice_text};
 ghost use Rattle.rope_search_reports.specs.Text.{bytes_of};
 ghost use Rattle.rope_search_reports.specs.Report.{column};
 ghost use Rattle.rope_search_reports.specs.Drafts.{HoldsText, own_text};

@@ -4,7 +4,7 @@ ghost use Rattle.std.specs.Str.{chars, IsUtf8};
 ghost use Rattle.str_indices.specs.Text.{break_ends, char_ends, end_place, ends_up_to};
 ghost use Rattle.str_indices.specs.Text.{starts_with_lf};
 ghost use Rattle.ropey.specs.Chunks.{is_break};
-ghost use Rattle.ropey_walk.specs.Slices.{slice_text};
+ghost use Rattle.ropey.specs.Slices.{slice_text};
 ghost use Rattle.rope_search_reports.specs.Text.{line_count};
 ghost use Rattle.rope_search_reports.specs.Position.{line_start, line_text};
 ghost use Rattle.rope_search_reports.specs.Drafts.{StartsIn};

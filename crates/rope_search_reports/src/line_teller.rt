@@ -1,7 +1,7 @@
 //! The lines in which places of a text are, each told from the place before.
 ghost use Rattle.std.specs.Prelude.{◌≡◌, ◌+◌, ◌<◌, ◌≤◌};
 ghost use Rattle.str_indices.specs.Text.{byte_len};
-ghost use Rattle.ropey_walk.specs.Slices.{slice_text};
+ghost use Rattle.ropey.specs.Slices.{slice_text};
 ghost use Rattle.rope_search_reports.specs.Text.{line_count};
 ghost use Rattle.rope_search_reports.specs.Position.{line_at};
 ghost use Rattle.rope_search_reports.specs.Drafts.{IsTeller};
@@ -23,7 +23,7 @@ pub(crate) struct LineTeller<'a> {
 
 impl<'a> Model for LineTeller<'a> {
     ghost use Rattle.std.specs.Prelude.{◌+◌, length};
-    ghost use Rattle.ropey_walk.specs.Slices.{slice_text};
+    ghost use Rattle.ropey.specs.Slices.{slice_text};
     ghost use Rattle.rope_search_reports.specs.Drafts.{IsTeller, TellerState};
 
     ghost Value = { TellerState };

@@ -5,14 +5,13 @@ ghost use Rattle.std.specs.Prelude.{◌≡◌, ℕ, ◌<◌, ◌≤◌, ◌⊎�
 ghost use Rattle.std.specs.Str.{chars, IsCharBoundary};
 ghost use Rattle.str_indices.specs.Text.{byte_len, ends_up_to, unit_ends};
 ghost use Rattle.ropey.specs.Chunks.{text_of};
-ghost use Rattle.ropey_walk.specs.Slices.{slice_text};
+ghost use Rattle.ropey.specs.Slices.{slice_text};
 ghost use Rattle.rope_search_reports.specs.Text.{IsText, bytes_of, line_count};
 ghost use Rattle.rope_search_reports.specs.Position.{line_start, position, IsAt, IsNowhere, IsPlaceOf};
 ghost use Rattle.rope_search_reports.specs.Drafts.{HasColumn, HasNoColumn, IsOwnLine};
 
 use crate::line_start::LineStart;
-use ropey::{Rope, RopeSlice, breaks};
-use ropey_tree::counts::By;
+use ropey::{By, Rope, RopeSlice, breaks};
 use str_indices::{chars, utf16};
 
 /// A line, and a column in it: how many UTF-16 code units stand between the line's start and the

@@ -3,8 +3,7 @@ ghost use Rattle.std.specs.Prelude.{◌≡◌, ◌+◌, ◌-◌, ◌^◌, ◌<�
 ghost use Rattle.std.specs.Str.{chars, IsUtf8, IsCharBoundary};
 ghost use Rattle.str_indices.specs.Text.{breaks, break_ends, byte_len, ends_up_to};
 ghost use Rattle.ropey.specs.Chunks.{is_break, text_of};
-ghost use Rattle.ropey_walk.specs.Comparing.{slice_bytes};
-ghost use Rattle.ropey_walk.specs.Slices.{slice_text};
+ghost use Rattle.ropey.specs.Slices.{slice_bytes, slice_text};
 ghost use Rattle.rope_search_reports.specs.Text.{line_count};
 ghost use Rattle.rope_search_reports.specs.Report.{line_texts};
 ghost use Rattle.rope_search_reports.specs.Position.{line_at, line_start, line_text};
@@ -32,7 +31,7 @@ pub(crate) struct Walk<'a> {
 
 impl<'a> Model for Walk<'a> {
     ghost use Rattle.std.specs.Str.{chars};
-    ghost use Rattle.ropey_walk.specs.Slices.{slice_text};
+    ghost use Rattle.ropey.specs.Slices.{slice_text};
     ghost use Rattle.rope_search_reports.specs.Drafts.{IsWalk, WalkState};
 
     ghost Value = { WalkState };

@@ -9,7 +9,7 @@ use Rattle.ropey.specs.Chunks.{text_of}
 use Rattle.ropey.specs.Slices.{pieces_from_char, pieces_to_char, clip}
 use Rattle.rope_search_changes.specs.Text.{bytes_of}
 use Rattle.rope_search_changes.specs.Replacement.{between}
-use Rattle.ropey_walk.specs.Clips as walk
+use Rattle.ropey.specs.Slices as walk
 
 -- ---- a rope as a slice of itself
 

@@ -3,7 +3,7 @@ use Rattle.std.proofs.Common.{◌≡◌, ℕ, zero, suc, ◌+◌, ◌-◌, ◌<�
 use Rattle.std.proofs.lemmas.List.{length-take-le, length-drop}
 use Rattle.std.proofs.lemmas.Str.{encodes-chars, IsUtf8-between}
 use Rattle.str_indices.specs.Text.{byte_len}
-use Rattle.ropey_walk.specs.Ranges.{IsByteRangeIn}
+use Rattle.ropey.specs.Slices.{IsByteRangeIn}
 use Rattle.rope_search_changes.specs.Text.{IsText, bytes_of}
 use Rattle.rope_search_changes.specs.Replacement.{Groups, IsSpanIn, HasSpansIn, text_of_span, expand}
 use Rattle.rope_search_templates.specs.Pieces.{IsFirstPiece, shown}

@@ -21,7 +21,7 @@ pub(crate) struct Left<'a> {
 impl<'a> Model for Left<'a> {
     ghost use Rattle.std.specs.Prelude.{◌≡◌, ◌++◌, true, length, IsUtf8};
     ghost use Rattle.std.specs.Str.{all_scalars};
-    ghost use Rattle.ropey_walk.specs.Chunks.{text_of};
+    ghost use Rattle.ropey.specs.Chunks.{text_of};
     ghost use Rattle.rope_search_changes.specs.Text.{bytes_of};
     ghost use Rattle.rope_search_templates.specs.Left.{LeftState};
 

@@ -3,7 +3,7 @@ ghost use Rattle.std.specs.Prelude.{◌≡◌, ℕ, ◌≤◌, false, true, List
 ghost use Rattle.std.specs.Str.{chars};
 ghost use Rattle.str_indices.specs.Text.{byte_len};
 ghost use Rattle.ropey.specs.Chunks.{text_of};
-ghost use Rattle.ropey_walk.specs.Slices.{slice_text};
+ghost use Rattle.ropey.specs.Slices.{slice_text};
 ghost use Rattle.rope_search_changes.specs.Text.{IsText, bytes_of};
 ghost use Rattle.rope_search_changes.specs.Replacement.{Groups, HasSpansIn, IsSpanIn, between, expand};
 ghost use Rattle.rope_search_templates.specs.Templates.{names_explicit_groups, names_groups};

@@ -3,8 +3,7 @@
 //! crate takes of `regex_cursor` is handed on from here.
 ghost use Rattle.std.specs.Prelude.{◌≡◌, ℕ, Option, ◌+◌, ◌-◌, ◌*◌, ◌^◌, min, ◌<◌, ◌≤◌, List, length, Some, None, true, false, IfOk, IfErr, IfSome, IfNone, OnErr};
 ghost use Rattle.str_indices.specs.Text.{byte_len};
-ghost use Rattle.ropey_walk.specs.Comparing.{slice_bytes};
-ghost use Rattle.ropey_walk.specs.Slices.{slice_text};
+ghost use Rattle.ropey.specs.Slices.{slice_bytes, slice_text};
 ghost use Rattle.regex_cursor.specs.Patterns.{AsksFrom, HasNoMatchBetween, TreeFinds};
 ghost use Rattle.regex_cursor.specs.PatternLaws.{SaysOfText};
 ghost use Rattle.regex_cursor.specs.Regexes.{IsCacheOf, IsRegexOf};

@@ -4,8 +4,7 @@ ghost use Rattle.std.specs.Prelude.{◌≡◌, ◌+◌, ◌-◌, ◌^◌, ◌<�
 ghost use Rattle.std.specs.Str.{IsCharBoundary};
 ghost use Rattle.str_indices.specs.Text.{byte_len};
 ghost use Rattle.ropey.specs.Chunks.{text_of};
-ghost use Rattle.ropey_walk.specs.Comparing.{slice_bytes};
-ghost use Rattle.ropey_walk.specs.Slices.{slice_text};
+ghost use Rattle.ropey.specs.Slices.{slice_bytes, slice_text};
 ghost use Rattle.rope_search_reports.specs.Text.{bytes_of, line_count};
 ghost use Rattle.rope_search_reports.specs.Pattern.{IsPattern, IsTooHeavy, SpellsNone, FindsSpan, pattern_limit};
 ghost use Rattle.rope_search_reports.specs.LineGroups.{TellsGroups};

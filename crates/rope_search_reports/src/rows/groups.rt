@@ -1,6 +1,6 @@
 //! The groups of one match in a line.
 ghost use Rattle.std.specs.Prelude.{◌≡◌, ℕ, ◌+◌, ◌-◌, ◌^◌, ◌≤◌, min, List, IfOk, IfErr, IfSome};
-ghost use Rattle.ropey_walk.specs.Comparing.{slice_bytes};
+ghost use Rattle.ropey.specs.Slices.{slice_bytes};
 ghost use Rattle.regex_cursor.specs.Regexes.{IsRegexOf};
 ghost use Rattle.rope_search_reports.specs.Replacement.{HasSpansIn};
 ghost use Rattle.rope_search_reports.specs.LineGroups.{IsAmongGroups};

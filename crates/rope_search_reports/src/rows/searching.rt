@@ -2,7 +2,7 @@
 //! columns, those of a whole text with their groups or their spans alone.
 ghost use Rattle.std.specs.Prelude.{◌≡◌, ◌+◌, ◌-◌, ◌^◌, ◌≤◌, min, ℕ, List, [], IfOk, IfErr, OnOk, map};
 ghost use Rattle.std.specs.List.{range_with_len};
-ghost use Rattle.ropey_walk.specs.Comparing.{slice_bytes};
+ghost use Rattle.ropey.specs.Slices.{slice_bytes};
 ghost use Rattle.regex_cursor.specs.Regexes.{IsRegexOf};
 ghost use Rattle.rope_search_reports.specs.Text.{bytes_of};
 ghost use Rattle.rope_search_reports.specs.Replacement.{AreMatchesIn, alone};

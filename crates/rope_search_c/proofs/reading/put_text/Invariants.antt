@@ -1,5 +1,5 @@
 -- The chunks so far stand at the front.
-use Rattle.ropey_walk.specs.Slices.{slice_text}
+use Rattle.ropey.specs.Slices.{slice_text}
 use Rattle.rope_search_c.proofs.TextLemmas.{HasPut}
 use Rattle.rope_search_c.proofs.reading.put_text.Given as goal
 

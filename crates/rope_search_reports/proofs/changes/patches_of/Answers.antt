@@ -9,7 +9,7 @@ use Rattle.rope_search_reports.proofs.WeaveLemmas.{Woven, change_at, next-at, Wo
 use Rattle.rope_search_reports.specs.Patches.{AreInTurn, made_by}
 use Rattle.rope_search_reports.proofs.MadeLemmas.{counted-made, made-added, rows-counted}
 use Rattle.rope_search_reports.proofs.FinderLemmas.{whole-is}
-use Rattle.ropey_walk.specs.Slices.{slice_text}
+use Rattle.ropey.specs.Slices.{slice_text}
 use Rattle.rope_search_reports.proofs.LineLemmas.{lines-counted}
 use Rattle.rope_search_reports.proofs.PlaceLemmas.{line_inside}
 use Rattle.rope_search_reports.proofs.changes.patches_of.Goals as goal

@@ -1,5 +1,5 @@
 use Rattle.std.proofs.Common.{◌≡◌, ◌∙◌, arith}
-use Rattle.ropey_walk.specs.Slices.{slice_pieces, slice_text}
+use Rattle.ropey.specs.Slices.{slice_pieces, slice_text}
 use Rattle.str_indices.specs.Text.{byte_len, units}
 use Rattle.rope_search_reports.proofs.ColumnLemmas.{ascii-column, char-column}
 use Rattle.rope_search_reports.proofs.PlaceLemmas.{rope-scalars}

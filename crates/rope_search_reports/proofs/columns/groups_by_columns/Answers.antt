@@ -2,7 +2,7 @@ use Rattle.std.proofs.Common.{◌≡◌, ◌+◌, ◌<◌, [], ◌∷◌, ◌++�
 use Rattle.std.specs.Prelude.{option_map}
 use Rattle.std.proofs.lemmas.List.{length-set, map-append, take_all, take_more}
 use Rattle.std.proofs.lemmas.Grind.{take-set_at}
-use Rattle.ropey_walk.specs.Comparing.{slice_bytes}
+use Rattle.ropey.specs.Slices.{slice_bytes}
 use Rattle.rope_search_reports.specs.LineGroups.{in_columns}
 use Rattle.rope_search_reports.specs.Report.{columns}
 use Rattle.rope_search_reports.proofs.columns.groups_by_columns.Goals as goal

@@ -1,6 +1,6 @@
 -- The groups so far, by their columns.
 use Rattle.std.proofs.Common.{◌≡◌, length, take}
-use Rattle.ropey_walk.specs.Comparing.{slice_bytes}
+use Rattle.ropey.specs.Slices.{slice_bytes}
 use Rattle.rope_search_reports.specs.LineGroups.{in_columns}
 use Rattle.rope_search_reports.proofs.columns.groups_by_columns.Given as goal
 

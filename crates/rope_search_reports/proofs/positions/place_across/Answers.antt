@@ -1,5 +1,5 @@
 use Rattle.std.proofs.Common.{◌+◌, chars, refl, ap, sym, ◌∙◌, arith}
-use Rattle.ropey_walk.specs.Slices.{slice_pieces, slice_text}
+use Rattle.ropey.specs.Slices.{slice_pieces, slice_text}
 use Rattle.ropey.specs.Chunks.{is_break}
 use Rattle.str_indices.specs.Text.{breaks}
 use Rattle.rope_search_reports.proofs.AcrossLemmas.{behind-at, behind-is, by-unit, few-before, none-by-unit, one-line, told-by-unit}

@@ -2,7 +2,7 @@ use Rattle.std.proofs.Common.{◌≡◌, ◌+◌, ◌-◌, ◌^◌, ◌<◌, cha
 use Rattle.std.specs.Str.{IsCharBoundary}
 use Rattle.str_indices.specs.Text.{byte_len, units}
 use Rattle.ropey.specs.Chunks.{text_of}
-use Rattle.ropey_walk.specs.Slices.{slice_pieces}
+use Rattle.ropey.specs.Slices.{slice_pieces}
 use Rattle.rope_search_reports.specs.Text.{bytes_of}
 use Rattle.rope_search_reports.specs.Position.{column_at, line_at}
 use Rattle.rope_search_reports.proofs.ChunkColumns.{in-chunk}

@@ -1,6 +1,6 @@
 use Rattle.std.proofs.Common.{◌+◌, sym, ap, ◌∙◌, arith}
 use Rattle.str_indices.specs.Text.{ends_up_to, unit_ends}
-use Rattle.ropey_walk.specs.Slices.{slice_pieces, slice_text}
+use Rattle.ropey.specs.Slices.{slice_pieces, slice_text}
 use Rattle.rope_search_reports.specs.Position.{line_start}
 use Rattle.rope_search_reports.proofs.UnitLemmas.{none-before, starts-behind}
 use Rattle.rope_search_reports.proofs.positions.units_before.Goals as goal

@@ -1,7 +1,7 @@
 use Rattle.std.proofs.Common.{◌≡◌, sym, subst}
 use Rattle.std.specs.Prelude.{IfOk}
 use Rattle.ropey.specs.Chunks.{text_of}
-use Rattle.ropey_walk.specs.Slices.{slice_text}
+use Rattle.ropey.specs.Slices.{slice_text}
 use Rattle.rope_search_reports.specs.Drafts.{HasOwnText}
 use Rattle.rope_search_reports.specs.LineGroups.{TellsGroups}
 use Rattle.rope_search_reports.specs.Position.{line_text}

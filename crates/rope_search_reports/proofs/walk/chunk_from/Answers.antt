@@ -1,5 +1,5 @@
 use Rattle.std.proofs.Common.{chars, sym, subst}
-use Rattle.ropey_walk.specs.Slices.{slice_pieces, slice_text}
+use Rattle.ropey.specs.Slices.{slice_pieces, slice_text}
 use Rattle.rope_search_reports.specs.Drafts.{IsRestOfChunk}
 use Rattle.rope_search_reports.proofs.PlaceLemmas.{rope-scalars, split_at}
 use Rattle.rope_search_reports.proofs.WalkLemmas.{shown-rest}

@@ -2,7 +2,7 @@ use Rattle.std.proofs.Common.{◌≡◌, ◌<◌, take, IsUtf8, refl, sym, ap, s
 use Rattle.std.specs.Str.{all_scalars, IsCharBoundary}
 use Rattle.std.proofs.lemmas.Str.{IsCharBoundary-from_drop}
 use Rattle.ropey.specs.Chunks.{text_of}
-use Rattle.ropey_walk.specs.Slices.{slice_text}
+use Rattle.ropey.specs.Slices.{slice_text}
 use Rattle.rope_search_reports.specs.Text.{bytes_of, line_count}
 use Rattle.rope_search_reports.proofs.FinderLemmas.{whole-is}
 use Rattle.rope_search_reports.proofs.PlaceLemmas.{rope-scalars}

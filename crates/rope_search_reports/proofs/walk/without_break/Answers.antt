@@ -1,5 +1,5 @@
 use Rattle.std.proofs.Common.{◌≡◌, ◌-◌, ◌<◌, ◌⊎◌, inl, inr, length, take, get_or, ap, sym, ◌∙◌, arith}
-use Rattle.ropey_walk.specs.Slices.{slice_pieces, slice_text}
+use Rattle.ropey.specs.Slices.{slice_pieces, slice_text}
 use Rattle.rope_search_reports.proofs.PartLemmas.{clipped}
 use Rattle.rope_search_reports.proofs.BreakLemmas.{without-crlf, without-one}
 use Rattle.ropey.specs.Chunks.{text_of}

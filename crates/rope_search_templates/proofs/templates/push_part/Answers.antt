@@ -1,7 +1,7 @@
 use Rattle.std.proofs.Common.{◌≡◌, ℕ, ◌-◌, ◌≤◌, List, ◌++◌, take, drop, OnOk, OnErr, ap, subst, ◌∙◌, arith, chars, string_bytes}
 use Rattle.ropey.specs.Chunks.{text_of}
-use Rattle.ropey_walk.specs.Clips as walk
-use Rattle.ropey_walk.specs.Slices.{slice_text}
+use Rattle.ropey.specs.Slices as walk
+use Rattle.ropey.specs.Slices.{slice_text}
 use Rattle.rope_search_changes.specs.Text.{bytes_of}
 use Rattle.rope_search_changes.specs.Replacement.{between}
 use Rattle.rope_search_templates.proofs.ChunkLemmas.{chunk-in, boundary-there, same-part}

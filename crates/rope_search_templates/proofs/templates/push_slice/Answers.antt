@@ -1,7 +1,7 @@
 use Rattle.std.proofs.Common.{ap, ◌∙◌, string_bytes}
 use Rattle.std.specs.Str.{chars}
-use Rattle.ropey_walk.specs.Chunks.{text_of}
-use Rattle.ropey_walk.specs.Slices.{slice_text}
+use Rattle.ropey.specs.Chunks.{text_of}
+use Rattle.ropey.specs.Slices.{slice_text}
 use Rattle.rope_search_templates.proofs.PushLemmas.{pushed-next, pushed-front, pushed-chars, on_err}
 use Rattle.rope_search_templates.proofs.templates.push_slice.Goals as goal
 

@@ -1,8 +1,8 @@
 -- The chunks so far stand behind the old text.
 use Rattle.std.proofs.Common.{string_bytes}
 use Rattle.std.specs.Str.{chars}
-use Rattle.ropey_walk.specs.Chunks.{text_of}
-use Rattle.ropey_walk.specs.Slices.{slice_text}
+use Rattle.ropey.specs.Chunks.{text_of}
+use Rattle.ropey.specs.Slices.{slice_text}
 use Rattle.rope_search_templates.proofs.PushLemmas.{IsPushed}
 use Rattle.rope_search_templates.proofs.templates.push_slice.Given as goal
 

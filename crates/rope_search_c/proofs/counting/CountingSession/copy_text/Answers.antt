@@ -2,9 +2,7 @@ use Rattle.std.proofs.Common.{◌≡◌, List, ℕ, length, take, refl, ap, sym,
 use Rattle.std.proofs.lemmas.List.{length-take, length-drop}
 use Rattle.std.specs.Prelude.{Some}
 use Rattle.ropey.specs.Chunks.{text_of}
-use Rattle.ropey_walk.specs.Clips.{between}
-use Rattle.ropey_walk.specs.Ranges.{IsByteRangeIn}
-use Rattle.ropey_walk.specs.Slices.{slice_text}
+use Rattle.ropey.specs.Slices.{between, IsByteRangeIn, slice_text}
 use Rattle.rope_search_reports.specs.Text.{bytes_of}
 use Rattle.rope_search_c.specs.Reading.{text_bytes_in, text_in, with_front}
 use Rattle.rope_search_c.proofs.TextLemmas.{whole-is, none_is_some}

@@ -1,4 +1,4 @@
-use Rattle.ropey_walk.specs.Slices.{slice_pieces}
+use Rattle.ropey.specs.Slices.{slice_pieces}
 use Rattle.rope_search_reports.proofs.PlaceLemmas.{rope-scalars}
 use Rattle.rope_search_reports.proofs.line.Line.of.Goals as goal
 

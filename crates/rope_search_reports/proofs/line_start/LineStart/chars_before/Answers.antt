@@ -1,6 +1,6 @@
 use Rattle.std.proofs.Common.{◌≡◌, length, arith}
 use Rattle.str_indices.specs.Text.{byte_len}
-use Rattle.ropey_walk.specs.Slices.{slice_text}
+use Rattle.ropey.specs.Slices.{slice_text}
 use Rattle.rope_search_reports.proofs.StartLemmas.{ascii-there, chars-there}
 use Rattle.rope_search_reports.proofs.line_start.LineStart.chars_before.Goals as goal
 

@@ -1,6 +1,6 @@
 use Rattle.std.proofs.Common.{take, chars, refl, ap, subst, sym, ◌∙◌, arith}
 use Rattle.ropey.specs.Chunks.{is_break}
-use Rattle.ropey_walk.specs.Slices.{slice_text}
+use Rattle.ropey.specs.Slices.{slice_text}
 use Rattle.str_indices.specs.FirstBreak.{IsFirstBreak}
 use Rattle.str_indices.specs.Text.{breaks}
 use Rattle.rope_search_reports.proofs.StartLemmas.{chunk-inside, last-here, line-here}

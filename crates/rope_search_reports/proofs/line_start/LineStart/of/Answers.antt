@@ -1,5 +1,5 @@
 use Rattle.std.proofs.Common.{arith}
-use Rattle.ropey_walk.specs.Slices.{slice_pieces}
+use Rattle.ropey.specs.Slices.{slice_pieces}
 use Rattle.rope_search_reports.proofs.StartLemmas.{first-low, starts-in}
 use Rattle.rope_search_reports.proofs.line_start.LineStart.of.Goals as goal
 

@@ -2,7 +2,7 @@ use Rattle.std.proofs.Common.{◌^◌, ◌<◌, arith}
 use Rattle.str_indices.specs.Text.{byte_len}
 use Rattle.str_indices.proofs.TextLaws.{ends_of_a_part-lines}
 use Rattle.ropey.specs.Chunks.{is_break}
-use Rattle.ropey_walk.specs.Slices.{slice_pieces, slice_text}
+use Rattle.ropey.specs.Slices.{slice_pieces, slice_text}
 use Rattle.rope_search_reports.proofs.StartLemmas.{few-lines}
 use Rattle.rope_search_reports.proofs.TellerLemmas.{is-teller, reached-there}
 use Rattle.rope_search_reports.proofs.line_teller.LineTeller.at.Goals as goal

@@ -1,7 +1,7 @@
 use Rattle.std.proofs.Common.{◌+◌, ◌≤◌, length, ap, sym, subst, ◌∙◌, arith}
 use Rattle.str_indices.proofs.TextLaws.{ends_behind_a_boundary-lines, ends_of_a_part-lines}
 use Rattle.ropey.specs.Chunks.{is_break}
-use Rattle.ropey_walk.specs.Slices.{slice_text}
+use Rattle.ropey.specs.Slices.{slice_text}
 use Rattle.rope_search_reports.specs.Drafts.{IsTeller}
 use Rattle.rope_search_reports.specs.Position.{line_at}
 use Rattle.rope_search_reports.specs.Text.{line_count}

@@ -1,6 +1,6 @@
 use Rattle.std.proofs.Common.{◌≡◌, ◌+◌, List, ℕ, chars, refl, subst, ap, arith}
 use Rattle.std.specs.Prelude.{MatchOption, IfSome}
-use Rattle.ropey_walk.specs.Slices.{slice_text}
+use Rattle.ropey.specs.Slices.{slice_text}
 use Rattle.rope_search_reports.specs.Position.{line_text, IsNowhere, IsPlaceOf}
 use Rattle.rope_search_reports.specs.Text.{line_count}
 use Rattle.rope_search_reports.specs.declared.positions.Place.{Place}

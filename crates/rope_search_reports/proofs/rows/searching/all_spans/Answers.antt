@@ -1,6 +1,5 @@
 use Rattle.std.proofs.Common.{ℕ, List, IsUtf8, length, map, refl, ap, sym, subst, ◌∙◌, arith}
-use Rattle.ropey_walk.specs.Comparing.{slice_bytes}
-use Rattle.ropey_walk.specs.Slices.{slice_text}
+use Rattle.ropey.specs.Slices.{slice_bytes, slice_text}
 use Rattle.regex_cursor.specs.Regexes.{IsRegexOf}
 use Rattle.regex_cursor.proofs.TreeLaws.{finds_of_trees}
 use Rattle.regex_cursor.specs.NextMatches.{TreeFindsNext}

@@ -1,6 +1,6 @@
 -- The spans of the matches so far.
 use Rattle.std.proofs.Common.{◌≡◌, ℕ, List, false, length}
-use Rattle.ropey_walk.specs.Comparing.{slice_bytes}
+use Rattle.ropey.specs.Slices.{slice_bytes}
 use Rattle.regex_cursor.specs.Regexes.{IsRegexOf}
 use Rattle.rope_search_reports.specs.Pattern.{span_of}
 use Rattle.rope_search_reports.proofs.MatchLemmas.{Searched, room_behind}

@@ -1,5 +1,5 @@
 use Rattle.std.proofs.Common.{chars, sym, ap, subst, ◌∙◌, arith}
-use Rattle.ropey_walk.specs.Slices.{slice_text}
+use Rattle.ropey.specs.Slices.{slice_text}
 use Rattle.rope_search_reports.specs.Position.{line_text}
 use Rattle.rope_search_reports.specs.Drafts.{IsWalk, WalkState}
 use Rattle.rope_search_reports.proofs.WalkLemmas.{from-start, next-line, shown-next}

@@ -1,6 +1,6 @@
 use Rattle.std.proofs.Common.{◌<◌, sym, ap, subst, ◌∙◌, arith}
 use Rattle.ropey.specs.Chunks.{text_of}
-use Rattle.ropey_walk.specs.Slices.{slice_pieces, slice_text}
+use Rattle.ropey.specs.Slices.{slice_pieces, slice_text}
 use Rattle.rope_search_reports.specs.Text.{line_count}
 use Rattle.rope_search_reports.specs.Position.{line_text}
 use Rattle.rope_search_reports.specs.Drafts.{HasOwnText, WalkState}

@@ -1,5 +1,5 @@
 use Rattle.std.proofs.Common.{sym, subst, arith}
-use Rattle.ropey_walk.specs.Slices.{slice_text}
+use Rattle.ropey.specs.Slices.{slice_text}
 use Rattle.rope_search_reports.specs.Drafts.{IsWalk}
 use Rattle.rope_search_reports.proofs.WalkLemmas.{inside-rest, skip-walk}
 use Rattle.rope_search_reports.proofs.walk.Walk.pass.Goals as goal

@@ -1,7 +1,7 @@
 use Rattle.std.proofs.Common.{◌≤◌, chars, length, sym, ap, subst, ◌∙◌, arith}
 use Rattle.str_indices.specs.Text.{breaks, break_ends, byte_len, end_place}
 use Rattle.ropey.specs.Chunks.{is_break}
-use Rattle.ropey_walk.specs.Slices.{slice_text}
+use Rattle.ropey.specs.Slices.{slice_text}
 use Rattle.rope_search_reports.specs.Drafts.{IsWalk, WalkState}
 use Rattle.rope_search_reports.proofs.PlaceLemmas.{line_inside}
 use Rattle.rope_search_reports.proofs.WalkLemmas.{length-chars, skip-walk}

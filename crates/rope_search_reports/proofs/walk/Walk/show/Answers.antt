@@ -1,5 +1,5 @@
 use Rattle.std.proofs.Common.{◌<◌, sym, subst}
-use Rattle.ropey_walk.specs.Slices.{slice_text}
+use Rattle.ropey.specs.Slices.{slice_text}
 use Rattle.rope_search_reports.specs.Text.{line_count}
 use Rattle.rope_search_reports.specs.Drafts.{WalkState}
 use Rattle.rope_search_reports.proofs.WalkLemmas.{starts-between}

@@ -1,7 +1,7 @@
 use Rattle.std.proofs.Common.{ℕ, List, Option, subst}
 use Rattle.std.specs.Prelude.{IfOk}
 use Rattle.std.proofs.lemmas.Result.{IfOk-weaker}
-use Rattle.ropey_walk.specs.Comparing.{slice_bytes}
+use Rattle.ropey.specs.Slices.{slice_bytes}
 use Rattle.regex_cursor.specs.Patterns.{AsksFrom, TreeFinds}
 use Rattle.regex_cursor.specs.Regexes.{IsRegexOf, RegexView}
 use Rattle.rope_search_reports.specs.Finders.{FinderTells}

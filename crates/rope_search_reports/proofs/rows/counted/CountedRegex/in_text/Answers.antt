@@ -1,6 +1,6 @@
 use Rattle.std.proofs.Common.{sym, subst}
 use Rattle.regex_cursor.specs.Patterns.{AsksFrom}
-use Rattle.ropey_walk.specs.Slices.{slice_pieces}
+use Rattle.ropey.specs.Slices.{slice_pieces}
 use Rattle.rope_search_reports.proofs.PlaceLemmas.{rope-scalars}
 use Rattle.rope_search_reports.proofs.rows.counted.CountedRegex.in_text.Goals as goal
 

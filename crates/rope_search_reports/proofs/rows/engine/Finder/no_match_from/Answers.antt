@@ -1,5 +1,5 @@
 use Rattle.std.proofs.Common.{sym, refl, subst, ◌∙◌}
-use Rattle.ropey_walk.specs.Comparing.{slice_bytes}
+use Rattle.ropey.specs.Slices.{slice_bytes}
 use Rattle.regex_cursor.specs.Patterns.{SpellsTree}
 use Rattle.rope_search_reports.proofs.BareLemmas.{none-told}
 use Rattle.rope_search_reports.proofs.rows.engine.Finder.no_match_from.Goals as goal
