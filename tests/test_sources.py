@@ -168,7 +168,7 @@ def broken_links(path):
 
 def test_links():
     """Each link of a page leads somewhere."""
-    forms = ("*.md", "docs/*.md", "bench/*.md", "crates/*/README.md")
+    forms = ("*.md", "docs/*.md", "bench/*.md", "crates/*/README.md", "tests/compiled/*/README.md")
     pages = [path for form in forms for path in glob.glob(os.path.join(TOP, form))]
     wrong = [link for path in sorted(pages) for link in broken_links(path)]
     test(f"the links of {len(pages)} pages lead somewhere", wrong if pages else ["there is no page"])
