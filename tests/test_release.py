@@ -7,6 +7,7 @@ import subprocess
 import sys
 
 from harness import FIRST, LIBRARY, LIBRARY_FOLDER, PROGRAM, ROOM, TOP, end_of, open_input, start, test
+from test_language_server import Client
 from test_replies import examples_of_page
 from test_sources import broken_links
 
@@ -71,8 +72,18 @@ def wrong_session(modules):
     return [] if ended.stdout == "2\n" else [ended.stdout + ended.stderr]
 
 
+def wrong_server(top):
+    """The language server of an unpacked release must find the module, and that the library."""
+    client = Client([sys.executable, os.path.join(top, "examples", "language_server")], {"ROPE_SEARCH_LIBRARY": ""})
+    client.begin()
+    client.open("a", "a TODO")
+    published = client.published()
+    return [] if published == [("a", [(0, 2, 6, "TODO")])] and client.end() == 1 else [f"the server publishes {published}"]
+
+
 def wrong_release():
-    """The archive, unpacked: its program answers, its modules find the library, its links lead, its demo runs."""
+    """The archive, unpacked: its program answers, its modules find the library, its links lead, its demo and its language
+    server run."""
     folder = os.path.join(ROOM, "released")
     os.mkdir(folder)
     done = made("release", f"RELEASES={folder}")
@@ -87,7 +98,7 @@ def wrong_release():
         top, "examples", "first.session")], capture_output=True, text=True, cwd=folder, env={"PATH": os.environ["PATH"]})
     if shown.returncode or "m 0 16 20" not in shown.stdout:
         wrong.append(shown.stdout + shown.stderr)
-    return wrong + wrong_session(os.path.join(top, "bindings", "python"))
+    return wrong + wrong_server(top) + wrong_session(os.path.join(top, "bindings", "python"))
 
 
 def wrong_files():
