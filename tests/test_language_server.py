@@ -90,7 +90,7 @@ class Client:
             {"text": change[-1], **({"range": range_of(*change[:2])} if len(change) == 3 else {})} for change in changes])
 
     def since(self):
-        """What was told since this was last called, once the server has read all that was sent."""
+        """What the server said since this was last called, once it has read all that was sent."""
         self.ask("no/such/method")
         told, self.told = self.told, []
         return told
@@ -123,6 +123,11 @@ def span(value):
 
 def listed(diagnostic):
     return (*span(diagnostic["range"]), diagnostic["message"])
+
+
+def highlights(answer):
+    """The places that are highlighted, or the whole answer if it has no result."""
+    return [span(one["range"]) for one in answer["result"]] if answer and "result" in answer else answer
 
 
 def code(answer):
@@ -218,7 +223,7 @@ def some_changes(chance, encoding, text):
 
 
 def wrong_walk(encoding, pattern, seed):
-    """What is wrong with what a server tells of two documents that are changed at random."""
+    """What is wrong with what a server publishes of two documents that are changed at random."""
     chance = random.Random(repr((encoding, pattern, seed)))
     client, texts, version = Client(), {}, 1
     client.begin([encoding], {"pattern": pattern})
@@ -241,7 +246,7 @@ def wrong_walk(encoding, pattern, seed):
         position = some_position(chance, texts[uri])
         answer = client.ask("textDocument/documentHighlight", textDocument={"uri": uri},
                             position={"line": position[0], "character": position[1]})
-        got, due = [span(one["range"]) for one in answer["result"]], highlighted(encoding, texts[uri], *position)
+        got, due = highlights(answer), highlighted(encoding, texts[uri], *position)
         if got != due:
             yield f"seed {seed}, step {step}: at {position} of {texts[uri]!r} it highlights {got}, not {due}"
             break
@@ -514,7 +519,7 @@ def changing(*changes, uri="a", version=9):
 
 
 WHOLE = {"text": "TODO TODO"}
-# Wrong notifications: each is told in a message, and changes nothing, not even by the right changes before a wrong one.
+# Wrong notifications: each is logged, and changes nothing, not even by the right changes before a wrong one.
 REFUSED = [
     notification("textDocument/didOpen"),
     notification("textDocument/didOpen", textDocument={"uri": "a", "version": 1}),
@@ -582,8 +587,7 @@ def running():
 
 def goes_on(client):
     """Whether the document is still what it was, and searched."""
-    answer = client.ask(HIGHLIGHT, textDocument={"uri": "a"}, position={"line": 0, "character": 5})
-    return answer is not None and [span(one["range"]) for one in answer.get("result", [])] == [(0, 4, 8)]
+    return highlights(client.ask(HIGHLIGHT, textDocument={"uri": "a"}, position={"line": 0, "character": 5})) == [(0, 4, 8)]
 
 
 def wrong_answers(client, data, due, name):
@@ -744,7 +748,7 @@ def test_all():
     test("where a replacement is offered", wrong_offers())
     test("wrong messages are answered, and the server goes on", answers_to((frame(sent), due) for sent, due in WRONG))
     test("bytes that are no frames are answered, and the server goes on", answers_to(BROKEN))
-    test("wrong notifications and settings are told, and change nothing", wrong_refusals())
+    test("wrong notifications and settings are reported, and change nothing", wrong_refusals())
     test("frames in other forms, in pieces, and cut", wrong_frames())
     test("before initialize, after shutdown, and how it ends", wrong_lives())
     test("without the library, and without an editor", wrong_start())

@@ -50,9 +50,9 @@ class Document:
         nothing has changed, `listed` stays the same object."""
         first, removed, added = self.report.changed  # rows
         start, stop = (bisect.bisect_left(self.listed, (line,)) for line in (first, first + removed))
-        new, following = self.matches(self.report, first, first + added), self.listed[stop:]
-        if new != self.listed[start:stop] or removed != added and following:
-            moved = [found._replace(line=found.line - removed + added) for found in following]
+        new = self.matches(self.report, first, first + added)
+        if new != self.listed[start:stop] or removed != added and stop < len(self.listed):
+            moved = [found._replace(line=found.line - removed + added) for found in self.listed[stop:]]
             self.listed = self.listed[:start] + new + moved
 
     def position(self, line, column):
@@ -82,9 +82,9 @@ class Document:
     def text(self, start, stop):
         return self.report.text_bytes(self.report.byte_of(start), self.report.byte_of(stop)).decode()
 
-    def matches(self, session, first=0, stop=None):
-        """Returns the matches that a session of this text lists in some rows, or in all."""
-        return [Found(line, self.column(line, start), self.column(line, end), self.text((line, start), (line, end)))
+    def matches(self, session, first=0, stop=None, word=None):
+        """Returns the matches that a session of this text lists in some rows, or in all. Each is `word`, if it is given."""
+        return [Found(line, self.column(line, start), self.column(line, end), word or self.text((line, start), (line, end)))
                 for line, start, end in session.matches(first, stop)]
 
     def word_at(self, line, column):
@@ -107,7 +107,7 @@ class Document:
         if word != self.word:
             self.sessions[1].set_pattern(rf"\b{word}\b")
             self.word = word
-        return self.matches(self.sessions[1])
+        return self.matches(self.sessions[1], word=word)
 
     def replacements(self, template):
         """Yields each listed match, and the text that takes its place: in a template `$0` is the match, `$1` to `$9` are

@@ -112,7 +112,7 @@ class Service:
     def publish(self, uri, listed, before=None):
         """Shows what a document lists, unless that is what it listed before. It names no version: some editors drop what is
         of an older one, and would go on without it, since no later version with the same matches is published."""
-        if listed != before:
+        if listed is not before and listed != before:
             fixed = {"severity": 3, "source": "rope-search"}
             shown = [{"range": range_of(found), "message": found.text or "empty match", **fixed} for found in listed]
             self.client.send(method="textDocument/publishDiagnostics", params={"uri": uri, "diagnostics": shown})
