@@ -1,9 +1,11 @@
 -- examples/language_server by the client of Neovim, headless: after each key, undo, second document and
 -- other pattern the diagnostics are those of a search anew of the buffer's lines, written here.
 if not vim.lsp.start then
-  -- As Neovim 0.8 has it, for 0.7.
+  -- As Neovim 0.8 has it, for 0.7: one server for all buffers.
+  local started
   vim.lsp.start = function(config)
-    vim.lsp.buf_attach_client(0, vim.lsp.start_client(config))
+    started = started or vim.lsp.start_client(config)
+    vim.lsp.buf_attach_client(0, started)
   end
 end
 dofile(os.getenv("SERVER_LINES"))
@@ -125,10 +127,13 @@ see(two, DEFAULT, "the start of a second document")
 see(one, DEFAULT, "opening another")
 typed(two, DEFAULT, 2, 60)
 see(one, DEFAULT, "typing in another")
+assert(client_of(one).id == client_of(two).id, "each document has a server of its own")
+vim.api.nvim_buf_set_lines(one, 0, -1, true, { "é TODO", "FIXME 🐸TO" })
 for seed, literals in ipairs({ { "é", "TO" }, { "FIXME" }, DEFAULT }) do
   search(two, literals)
   see(two, literals, "another pattern")
   see(one, literals, "another pattern")
+  assert(shown(one) ~= "", "nothing is shown in the other document")
   typed(two, literals, 10 + seed, 15)
 end
 

@@ -7,9 +7,9 @@ import subprocess
 import sys
 
 from harness import FIRST, LIBRARY, LIBRARY_FOLDER, PROGRAM, ROOM, TOP, end_of, open_input, start, test
-from test_language_server import Client
 from test_replies import examples_of_page
 from test_sources import broken_links
+from test_language_server import Client
 
 BUILT = ["rope-search", "librope_search_c.a", "librope_search.a", "librope_search.so"]
 INSTALLED = [
@@ -65,13 +65,6 @@ def made(*words):
     return subprocess.run(["make", "--no-print-directory", *old, "-C", TOP, *words], capture_output=True, text=True)
 
 
-def wrong_session(modules):
-    """The module for Python must find the library from the folder that it lies in."""
-    ended = subprocess.run([sys.executable, "-B", "-c", SESSION], cwd=modules, capture_output=True, text=True,
-                           env={"PATH": os.environ["PATH"]})
-    return [] if ended.stdout == "2\n" else [ended.stdout + ended.stderr]
-
-
 def wrong_server(top):
     """The language server of an unpacked release must find the module, and that the library."""
     client = Client([sys.executable, os.path.join(top, "examples", "language_server")], {"ROPE_SEARCH_LIBRARY": ""})
@@ -79,6 +72,13 @@ def wrong_server(top):
     client.open("a", "a TODO")
     published = client.published()
     return [] if published == [("a", [(0, 2, 6, "TODO")])] and client.end() == 1 else [f"the server publishes {published}"]
+
+
+def wrong_session(modules):
+    """The module for Python must find the library from the folder that it lies in."""
+    ended = subprocess.run([sys.executable, "-B", "-c", SESSION], cwd=modules, capture_output=True, text=True,
+                           env={"PATH": os.environ["PATH"]})
+    return [] if ended.stdout == "2\n" else [ended.stdout + ended.stderr]
 
 
 def wrong_release():
@@ -94,11 +94,12 @@ def wrong_release():
     top = archive[:-len(".tar.gz")]
     pages = glob.glob(os.path.join(top, "**", "*.md"), recursive=True)
     wrong = [link for page in sorted(pages) for link in broken_links(page)] if pages else ["there is no page"]
+    wrong += wrong_server(top)
     shown = subprocess.run([sys.executable, "-B", os.path.join(top, "examples", "demo.py"), os.path.join(
         top, "examples", "first.session")], capture_output=True, text=True, cwd=folder, env={"PATH": os.environ["PATH"]})
     if shown.returncode or "m 0 16 20" not in shown.stdout:
         wrong.append(shown.stdout + shown.stderr)
-    return wrong + wrong_server(top) + wrong_session(os.path.join(top, "bindings", "python"))
+    return wrong + wrong_session(os.path.join(top, "bindings", "python"))
 
 
 def wrong_files():
