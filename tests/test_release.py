@@ -9,6 +9,7 @@ import sys
 from harness import FIRST, LIBRARY, LIBRARY_FOLDER, PROGRAM, ROOM, TOP, end_of, open_input, start, test
 from test_replies import examples_of_page
 from test_sources import broken_links
+from test_language_server import Client
 
 BUILT = ["rope-search", "librope_search_c.a", "librope_search.a", "librope_search.so"]
 INSTALLED = [
@@ -64,6 +65,15 @@ def made(*words):
     return subprocess.run(["make", "--no-print-directory", *old, "-C", TOP, *words], capture_output=True, text=True)
 
 
+def wrong_server(top):
+    """The language server of an unpacked release must find the module, and that the library."""
+    client = Client([sys.executable, os.path.join(top, "examples", "language_server")], {"ROPE_SEARCH_LIBRARY": ""})
+    client.begin()
+    client.open("a", "a TODO")
+    published = client.published()
+    return [] if published == [("a", [(0, 2, 6, "TODO")])] and client.end() == 1 else [f"the server publishes {published}"]
+
+
 def wrong_session(modules):
     """The module for Python must find the library from the folder that it lies in."""
     ended = subprocess.run([sys.executable, "-B", "-c", SESSION], cwd=modules, capture_output=True, text=True,
@@ -72,7 +82,8 @@ def wrong_session(modules):
 
 
 def wrong_release():
-    """The archive, unpacked: its program answers, its modules find the library, its links lead, its demo runs."""
+    """The archive, unpacked: its program answers, its modules find the library, its links lead, its demo and its language
+    server run."""
     folder = os.path.join(ROOM, "released")
     os.mkdir(folder)
     done = made("release", f"RELEASES={folder}")
@@ -83,6 +94,7 @@ def wrong_release():
     top = archive[:-len(".tar.gz")]
     pages = glob.glob(os.path.join(top, "**", "*.md"), recursive=True)
     wrong = [link for page in sorted(pages) for link in broken_links(page)] if pages else ["there is no page"]
+    wrong += wrong_server(top)
     shown = subprocess.run([sys.executable, "-B", os.path.join(top, "examples", "demo.py"), os.path.join(
         top, "examples", "first.session")], capture_output=True, text=True, cwd=folder, env={"PATH": os.environ["PATH"]})
     if shown.returncode or "m 0 16 20" not in shown.stdout:
