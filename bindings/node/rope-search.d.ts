@@ -138,7 +138,7 @@ export class Session {
   text(): Promise<string>;
 
   /** Gives the text as UTF-8. */
-  textBytes(): Promise<Buffer>;
+  textBytes(): Promise<Uint8Array>;
 
   /** Gives all matches of the report, line by line. Refused: none. */
   matches(): Promise<Span[]>;
@@ -151,7 +151,4 @@ export class Session {
 
   /** Ends the program at once. Commands without a reply reject with `Ended`. */
   kill(): Promise<Exit>;
-
-  /** Closes the session, for `await using`, where the runtime has it. */
-  [Symbol.asyncDispose]?(): Promise<Exit>;
 }

@@ -152,6 +152,7 @@ export class Session {
   }
 
   #receive(data) {
+    if (this.#why !== null) return; // it is being killed
     try {
       for (const reply of this.#replies.read(data)) {
         const command = this.#waiting.shift();
@@ -300,8 +301,4 @@ export class Session {
     this.#stop("the program was killed");
     return this.#exit;
   }
-}
-
-if (Symbol.asyncDispose) {
-  Object.defineProperty(Session.prototype, Symbol.asyncDispose, { value: Session.prototype.close });
 }

@@ -383,10 +383,11 @@ test("the program is where the page says", () => {
   const { ROPE_SEARCH: named } = process.env;
   const code = "import { programPath } from './rope-search.js'; console.log(programPath())";
   const path = (environment) => spawnSync(process.execPath, ["--input-type=module", "-e", code], {
-    cwd: fileURLToPath(new URL("..", import.meta.url)), env: environment, encoding: "utf8",
+    cwd: fileURLToPath(new URL("..", import.meta.url)), env: { ...process.env, ...environment }, encoding: "utf8",
   }).stdout.trim();
   assert.equal(path({ ROPE_SEARCH: "/some/program" }), "/some/program");
   const built = fileURLToPath(new URL("../../../bin/rope-search", import.meta.url));
-  assert.ok([built, "rope-search"].includes(path({})) || path({}).endsWith("bin/rope-search"));
+  const unnamed = path({ ROPE_SEARCH: "" });
+  assert.ok([built, "rope-search"].includes(unnamed) || unnamed.endsWith("bin/rope-search"), unnamed);
   if (named) assert.equal(programPath(), named);
 });
