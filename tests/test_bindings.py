@@ -11,11 +11,15 @@ import subprocess
 import tempfile
 from types import SimpleNamespace
 
-from harness import LIBRARY, LIBRARY_FOLDER, PROGRAM, ROOM, TOP, test
+from harness import LIBRARY, LIBRARY_FOLDER, PROGRAM, ROOM, TOP, short, test
+from protocol import spelled
+from test_edits import BACK_AND_FORWARD, OF_ALL_KINDS, some_sessions
 from test_library import declared, differing, reasons_declared, structures
+from test_replies import MORE_EXAMPLES, examples_of_page
 from test_sources import broken_links
 
 LIMIT = 900  # seconds
+SESSIONS, SESSIONS_IN_RUN = 2_000, 500
 PROGRAM_IN_RUST = """[package]
 name = "shown"
 version = "0.0.0"
@@ -97,6 +101,21 @@ def wrong_in_node(node, package, **environment):
     with open(os.path.join(folder, "main.mjs"), "w", encoding="utf-8") as out:
         out.write(code)
     return wrong_prints([node, "main.mjs"], folder, due, **environment)
+
+
+def wrong_commands(words, **environment):
+    """What is wrong with a program that carries out commands by calls of a binding: of the worked inputs, of more, and of
+    sessions at random, as the model replies them. Where an input ends early the program's last line is left out."""
+    inputs = [(data, re.sub(rb"error (command|end)\n$", b"", out) if status else out)
+              for data, out, status in [*examples_of_page(), *MORE_EXAMPLES]]
+    for kind, weights in (("of all kinds", OF_ALL_KINDS), ("back and forward", BACK_AND_FORWARD)):
+        for seed in range(SESSIONS // SESSIONS_IN_RUN // 2):
+            writer = some_sessions(("bindings", kind, seed).__repr__(), SESSIONS_IN_RUN, weights)
+            inputs.append((b"".join(spelled(*command) for command in writer.commands), b"".join(writer.replies)))
+    for data, due in inputs:
+        done = subprocess.run(words, input=data, capture_output=True, timeout=LIMIT, env={**os.environ, **environment})
+        if done.returncode or done.stdout != due:
+            yield f"{short(data)}: status {done.returncode}, {short(done.stdout)}, not {short(due)}: {done.stderr.decode()}"
 
 
 # ---- Rust
@@ -197,6 +216,9 @@ def test_rust():
     found = {"ROPE_SEARCH_LIB_DIR": LIBRARY_FOLDER}
     words = ["cargo", "test", "--offline", "--target-dir", target, "--", "--show-output"]
     test("bindings/rust: cargo test", wrong_end(words, folder, [r"^\d+ worked inputs$", "Doc-tests rope_search"], **found))
+    words = ["cargo", "build", "--offline", "--quiet", "--target-dir", target, "--example", "commands"]
+    wrong = wrong_end(words, folder, **found) or wrong_commands([os.path.join(target, "debug", "examples", "commands")])
+    test(f"bindings/rust: commands by calls, with {SESSIONS} sessions at random", wrong)
     test("bindings/rust: the code of its page", wrong_in_rust(folder, target, **found))
     test("bindings/rust: the ways to the library", wrong_ways(folder, target))
     if ran(["cargo", "clippy", "--version"], folder)[0] == 0:
@@ -243,6 +265,9 @@ def test_node():
         return
     folder = copied("node")
     test("bindings/node: node --test", wrong_end([node, "--test"], folder, ["^# fail 0|^ℹ fail 0"], ROPE_SEARCH=PROGRAM))
+    words = [node, os.path.join(folder, "examples", "commands.js")]
+    wrong = wrong_commands(words, ROPE_SEARCH=PROGRAM)
+    test(f"bindings/node: commands by calls, with {SESSIONS} sessions at random", wrong)
     test("bindings/node: the code of its page", wrong_in_node(node, folder, ROPE_SEARCH=PROGRAM))
 
 

@@ -5,11 +5,12 @@ import { tmpdir } from "node:os";
 import { join } from "node:path";
 import { test } from "node:test";
 import { fileURLToPath } from "node:url";
+import { replies } from "../examples/commands.js";
 import { Ended, REASONS, Refused, Session, programPath } from "../rope-search.js";
 
 /** A test with a session, which is ended however the test ends. */
 function withSession(name, body, options) {
-  test(name, { timeout: 120_000 }, async () => {
+  test(name, { timeout: 600_000 }, async () => {
     const session = new Session(options);
     try {
       await body(session);
@@ -312,40 +313,6 @@ function bytesOf(spelling) {
   return Buffer.from(told, "latin1");
 }
 
-/** The commands of an input, each its word, its numbers and its payload, and how many bytes they have. */
-function commandsOf(input) {
-  const commands = [];
-  let at = 0;
-  for (;;) {
-    const end = input.indexOf(10, at);
-    const [word, ...numbers] = input.toString("latin1", at, Math.max(at, end)).split(" ");
-    const hasPayload = ["text", "edit", "pattern", "replace"].includes(word);
-    const stop = end + 1 + (hasPayload ? Number(numbers.at(-1)) : 0);
-    if (end < 0 || !(word in CALLS) || stop > input.length) return { commands, size: at };
-    commands.push([word, numbers.map(Number), input.subarray(end + 1, stop)]);
-    at = stop;
-  }
-}
-
-const ok = () => "ok\n";
-/** Each command as a call of a session, and its reply. */
-const CALLS = {
-  text: (session, _, payload) => session.setText(payload).then(ok),
-  edit: (session, [l1, c1, l2, c2], payload) => session.edit([l1, c1], [l2, c2], payload).then(ok),
-  undo: (session) => session.undo().then(ok),
-  redo: (session) => session.redo().then(ok),
-  pattern: (session, _, payload) => session.setPattern(payload).then(ok),
-  off: (session) => session.off().then(ok),
-  use: (session, [number]) => session.choose(number).then(ok),
-  fork: (session) => session.fork().then((number) => `ok ${number}\n`),
-  replace: (session, _, payload) => session.replace(payload).then((count) => `ok ${count}\n`),
-  next: (session, from) => session.next(from).then((match) => match === null ? "no match\n"
-    : `m ${match.start.line} ${match.start.column} ${match.stop.line} ${match.stop.column}\n`),
-  list: (session) => session.matches().then((spans) =>
-    spans.map(({ line, start, stop }) => `m ${line} ${start} ${stop}\n`).join("") + `ok ${spans.length}\n`),
-  print: (session) => session.textBytes().then((text) => `text ${text.length}\n${text.toString("latin1")}\n`),
-};
-
 test("the worked inputs of docs/protocol.md", async (t) => {
   const page = fileURLToPath(new URL("../../../docs/protocol.md", import.meta.url));
   if (!existsSync(page)) return t.skip(`there is no ${page}`);
@@ -353,16 +320,10 @@ test("the worked inputs of docs/protocol.md", async (t) => {
   assert.ok(rows.length >= 10);
   for (const row of rows) {
     const [, input, output, status] = row.match(/^\| `(.+)` \| `(.+)` \| (\d) \|$/);
-    const { commands, size } = commandsOf(bytesOf(input));
-    assert.equal(size === bytesOf(input).length, status === "0");
     const session = new Session();
-    const replies = commands.map(([word, numbers, payload]) =>
-      CALLS[word](session, numbers, payload).catch((error) => {
-        assert.ok(error instanceof Refused, error);
-        return `error ${error.word}\n`;
-      }));
-    const told = (await Promise.all(replies)).join("");
+    const { told, isWhole } = await replies(session, bytesOf(input));
     await session.close();
+    assert.equal(isWhole, status === "0");
     // Of an input that is cut short, or has a line that is no command, the last line is the program's alone.
     const due = bytesOf(output).toString("latin1");
     assert.equal(told, status === "0" ? due : due.replace(/error (command|end)\n$/, ""));
