@@ -22,7 +22,8 @@
 #               of the topics in bench/topics.py; TOPICS=--write puts the figures into bench/RESULTS.md
 # make clean    removes what these made
 
-# The version of the program and the library, which stands in this file alone.
+# The version of the program and the library. The manifests of bindings/rust and bindings/node repeat it, and a
+# test compares them.
 version := $(shell cat VERSION)
 PREFIX ?= /usr/local
 
@@ -112,6 +113,10 @@ define put_down
 	@sed 's/@VERSION@/$(version)/' docs/rope-search.1 > '$(root)/share/man/man1/rope-search.1'
 	@install -m 644 $(pages) '$(root)/share/doc/rope-search'
 	@install -m 644 bindings/python/rope_search.py bindings/lua/rope_search.lua '$(root)/share/rope-search'
+	@install -d '$(root)/share/rope-search/rust/src' '$(root)/share/rope-search/node'
+	@install -m 644 bindings/rust/Cargo.toml bindings/rust/build.rs '$(root)/share/rope-search/rust'
+	@install -m 644 bindings/rust/src/*.rs '$(root)/share/rope-search/rust/src'
+	@install -m 644 bindings/node/package.json bindings/node/*.js bindings/node/*.ts '$(root)/share/rope-search/node'
 endef
 
 install: $(program) lib
@@ -129,7 +134,7 @@ release: $(program) lib
 	@rm -rf '$(root)' '$(root).tar.gz'
 	$(put_down)
 	@rm -r '$(root)/share/doc'
-	@tar --exclude=__pycache__ -cf - $(packed) | tar -C '$(root)' -xf -
+	@tar --exclude=__pycache__ --exclude=target --exclude=node_modules --exclude=Cargo.lock -cf - $(packed) | tar -C '$(root)' -xf -
 	@tar -C '$(RELEASES)' --sort=name --owner=0 --group=0 --numeric-owner -czf '$(root).tar.gz' $(release)
 	@rm -rf '$(root)'
 	@echo '$(root).tar.gz'

@@ -71,6 +71,20 @@ class Session:
         except OSError:
             return 0, b""
 
+    def resident(self):
+        """The bytes of memory that the program has from the system."""
+        with open(f"/proc/{self.process.pid}/statm") as told:
+            return int(told.read().split()[1]) * os.sysconf("SC_PAGE_SIZE")
+
+
+def kept_by(program, settings, commands):
+    """The bytes that a session has from the system after the commands, less those that it had before them."""
+    with Session(program) as session:
+        session.ask(settings)
+        before = session.resident()
+        session.ask(commands)
+        return session.resident() - before
+
 
 def taken(program, settings, *batches, runs=RUNS):
     """What batches of commands take behind settings, one after the other in a session: for each the nanoseconds, in the
@@ -113,9 +127,14 @@ def tells_peak():
     return os.path.exists("/usr/bin/time")
 
 
-def instructions(program, given):
-    """How many instructions a program takes over a file: the same each time, whatever else the machine does."""
+def instructions(program, *commands):
+    """How many instructions a program takes up to its last reply, of a line each: nearly the same each time, whatever
+    else the machine does. It is stopped there, so what it frees at its end isn't counted."""
     words = ["valgrind", "--tool=callgrind", "--callgrind-out-file=/dev/null", program]
-    with open(given, "rb") as stdin:
-        ran = subprocess.run(words, stdin=stdin, stdout=subprocess.DEVNULL, stderr=subprocess.PIPE, check=True)
-    return int(re.search(rb"Collected : (\d+)", ran.stderr)[1])
+    with subprocess.Popen(words, stdin=subprocess.PIPE, stdout=subprocess.PIPE, stderr=subprocess.PIPE) as ran:
+        ran.stdin.write(b"".join(commands))
+        ran.stdin.flush()
+        for _ in commands:
+            ran.stdout.readline()
+        ran.terminate()
+        return int(re.search(rb"Collected : (\d+)", ran.stderr.read())[1])

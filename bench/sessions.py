@@ -17,6 +17,7 @@ from processes import (
     THEIRS,
     command,
     instructions,
+    kept_by,
     nanos_of,
     peak_of,
     programs,
@@ -151,11 +152,8 @@ def edit_lines(folder, tiny):
         whats = ["a letter in a random line", "its undo", "a typist's letter"]
         for what, (time_of_all, said) in zip(whats, taken(PROGRAM, settings, *batches)):
             yield of, what, f"{time_of_all / edits:.1f}", unit_of(said == b"ok\n" * edits)
-        if tells_peak():
-            alone, edited = (
-                peak_of([PROGRAM], written(folder, "session", *settings, *more)) for more in ([], at_random)
-            )
-            yield of, "what a random letter keeps", f"{(edited - alone) * 1024 / edits:.0f}", "bytes"
+        if os.path.exists("/proc/self/statm"):
+            yield of, "what a random letter keeps", f"{kept_by(PROGRAM, settings, at_random) / edits:.0f}", "bytes"
         if THEIRS in programs():
             [(time_of_all, said)] = taken(programs()[THEIRS], settings, at_random[:3], runs=3)
             yield of, f"a letter, {THEIRS}", f"{time_of_all / 3:.1f}", unit_of(said == b"ok\n" * 3)
@@ -356,15 +354,15 @@ def count_instructions(folder, tiny):
     lines = (source_text().split("\n") * 5)[: 1_000 if tiny else 20_000]
     lines[::5] = [line + " // TODO" for line in lines[::5]]
     for name, program in programs().items():
-        for of, figure, unit in counted(folder, lines, program, 1_000 if name == OURS else 10):
+        for of, figure, unit in counted(lines, program, 1_000 if name == OURS else 10):
             yield of, name, figure, unit
 
 
-def counted(folder, lines, program, edits):
+def counted(lines, program, edits):
     """The instructions of reports, replacements and so many edits, each less what comes before it in the session."""
 
     def of(*commands):
-        return instructions(program, written(folder, "session", *commands))
+        return instructions(program, *commands)
 
     text = "\n".join(lines).encode()
     alone = of(command("text", text))

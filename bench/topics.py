@@ -152,7 +152,7 @@ TOPICS = {
         "and replacements",
         [sessions.count_instructions],
         in_the_way="of a line with a `TODO` the looks through the four lines before it; of a letter the copy "
-        "of the path to it, with eight requests for memory, and counts of short leaves",
+        "of the path to it, with 13 requests for memory, and counts of short leaves",
     ),
     "growth": Topic(
         "a letter put in a random line under the pattern `let`, as the text of 50 bytes a line grows",

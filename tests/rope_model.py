@@ -4,6 +4,7 @@ A text is a `str`, and a cut text the tuple of its chunks. Indices count from 0,
 UTF-16 code units or lines.
 """
 import functools
+import re
 from bisect import bisect_right
 from itertools import accumulate
 
@@ -75,6 +76,16 @@ def byte_range_refusal(data, start, end):
     return why
 
 
+def with_plain_places(told):
+    """What the `try_` and `get_` forms answer to an index, and then the plain forms, each where one of those does."""
+    return told + "".join(f"{number} " for number in re.findall(r"(?:Ok|Some)\((\d+)\)", told))
+
+
+def with_plain_chunks(told):
+    """The chunks that are shown, or why there are none, and then those that there are once more."""
+    return told + "".join(f"{chunk}|" for chunk in told.split("|") if "/" in chunk)
+
+
 class Text:
     """A text, and the bytes, the units and the lines before each of its characters and at its end."""
 
@@ -126,7 +137,7 @@ class Text:
         byte = self.text.encode()[idx] if idx < self.bytes else None
         char = ord(self.text[idx]) if idx < self.chars else None
         line = part(self.line(idx)) if idx < self.lines else "None|"
-        return " ".join(by_byte + by_char + by_unit + by_line + [option(byte), option(char), line])
+        return with_plain_places(" ".join(by_byte + by_char + by_unit + by_line + [option(byte), option(char), line]))
 
     def part_of(self, name, start, end):
         """The part of characters or of bytes from one index up to another, each None where it is open, or why there
@@ -209,7 +220,7 @@ class Cut:
         at_byte = self.shown("byte", idx)
         if tells_why and idx > self.whole.bytes:
             at_byte = refused("ByteIndexOutOfBounds", idx, self.whole.bytes) + "|"
-        return at_byte + self.shown("char", idx) + self.shown("line_break", idx)
+        return with_plain_chunks(at_byte + self.shown("char", idx) + self.shown("line_break", idx))
 
     def walk(self, kind, place, script):
         """What a walk over items of a kind gives, from the place before one of them."""

@@ -91,10 +91,11 @@ def sent(ask):
 class RopeRow:
     """A row on a rope, whose answers are checked one after the other: where a request for memory may be refused, an
     edit may answer so, and then changes nothing. What is asked is a word, or a call: its name, and what it is given,
-    places and texts."""
+    places and texts. Two of the cuts that are asked for, by their numbers, may have to differ."""
 
-    def __init__(self, maker, parts, asks, may_refuse=False):
+    def __init__(self, maker, parts, asks, may_refuse=False, differ=()):
         self.maker, self.parts, self.asks, self.may_refuse = maker, parts, list(asks), may_refuse
+        self.differ = differ
         self.refusals = set()  # the names of what was refused
 
     def line(self):
@@ -108,7 +109,7 @@ class RopeRow:
 
     def wrong(self, line):
         """What is wrong with the answers."""
-        self.text, self.kept, self.pieces = "", [], None
+        self.text, self.kept, self.pieces, self.cuts = "", [], None, []
         self.least = 980  # the fewest bytes of a chunk but the last, in a rope that is made and not edited
         first, *answers = line.split(";")
         end = answers.pop() if answers else ""
@@ -136,6 +137,8 @@ class RopeRow:
                 due = self.due(name, arguments)
                 if answer != due:
                     yield f"{self}: ask {number}, {short(sent(ask))}: {short(answer)!r}, not {short(due)!r}"
+        if self.differ and len({self.cuts[number] for number in self.differ}) == 1:
+            yield f"{self}: the cuts {self.differ} are alike"
 
     def lose(self, name):
         """A refused `append` drops what it is given."""
@@ -149,6 +152,7 @@ class RopeRow:
         if pieces is None:
             return [f"the chunks have {sizes} bytes"]
         self.pieces = Cut(pieces)
+        self.cuts.append(pieces)
         wrong = list(wrong_chunks(pieces, self.least))
         return wrong + ([] if capacity == MOST_BYTES * len(sizes) else [f"the capacity is {capacity}"])
 
@@ -165,7 +169,8 @@ class RopeRow:
         if name == "places":
             return text_of(self.text).places(int(arguments[0]))
         if name == "parts":
-            return text_of(self.text).parts(*map(int, arguments), tells_why=False)
+            told, ends = text_of(self.text), tuple(map(int, arguments))
+            return told.parts(*ends) + told.parts(*ends, tells_why=False)
         if name == "chunk":
             return self.pieces.chunk(int(arguments[0]), tells_why=False)
         if name in ("bytes", "chars", "lines") or name.startswith("chunks_at"):

@@ -11,7 +11,7 @@ import shutil
 import subprocess
 import sys
 
-from harness import LIBRARY, LIBRARY_FOLDER, ROOM, SECONDS, TOP, example_rows, short, test
+from harness import LIBRARY, LIBRARY_FOLDER, PROGRAM, ROOM, SECONDS, TOP, example_rows, short, test
 from library import replies, reply, rope_search
 from library_changes import wrong_changes
 from library_edits import wrong_with
@@ -42,6 +42,17 @@ PATHS = {
 # Neovim, which runs the file of Lua that is named behind these words, and tells how that ended.
 NEOVIM = ["nvim", "--clean", "--headless", "-n", "-c", "lua local done, why = pcall(dofile, vim.v.argv[#vim.v.argv]) "
           "if not done then io.stdout:write(why, '\\n') vim.cmd('cquit 1') end", "-c", "qall!", "--"]
+
+
+# Neovim prints what Lua prints as messages.
+PRINTING = """print = function(...)
+  local all = { ... }
+  for i = 1, select("#", ...) do
+    all[i] = tostring(all[i])
+  end
+  io.stdout:write(table.concat(all, "\\t"), "\\n")
+end
+"""
 
 
 def declared(text):
@@ -405,20 +416,22 @@ def wrong_prints(words, due):
 
 
 def test_page():
-    """The code of docs/embedding.md, each with what it prints."""
+    """The code of docs/embedding.md, each with what it prints. Other code of it is that of pages that it names."""
     page = read("docs", "embedding.md")
-    blocks = re.findall(r"```(c|python|lua)\n(.*?)```\n\nIt prints\n\n```text\n(.*?)```", page, flags=re.S)
+    blocks = re.findall(r"```(c|python|lua|sh)\n(.*?)```\n\nIt prints\n\n```text\n(.*?)```", page, flags=re.S)
     kinds = [kind for kind, _, _ in blocks]
-    test("docs/embedding.md has code in three languages", [] if kinds == ["c", "python", "lua"] else [f"in {kinds}"])
+    test("docs/embedding.md has code in four languages", [] if kinds == ["c", "python", "lua", "sh"] else [f"in {kinds}"])
     for kind, code, due in blocks:
         file = os.path.join(ROOM, "embedded." + kind.replace("python", "py"))
         with open(file, "w", encoding="utf-8") as out:
-            out.write(code)
-        words = {"python": [sys.executable, file], "lua": [shutil.which("luajit"), file]}.get(kind)
+            out.write((PRINTING if kind == "lua" else "") + code.replace("| bin/rope-search", f"| '{PROGRAM}'"))
+        words = {"python": [sys.executable, file], "lua": [*lua(), file], "sh": ["sh", file]}.get(kind)
         if kind == "c" and (made := built("embedded", [file], STRICT)):
             words = [made]
         if words and words[0]:
             test(f"the {kind} code of docs/embedding.md", wrong_prints(words, due))
+        elif kind == "lua":
+            print("no LuaJIT and no Neovim: the Lua code of docs/embedding.md isn't run")
 
 
 def test_pane():

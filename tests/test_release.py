@@ -7,14 +7,19 @@ import subprocess
 import sys
 
 from harness import FIRST, LIBRARY, LIBRARY_FOLDER, PROGRAM, ROOM, TOP, end_of, open_input, start, test
+from test_bindings import newest_enough, wrong_in_node, wrong_in_rust
 from test_replies import examples_of_page
 from test_sources import broken_links
+from test_language_server import Client
 
 BUILT = ["rope-search", "librope_search_c.a", "librope_search.a", "librope_search.so"]
 INSTALLED = [
     "bin/rope-search", "include/rope_search.h", "lib/librope_search.a", "lib/librope_search.so",
     "lib/pkgconfig/rope_search.pc", "share/man/man1/rope-search.1", "share/rope-search/rope_search.py",
-    "share/rope-search/rope_search.lua",
+    "share/rope-search/rope_search.lua", "share/rope-search/rust/Cargo.toml", "share/rope-search/rust/build.rs",
+    *(f"share/rope-search/rust/src/{name}.rs" for name in ("error", "lib", "matches", "raw", "session", "types")),
+    *(f"share/rope-search/node/{name}" for name in (
+        "package.json", "queue.js", "replies.js", "rope-search.d.ts", "rope-search.js")),
     *(f"share/doc/rope-search/{name}" for name in (
         "README.md", "CHANGELOG.md", "LICENSE-APACHE", "LICENSE-MIT", "NOTICE", "protocol.md", "patterns.md",
         "embedding.md")),
@@ -64,6 +69,15 @@ def made(*words):
     return subprocess.run(["make", "--no-print-directory", *old, "-C", TOP, *words], capture_output=True, text=True)
 
 
+def wrong_server(top):
+    """The language server of an unpacked release must find the module, and that the library."""
+    client = Client([sys.executable, os.path.join(top, "examples", "language_server")], {"ROPE_SEARCH_LIBRARY": ""})
+    client.begin()
+    client.open("a", "a TODO")
+    published = client.published()
+    return [] if published == [("a", [(0, 2, 6, "TODO")])] and client.end() == 1 else [f"the server publishes {published}"]
+
+
 def wrong_session(modules):
     """The module for Python must find the library from the folder that it lies in."""
     ended = subprocess.run([sys.executable, "-B", "-c", SESSION], cwd=modules, capture_output=True, text=True,
@@ -71,8 +85,23 @@ def wrong_session(modules):
     return [] if ended.stdout == "2\n" else [ended.stdout + ended.stderr]
 
 
+def wrong_packages(folder):
+    """The package for Rust must find the library from the folder that it lies in, and the module for Node the program."""
+    wrong, node = [], newest_enough()
+    if shutil.which("cargo"):
+        wrong += wrong_in_rust(os.path.join(folder, "rust"), os.path.join(ROOM, "released-target"), PKG_CONFIG="/nowhere/it")
+    else:
+        print(f"no cargo: the package for Rust isn't tried in {os.path.relpath(folder, ROOM)}")
+    if node:
+        wrong += wrong_in_node(node, os.path.join(folder, "node"), PATH="/nowhere", ROPE_SEARCH="")
+    else:
+        print(f"no Node 18 or later: the module for it isn't tried in {os.path.relpath(folder, ROOM)}")
+    return wrong
+
+
 def wrong_release():
-    """The archive, unpacked: its program answers, its modules find the library, its links lead, its demo runs."""
+    """The archive, unpacked: its program answers, its modules find the library, its links lead, its demo and its language
+    server run."""
     folder = os.path.join(ROOM, "released")
     os.mkdir(folder)
     done = made("release", f"RELEASES={folder}")
@@ -83,11 +112,14 @@ def wrong_release():
     top = archive[:-len(".tar.gz")]
     pages = glob.glob(os.path.join(top, "**", "*.md"), recursive=True)
     wrong = [link for page in sorted(pages) for link in broken_links(page)] if pages else ["there is no page"]
+    wrong += wrong_server(top)
     shown = subprocess.run([sys.executable, "-B", os.path.join(top, "examples", "demo.py"), os.path.join(
         top, "examples", "first.session")], capture_output=True, text=True, cwd=folder, env={"PATH": os.environ["PATH"]})
     if shown.returncode or "m 0 16 20" not in shown.stdout:
         wrong.append(shown.stdout + shown.stderr)
-    return wrong + wrong_session(os.path.join(top, "bindings", "python"))
+    bindings = os.path.join(top, "bindings")
+    wrong += [path for path in glob.glob(os.path.join(bindings, "**", "*"), recursive=True) if re.search(r"/(target|Cargo\.lock)$", path)]
+    return wrong + wrong_session(os.path.join(bindings, "python")) + wrong_packages(bindings)
 
 
 def wrong_files():
@@ -112,7 +144,8 @@ def wrong_files():
         flags = subprocess.run(["pkg-config", "--cflags", "--libs", "rope_search"], capture_output=True, text=True, env=dict(
             os.environ, PKG_CONFIG_PATH=os.path.join(top, "lib", "pkgconfig"))).stdout
         wrong += [f"{name} isn't in {flags!r}" for name in ("lib/pkgconfig/../../include", "-lrope_search") if name not in flags]
-    return wrong + wrong_session(os.path.join(top, "share", "rope-search"))
+    modules = os.path.join(top, "share", "rope-search")
+    return wrong + wrong_session(modules) + wrong_packages(modules)
 
 
 def test_all():

@@ -91,6 +91,14 @@ def built_texts():
         yield f"builder 61*{letters}+0d||0a cut", f";{sizes} {984 * len(sizes.split())};"
 
 
+def longest_text():
+    """A text of 984 bytes that is doubled, which shares its nodes, until it would have 2^63 bytes or more."""
+    size = 984 * 2**53
+    told = f"{size} {size} {size} 1;"
+    line = f"from_str 61*984 {'clone append ' * 53}lengths clone append lengths"
+    yield line, ";" + "Ok(());" * 106 + told + "Ok(());Err(Size);" + told
+
+
 def parts_of(text, size):
     """A text in parts of so many bytes, characters kept whole."""
     parts, data = [], text.encode()
@@ -148,6 +156,9 @@ def compared_ropes():
             asks = ["clone", *cut_anew, "compare", "swap", "compare", *one_more]
             yield RopeRow("from_str", [text], asks).row()
             yield RopeRow("builder", parts_of(text, 41), [*asks, "shrink_to_fit", "cut", "compare"]).row()
+        # Without its first 100 bytes the first chunk stays shorter than the one that is made anew.
+        asks = ["remove,0,100", "cut", "clone", "shrink_to_fit", "cut", "compare", "swap", "compare", *one_more]
+        yield RopeRow("from_str", ["b" * 100 + text], asks, differ=(0, 1)).row()
 
 
 def small_edits():
@@ -263,6 +274,7 @@ def edits_at_random():
 def test_all():
     check("edits of ropes whose outcome is known", known_edits())
     check("texts that are built of parts", built_texts())
+    check("text that is as long as may be", longest_text())
     check("long texts that are made ropes", made_ropes())
     check("ropes that are compared and hashed", compared_ropes())
     check("edits of short texts", small_edits())

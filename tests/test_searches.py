@@ -201,10 +201,14 @@ def slots_of(tree, haystack, count, cut=0, asked=None):
     return search(spelled(tree), haystack, answer, cut, asked, slots=count)
 
 
-def table():
+def rows():
+    """The rows of the table."""
     with open(os.path.join(TOP, "tests", "searches.jsonl"), encoding="utf-8") as file:
-        rows = [json.loads(line) for line in file]
-    for size, row in itertools.product(SIZES, rows):
+        return [json.loads(line) for line in file]
+
+
+def table():
+    for size, row in itertools.product(SIZES, rows()):
         yield search(row["pattern"], row["haystack"].encode(), listed(row["matches"]), size)
 
 

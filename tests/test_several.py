@@ -1,19 +1,22 @@
 """What is found of several patterns that are searched for together, on bin/search-driver, which asks each engine: all
 matches in haystacks that lie in pieces, each with its pattern and its groups, perhaps in slices and spans, anchored, and
 anchored to a pattern, also by the iterators of both engines over automata, with a cache and with its clone; all by a
-`Regex` with each engine on and off, and with caches of all sizes; all in parts of ropes; and why patterns are refused.
+`Regex` with each engine on and off, and with caches of all sizes; all in parts of ropes; and why patterns are refused. So
+are the searches for one pattern of tests/test_searches.py, and of the table tests/searches.jsonl.
 
 Its answers are those that stand here, and those of the model of tests/walks.py to cases at random.
 """
 import itertools
 import random
+import re
 
 from driver import WANT, Case, Settings, check_memory, in_runs, line_of, problems, written
 from harness import share_of, short, test
 from random_patterns import Maker
 from test_all import ANYWHERE, AT_START, FIRST, SECOND, SIZES
 from test_regexes import AROUND, in_rope
-from test_searches import asked_at_random, listed
+from test_searches import VECTORS as ONES
+from test_searches import asked_at_random, listed, rows
 from test_settings import CAPACITIES, engines
 from test_settings import about as about_settings
 from walks import Search, spelled
@@ -107,6 +110,19 @@ def vectors():
         yield in_rope("rope", patterns, haystack, answer, (2, 1, 3), *(asked or [None]), around)
 
 
+def ones():
+    """Searches for one pattern under no settings, and those of the table."""
+    for pattern, haystack, answer, *asked in ONES:
+        if len(asked) > 1 or re.search("[a-z]", answer):
+            continue
+        told = [(slice_, span, int(anchored)) for slice_, span, anchored in asked]
+        for size in SIZES:
+            yield about([pattern], haystack.encode(), answer, size, *told)
+            yield from under([pattern], haystack.encode(), answer, size, *told)
+    for row, size in zip(rows(), itertools.cycle(SIZES)):
+        yield about([row["pattern"]], row["haystack"].encode(), listed(row["matches"]), size)
+
+
 def far():
     """Searches for matches that lie far from one another."""
     for patterns, behind, found in FAR_ONES:
@@ -137,6 +153,7 @@ def at_random(count=RANDOM_CASES):
 
 def test_all():
     test("several patterns are found as they should", problems(vectors()))
+    test("one pattern is found as it should, by each engine", in_runs(ones()))
     test("several patterns are found far from one another", problems(far()))
     test(f"several patterns at random, {RANDOM_CASES} searches, are found as by the model", in_runs(at_random(), 2_000))
     test("why several patterns are refused", problems(about(patterns, b"", answer) for patterns, answer in REFUSED))

@@ -8,15 +8,17 @@ import functools
 import itertools
 import random
 
-from rope_model import CHUNK_KINDS, GREATEST, MOST_BYTES, Cut, hexed, items_of, lengths, order, text_of
-from rope_rows import check, leaves_row
+from rope_model import (
+    CHUNK_KINDS, GREATEST, MOST_BYTES, Cut, hexed, items_of, lengths, order, text_of, with_plain_chunks, with_plain_places,
+)
+from rope_rows import RopeRow, check, leaves_row
 from rope_texts import LETTERS, cut_at_random, cuttings, pairs, shortest_leaves, small_texts, text_at_random
 
 
 # Each character that breaks lines, and those that break none: the other line ends of Unicode, and their neighbours.
 ALL_BREAKS = "a\nb\vc\fd\re\r\nf\x85g\u2028h\u2029i\t\x0e\x1f ¥\x84\x86\u2027\u202a"
 
-# A text, what is asked of a rope of it and of a slice over it, and the answer.
+# A text, what is asked of a rope of it and of a slice over it, and the answer, to which the plain forms' is added.
 VECTORS = [
     ("\r\n", "lengths", "2 2 2 2"),
     ("\r\n", "places,0", "Ok(0) Ok(0) Ok(0) Ok(0) Ok(0) Ok(0) Ok(0) Ok(0) Some(13) Some(13) 0d0a/2|"),
@@ -111,7 +113,10 @@ RANGES = [
 
 def known():
     """Values that are known from outside, of ropes and of slices, in one leaf and in leaves as short as may be."""
+    plain = {"places": with_plain_places, "chunk": with_plain_chunks}
     for text, ask, answer in VECTORS:
+        name = ask.partition(",")[0]
+        answer = plain[name](answer) if name in plain else answer
         yield f"from_str {hexed(text)} {ask}", f";{answer};"
         yield leaves_row([text] if text else [], [ask], [answer])
         if text and not ask.startswith("chunk"):
@@ -129,8 +134,10 @@ def known_ranges():
                 yield f"{kind} with {start} and {end}: {answer!r}, not {due!r}"
 
     for kind, start, end, *dues in RANGES:
-        line, _ = leaves_row([RANGE_TEXT], [f"parts,{start},{end}"], [])
+        asked = f"parts,{start},{end}"
+        line, _ = leaves_row([RANGE_TEXT], [asked], [])
         yield line, functools.partial(wrong, kind, start, end, dues)
+        yield RopeRow("from_str", [RANGE_TEXT], [asked]).row()
 
 
 def cut_breaks():

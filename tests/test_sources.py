@@ -150,6 +150,17 @@ def test_figures():
     test(f"the {len(cited)} figures of README.md stand in bench/RESULTS.md", wrong if cited else ["there is none"])
 
 
+def test_costs():
+    """The page of ways to embed it has what a letter costs by each, as the page of results tells it."""
+    results, page = read(os.path.join(TOP, "bench", "RESULTS.md")), read(os.path.join(TOP, "docs", "embedding.md"))
+    rows = re.findall(r"^\| (.*?) \| ([\d,]+) (ns|us) \|", results.split("\n## embedded\n")[1].split("\n## ")[0], re.M)
+    measured = {name: int(number.replace(",", "")) / (1000 if unit == "ns" else 1) for name, number, unit in rows}
+    names = {"C": "in C", "Python": "in Python", "Lua": "in LuaJIT", "A child process": "by the program over pipes"}
+    told = dict(re.findall(r"^\| \[([^]]*)\].*\| ([\d.]+) µs \|$", page, re.M))
+    due = {way: f"{measured[name]:.{int(measured[name] < 10)}f}" for way, name in names.items()}
+    test("docs/embedding.md has what a letter costs", [] if told == due else [f"it has {told}, not {due}"])
+
+
 def anchors(text):
     """What the headings of a page are linked by."""
     headings = re.findall(r"^#+ (.*)", re.sub(r"(?ms)^```.*?^```", "", text), re.M)
@@ -168,7 +179,8 @@ def broken_links(path):
 
 def test_links():
     """Each link of a page leads somewhere."""
-    forms = ("*.md", "docs/*.md", "bench/*.md", "crates/*/README.md")
+    forms = ("*.md", "docs/*.md", "bench/*.md", "crates/*/README.md", "tests/compiled/*/README.md", "bindings/*/README.md",
+             "examples/*/README.md")
     pages = [path for form in forms for path in glob.glob(os.path.join(TOP, form))]
     wrong = [link for path in sorted(pages) for link in broken_links(path)]
     test(f"the links of {len(pages)} pages lead somewhere", wrong if pages else ["there is no page"])
@@ -185,6 +197,7 @@ def test_length():
 def test_all():
     test_picture()
     test_figures()
+    test_costs()
     test_links()
     test_length()
     test_laws()

@@ -5,9 +5,8 @@ use Rattle.std.proofs.lemmas.List.{length-append, reverse-reverse}
 use Rattle.std.proofs.lemmas.Str.{encodes-append}
 use Rattle.std.proofs.Math.Seq.{drop-append_seam, take-append_seam}
 use Rattle.str_indices.specs.Text.{byte_len}
-use Rattle.ropey_walk.specs.Chunks.{IsCutting, text_of}
-use Rattle.ropey_walk.specs.Iter.{PassesFirst, StandsBefore}
-use Rattle.ropey_walk.specs.TwoWay.{TwoWay}
+use Rattle.ropey.specs.Chunks.{IsCutting, text_of}
+use Rattle.ropey.specs.Iter.{PassesFirst, StandsBefore, TwoWay}
 use Rattle.rx_input.specs.Cursors.{CursorState, IsLawful}
 use Rattle.rx_input.specs.Inputs.{HoldsPlace}
 use Rattle.regex_cursor.specs.Showing.{all_chunks, HaveCharacters, MayShowNext, EndsFirst}

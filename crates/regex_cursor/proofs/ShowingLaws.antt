@@ -8,10 +8,9 @@ use Rattle.std.proofs.lemmas.List.Folds.{concat-append}
 use Rattle.std.proofs.lemmas.Str.{IsUtf8-nil, chars-nil, encodes-append, encodes-chars, length-le-encodes}
 use Rattle.std.proofs.Math.Seq.{drop-append_seam, take-append_seam}
 use Rattle.str_indices.specs.Text.{byte_len}
-use Rattle.ropey_walk.specs.Chunks.{IsCutting, text_of}
-use Rattle.ropey_walk.specs.Chunks as rope
-use Rattle.ropey_walk.specs.Iter.{GivesChunk}
-use Rattle.ropey_walk.specs.TwoWay.{TwoWay, turned, GivesPrev}
+use Rattle.ropey.specs.Chunks.{IsCutting, text_of}
+use Rattle.ropey.specs.Chunks as rope
+use Rattle.ropey.specs.Iter.{GivesChunk, TwoWay, turned, GivesPrev}
 use Rattle.rx_input.specs.Cursors.{IsLawful, IsNext, piece_of}
 use Rattle.regex_cursor.specs.Showing.{all_chunks, behind_next, behind_shown, showing, HaveCharacters, IsBeforeLast, IsShowing, IsSomeAhead, MayShowNext, EndsFirst, StandsBy}
 

@@ -3,11 +3,10 @@ use Rattle.std.specs.Prelude.{◌≡◌, ℕ, ◌+◌, ◌^◌, ◌<◌, Bool, t
 use Rattle.std.specs.Str.{chars, IsUtf8}
 -- the words on slices of ropes, for crates that stand on this one
 pub use Rattle.str_indices.specs.Text.{byte_len}
-pub use Rattle.ropey_walk.specs.Chunks.{text_of}
-pub use Rattle.ropey_walk.specs.Comparing.{slice_bytes}
-pub use Rattle.ropey_walk.specs.Slices.{slice_text}
-use Rattle.ropey_walk.specs.Chunks.{lone_piece}
-use Rattle.ropey_walk.specs.TwoWay.{TwoWay}
+pub use Rattle.ropey.specs.Chunks.{text_of}
+pub use Rattle.ropey.specs.Slices.{slice_bytes, slice_text}
+use Rattle.ropey.specs.Chunks.{lone_piece}
+use Rattle.ropey.specs.Iter.{TwoWay}
 use Rattle.rx_input.specs.Cursors.{CursorState}
 
 -- all chunks, those behind a place and those ahead of it

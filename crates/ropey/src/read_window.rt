@@ -9,6 +9,7 @@ ghost use Rattle.ropey.specs.Reading.{BeginsText, IsCutAt, MeetsFault, GivesToEn
 use crate::read_fault::ReadFault;
 use crate::rope_builder::RopeBuilder;
 use ropey_tree::error::Error;
+use simdutf8::compat::from_utf8;
 use std::io::Read;
 use std::marker::Model;
 
@@ -104,7 +105,7 @@ fn longest_text(bytes: &[u8]) -> Result<&str, ReadFault>
     ensures refused { IfErr result (λ fault. fault ≡ ReadFault.Utf8) }
     ensures none { OnErr result (BeginsText bytes.now → ⊥) }
 {
-    match str::from_utf8(bytes) {
+    match from_utf8(bytes) {
         Ok(text) => Ok(text),
         Err(error) => {
             if error.error_len().is_some() {

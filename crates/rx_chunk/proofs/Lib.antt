@@ -9,3 +9,4 @@ pub mod WholeLaws
 pub mod OwnLaws
 pub mod OtherLaws
 pub mod OrderLaws
+pub mod GroupSlotLaws

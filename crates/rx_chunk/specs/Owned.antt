@@ -1,9 +1,14 @@
--- Which slots are those of a pattern's groups, and what stands in those of the others.
-use Rattle.std.specs.Prelude.{◌≡◌, ◌⊎◌, ℕ, ◌+◌, List, Option, Some, None}
+-- Which slots are those of a pattern's groups, by which notes they are filled, and what stands in
+-- those of the others.
+use Rattle.std.specs.Prelude.{◌≡◌, ◌⊎◌, ℕ, ◌+◌, ◌<◌, List, [], ◌∷◌, ◌++◌, length, Option, Some, None, slice_get}
+use Rattle.rx_grammar.specs.Trees.{Tree, Name, group}
+use Rattle.rx_grammar.specs.Weights.{size_of}
 use Rattle.rx_util.specs.Captured.{place_in}
-use Rattle.rx_util.specs.Groups.{GroupNames, first_slot}
+use Rattle.rx_util.specs.Groups.{GroupNames, first_slot, group_len, slot_place}
 use Rattle.rx_walks.specs.Finds.{Search}
-use Rattle.rx_chunk.specs.Engines.{Engine, EngineFinds, IsAnswer, IsEngine}
+use Rattle.rx_walks.specs.Programs.{note, match}
+use Rattle.rx_program.specs.Code.{Code, code_of, pattern_code, program_of}
+use Rattle.rx_chunk.specs.Engines.{AreGroupNamesOf, Engine, EngineFinds, IsAnswer, IsEngine}
 
 -- it is one of the two slots of some group of the pattern
 pub record IsSlotOf (groups : GroupNames) (pattern slot : ℕ) : Type 0 where
@@ -17,3 +22,36 @@ abbrev pub OthersHoldNone : Type 0
 OthersHoldNone = (e : Engine) (s : Search) (found : ℕ) (slots : List (Option ℕ)) → IsEngine e
     → IsAnswer (EngineFinds e) s (Some found) slots → (pattern slot : ℕ) → (pattern ≡ found → ⊥)
     → IsSlotOf e.groups pattern slot → place_in slots slot ≡ None
+
+-- code stands among nodes from this one on
+abbrev pub StandsAmong : Code → ℕ → Code → Type 0
+StandsAmong nodes at code = (c : ℕ) → c < length code
+    → slice_get nodes (at + c) ≡ slice_get code c
+
+-- the code of a pattern, which stands from its start node on, notes its groups in the slots that
+-- are told of them
+pub record NotesItsGroups (nodes : Code) (groups : GroupNames) (pattern start : ℕ) (tree : Tree)
+    : Type 0 where
+  -- the slots of its groups are counted from here
+  pub slots : ℕ
+  pub stands : StandsAmong nodes start (pattern_code slots pattern tree start)
+  -- the code of the whole pattern begins and ends with the notes of group 0
+  pub whole : pattern_code slots pattern tree start
+      ≡ note (slot_place groups pattern 0) (start + 1)
+      ∷ (code_of slots tree (start + 1) (start + 1 + size_of tree)
+      ++ note (slot_place groups pattern 0 + 1) (start + 2 + size_of tree) ∷ match pattern ∷ [])
+  -- and that of a further group inside with those of this group
+  pub further : (number : ℕ) (name : Option Name) (inner : Tree) (at next : ℕ) → 0 < number
+      → number < group_len groups pattern
+      → code_of slots (group number name inner) at next
+      ≡ note (slot_place groups pattern number) (at + 1)
+      ∷ (code_of slots inner (at + 1) (at + 1 + size_of inner)
+      ++ note (slot_place groups pattern number + 1) next ∷ [])
+
+-- so does the program of patterns, where these are the names of their groups
+abbrev pub GroupsHaveTheirSlots : Type 0
+GroupsHaveTheirSlots = (trees : List Tree) (groups : GroupNames) (terminator : ℕ)
+    → AreGroupNamesOf trees groups → (pattern start : ℕ) (tree : Tree)
+    → slice_get trees pattern ≡ Some tree
+    → slice_get (program_of trees terminator).patterns pattern ≡ Some start
+    → NotesItsGroups (program_of trees terminator).nodes groups pattern start tree

@@ -5,13 +5,20 @@ ghost use Rattle.rx_walks.specs.Programs.{Notes};
 ghost use Rattle.rx_chunk.specs.Engines.{Engine};
 ghost use Rattle.rx_chunk.specs.Iterating.{FewerAreLeft, GivesByAnyEngine, MatchesLeft};
 ghost use Rattle.rx_chunk.specs.Lists.{HasFinds};
-ghost use Rattle.rx_chunk.specs.Owned.{OthersHoldNone};
+ghost use Rattle.rx_chunk.specs.Owned.{GroupsHaveTheirSlots, OthersHoldNone};
 
 use rx_util::MatchError;
 
 /// Where a search finds a match of one pattern, no slot of a group of another one holds a place.
 pub fn slots_of_other_patterns_hold_none()
     ensures { OthersHoldNone }
+{}
+
+/// The slots that are told of a pattern's groups, as by `get_group`, are those in which the pattern's
+/// part of the program notes them: the whole match in those of group 0, each further group in its
+/// own two.
+pub fn groups_have_their_slots()
+    ensures { GroupsHaveTheirSlots }
 {}
 
 /// In each search an engine, whichever match it finds, has exactly one find, a match or none, and

@@ -81,7 +81,7 @@ impl Builder {
     /// Errors: `TooLong` for a pattern of more than 65,536 bytes, `Nesting` for one that would be a
     /// pattern at a greater nest limit, `Outside` for one outside the grammar, and `Size` for one
     /// that is too large for the limit that is set, or, where none is, weighs more than
-    /// 2,147,483,646. `Memory` may come in place of the result and of each error but the first.
+    /// 2,147,483,646. `Memory` may come in place of any answer.
     pub fn build(&self, alloc: Global, pattern: &str) -> Result<Compiled, BuildError>
         ensures built { IfOk result (λ compiled. IsBuiltOf pattern.now self.now compiled) }
         ensures refused { IfErr result (λ error. IsRefused pattern.now self.now error) }

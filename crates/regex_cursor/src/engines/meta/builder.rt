@@ -61,7 +61,7 @@ impl Builder {
     /// Errors: `TooLong` for a pattern of more than 65,536 bytes, `Nesting` for one that would be a
     /// pattern at a greater nest limit, `Outside` for one outside the grammar, and `Size` for one
     /// that is too large for the limit that is set, or, where none is, weighs more than 262,144.
-    /// `Memory` may come in place of the regex and of each error but the first.
+    /// `Memory` may come in place of any answer.
     pub fn build(&self, alloc: Global, pattern: &str) -> Result<Regex, BuildError>
         ensures built { IfOk result (λ re. IsRegexUnder pattern.now self.now re) }
         ensures refused { IfErr result (λ error. IsRefusedUnder pattern.now self.now error) }

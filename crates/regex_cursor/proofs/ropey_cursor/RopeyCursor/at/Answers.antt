@@ -1,6 +1,6 @@
 use Rattle.std.proofs.Common.{◌∙◌, ap, arith}
 use Rattle.std.specs.Prelude.{encode_utf8_all}
-use Rattle.ropey_walk.specs.Chunks.{text_of}
+use Rattle.ropey.specs.Chunks.{text_of}
 use Rattle.regex_cursor.proofs.PlaceLaws.{all_are, holds, may_show}
 use Rattle.regex_cursor.proofs.ropey_cursor.RopeyCursor.at.Goals as goal
 

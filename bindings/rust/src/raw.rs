@@ -1,0 +1,351 @@
+//! The calls of `include/rope_search.h`, and a handle that keeps what the header asks of a caller. This is
+//! the only module with `unsafe` code.
+//!
+//! A [`Handle`] is zeroed before it is opened, is never copied, is closed once, and stays on its thread. The
+//! calls that read take `&self`: the library changes the handle while a call runs, so it is in a cell. No
+//! call calls back.
+#![allow(unsafe_code)]
+
+use crate::error::{Error, Result};
+use crate::types::{Counts, Match, Position, Span, Stretch};
+use std::cell::UnsafeCell;
+use std::ffi::c_void;
+use std::ptr;
+
+#[repr(C)]
+struct RawSession {
+    at: *mut c_void,
+    is_open: bool,
+}
+
+#[repr(C)]
+#[derive(Clone, Copy)]
+struct Ticks {
+    rows: u64,
+    wholes: u64,
+    looked: u64,
+}
+
+#[repr(C)]
+#[derive(Clone, Copy)]
+struct RawMatch {
+    found: bool,
+    start: Position,
+    stop: Position,
+}
+
+#[repr(C)]
+#[derive(Clone, Copy)]
+struct RawGroup {
+    found: bool,
+    line: usize,
+    start: usize,
+    stop: usize,
+}
+
+#[repr(C)]
+#[derive(Clone, Copy)]
+struct RawReason {
+    reason: u32,
+    place: usize,
+}
+
+/// An edit of several, whose texts follow one another: `len` is the number of bytes of its own.
+#[repr(C)]
+#[derive(Clone, Copy, Debug)]
+pub(crate) struct RawEdit {
+    pub from: Position,
+    pub to: Position,
+    pub len: usize,
+}
+
+extern "C" {
+    fn rope_search_open(limit: usize, ticks: Ticks, session: *mut RawSession) -> u32;
+    fn rope_search_close(session: *mut RawSession);
+    fn rope_search_set_text(session: *mut RawSession, text: *const u8, len: usize) -> u32;
+    fn rope_search_edit(
+        session: *mut RawSession,
+        from: Position,
+        to: Position,
+        text: *const u8,
+        len: usize,
+    ) -> u32;
+    fn rope_search_edit_all(
+        session: *mut RawSession,
+        edits: *const RawEdit,
+        count: usize,
+        text: *const u8,
+        len: usize,
+    ) -> u32;
+    fn rope_search_undo(session: *mut RawSession) -> u32;
+    fn rope_search_redo(session: *mut RawSession) -> u32;
+    fn rope_search_set_pattern(session: *mut RawSession, pattern: *const u8, len: usize) -> u32;
+    fn rope_search_pattern_error(pattern: *const u8, len: usize, error: *mut RawReason) -> u32;
+    fn rope_search_off(session: *mut RawSession) -> u32;
+    fn rope_search_next(session: *mut RawSession, from: Position, found: *mut RawMatch) -> u32;
+    fn rope_search_replace(
+        session: *mut RawSession,
+        by: *const u8,
+        len: usize,
+        count: *mut usize,
+    ) -> u32;
+    fn rope_search_fork(session: *mut RawSession, number: *mut usize) -> u32;
+    fn rope_search_choose(session: *mut RawSession, number: u64) -> u32;
+    fn rope_search_forget(session: *mut RawSession) -> u32;
+    fn rope_search_buffers(session: *mut RawSession) -> usize;
+    fn rope_search_chosen(session: *mut RawSession) -> usize;
+    fn rope_search_can_undo(session: *mut RawSession) -> bool;
+    fn rope_search_can_redo(session: *mut RawSession) -> bool;
+    fn rope_search_text_len(session: *mut RawSession) -> usize;
+    fn rope_search_text_lines(session: *mut RawSession) -> usize;
+    fn rope_search_copy_text(
+        session: *mut RawSession,
+        from: usize,
+        to: usize,
+        out: *mut u8,
+        out_len: usize,
+    ) -> bool;
+    fn rope_search_byte_of(session: *mut RawSession, position: Position, byte: *mut usize) -> u32;
+    fn rope_search_position_of(
+        session: *mut RawSession,
+        byte: usize,
+        position: *mut Position,
+    ) -> u32;
+    fn rope_search_column_in(
+        session: *mut RawSession,
+        bits: u32,
+        position: Position,
+        column: *mut usize,
+    ) -> u32;
+    fn rope_search_position_in(
+        session: *mut RawSession,
+        bits: u32,
+        line: usize,
+        column: usize,
+        position: *mut Position,
+    ) -> u32;
+    fn rope_search_rows(session: *mut RawSession) -> usize;
+    fn rope_search_count_matches(session: *mut RawSession, from: usize, to: usize) -> usize;
+    fn rope_search_copy_matches(
+        session: *mut RawSession,
+        from: usize,
+        to: usize,
+        out: *mut Span,
+        out_len: usize,
+    ) -> usize;
+    fn rope_search_groups_at(
+        session: *mut RawSession,
+        line: usize,
+        number: usize,
+        out: *mut RawGroup,
+        out_len: usize,
+    ) -> u32;
+    fn rope_search_changed(session: *mut RawSession) -> Stretch;
+    fn rope_search_counted(session: *mut RawSession) -> Counts;
+}
+
+/// What a call returned that may be refused.
+fn check(status: u32) -> Result<()> {
+    Error::of(status).map_or(Ok(()), Err)
+}
+
+/// Why bytes are no pattern: the number of the reason, 0 if there is none, and the byte.
+pub(crate) fn pattern_error(pattern: &[u8]) -> Result<(u32, usize)> {
+    let mut error = RawReason {
+        reason: 0,
+        place: 0,
+    };
+    // SAFETY: the pointers are those of a slice, with its length, and of a local variable.
+    check(unsafe { rope_search_pattern_error(pattern.as_ptr(), pattern.len(), &mut error) })?;
+    Ok((error.reason, error.place))
+}
+
+/// An open session, which is closed when this is dropped.
+///
+/// It is neither `Send` nor `Sync`, since it has a raw pointer.
+pub(crate) struct Handle(UnsafeCell<RawSession>);
+
+// SAFETY, of each call below: the session is open, is the only copy, and is used by one thread, since a
+// `Handle` is not `Send` and not `Sync`; no two calls run at a time, since none calls back. The other
+// pointers are those of slices, with their lengths, which are never null, or of local variables.
+impl Handle {
+    pub fn open(limit: usize) -> Result<Handle> {
+        let mut session = RawSession {
+            at: ptr::null_mut(),
+            is_open: false,
+        };
+        let ticks = Ticks {
+            rows: 0,
+            wholes: 0,
+            looked: 0,
+        };
+        check(unsafe { rope_search_open(limit, ticks, &mut session) })?;
+        Ok(Handle(UnsafeCell::new(session)))
+    }
+
+    fn ptr(&self) -> *mut RawSession {
+        self.0.get()
+    }
+
+    pub fn set_text(&mut self, text: &[u8]) -> Result<()> {
+        check(unsafe { rope_search_set_text(self.ptr(), text.as_ptr(), text.len()) })
+    }
+
+    pub fn edit(&mut self, from: Position, to: Position, text: &[u8]) -> Result<()> {
+        check(unsafe { rope_search_edit(self.ptr(), from, to, text.as_ptr(), text.len()) })
+    }
+
+    pub fn edit_all(&mut self, edits: &[RawEdit], text: &[u8]) -> Result<()> {
+        let (edits, count) = (edits.as_ptr(), edits.len());
+        check(unsafe { rope_search_edit_all(self.ptr(), edits, count, text.as_ptr(), text.len()) })
+    }
+
+    pub fn undo(&mut self) -> Result<()> {
+        check(unsafe { rope_search_undo(self.ptr()) })
+    }
+
+    pub fn redo(&mut self) -> Result<()> {
+        check(unsafe { rope_search_redo(self.ptr()) })
+    }
+
+    pub fn set_pattern(&mut self, pattern: &[u8]) -> Result<()> {
+        check(unsafe { rope_search_set_pattern(self.ptr(), pattern.as_ptr(), pattern.len()) })
+    }
+
+    pub fn off(&mut self) -> Result<()> {
+        check(unsafe { rope_search_off(self.ptr()) })
+    }
+
+    pub fn next(&self, from: Position) -> Result<Option<Match>> {
+        let nowhere = Position { line: 0, column: 0 };
+        let mut told = RawMatch {
+            found: false,
+            start: nowhere,
+            stop: nowhere,
+        };
+        check(unsafe { rope_search_next(self.ptr(), from, &mut told) })?;
+        Ok(told.found.then_some(Match {
+            start: told.start,
+            stop: told.stop,
+        }))
+    }
+
+    pub fn replace(&mut self, template: &[u8]) -> Result<usize> {
+        let (by, len, mut count) = (template.as_ptr(), template.len(), 0);
+        check(unsafe { rope_search_replace(self.ptr(), by, len, &mut count) })?;
+        Ok(count)
+    }
+
+    pub fn fork(&mut self) -> Result<usize> {
+        let mut number = 0;
+        check(unsafe { rope_search_fork(self.ptr(), &mut number) })?;
+        Ok(number)
+    }
+
+    pub fn choose(&mut self, number: u64) -> Result<()> {
+        check(unsafe { rope_search_choose(self.ptr(), number) })
+    }
+
+    pub fn forget(&mut self) -> Result<()> {
+        check(unsafe { rope_search_forget(self.ptr()) })
+    }
+
+    pub fn buffers(&self) -> usize {
+        unsafe { rope_search_buffers(self.ptr()) }
+    }
+
+    pub fn chosen(&self) -> usize {
+        unsafe { rope_search_chosen(self.ptr()) }
+    }
+
+    pub fn can_undo(&self) -> bool {
+        unsafe { rope_search_can_undo(self.ptr()) }
+    }
+
+    pub fn can_redo(&self) -> bool {
+        unsafe { rope_search_can_redo(self.ptr()) }
+    }
+
+    pub fn text_len(&self) -> usize {
+        unsafe { rope_search_text_len(self.ptr()) }
+    }
+
+    pub fn text_lines(&self) -> usize {
+        unsafe { rope_search_text_lines(self.ptr()) }
+    }
+
+    pub fn copy_text(&self, from: usize, to: usize, out: &mut [u8]) -> bool {
+        unsafe { rope_search_copy_text(self.ptr(), from, to, out.as_mut_ptr(), out.len()) }
+    }
+
+    pub fn byte_of(&self, position: Position) -> Result<usize> {
+        let mut byte = 0;
+        check(unsafe { rope_search_byte_of(self.ptr(), position, &mut byte) })?;
+        Ok(byte)
+    }
+
+    pub fn position_of(&self, byte: usize) -> Result<Position> {
+        let mut position = Position { line: 0, column: 0 };
+        check(unsafe { rope_search_position_of(self.ptr(), byte, &mut position) })?;
+        Ok(position)
+    }
+
+    pub fn column_in(&self, bits: u32, position: Position) -> Result<usize> {
+        let mut column = 0;
+        check(unsafe { rope_search_column_in(self.ptr(), bits, position, &mut column) })?;
+        Ok(column)
+    }
+
+    pub fn position_in(&self, bits: u32, line: usize, column: usize) -> Result<Position> {
+        let mut position = Position { line: 0, column: 0 };
+        check(unsafe { rope_search_position_in(self.ptr(), bits, line, column, &mut position) })?;
+        Ok(position)
+    }
+
+    pub fn rows(&self) -> usize {
+        unsafe { rope_search_rows(self.ptr()) }
+    }
+
+    pub fn count_matches(&self, from: usize, to: usize) -> usize {
+        unsafe { rope_search_count_matches(self.ptr(), from, to) }
+    }
+
+    pub fn copy_matches(&self, from: usize, to: usize, out: &mut [Span]) -> usize {
+        unsafe { rope_search_copy_matches(self.ptr(), from, to, out.as_mut_ptr(), out.len()) }
+    }
+
+    pub fn groups_at(&self, line: usize, number: usize) -> Result<[Option<Span>; 10]> {
+        let mut out = [RawGroup {
+            found: false,
+            line: 0,
+            start: 0,
+            stop: 0,
+        }; 10];
+        check(unsafe {
+            rope_search_groups_at(self.ptr(), line, number, out.as_mut_ptr(), out.len())
+        })?;
+        Ok(out.map(|group| {
+            let RawGroup {
+                found,
+                line,
+                start,
+                stop,
+            } = group;
+            found.then_some(Span { line, start, stop })
+        }))
+    }
+
+    pub fn changed(&self) -> Stretch {
+        unsafe { rope_search_changed(self.ptr()) }
+    }
+
+    pub fn counted(&self) -> Counts {
+        unsafe { rope_search_counted(self.ptr()) }
+    }
+}
+
+impl Drop for Handle {
+    fn drop(&mut self) {
+        unsafe { rope_search_close(self.ptr()) }
+    }
+}

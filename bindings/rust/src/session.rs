@@ -1,0 +1,518 @@
+//! Sessions.
+use crate::error::{Error, PatternError, Reason, Result};
+use crate::matches::Matches;
+use crate::raw::{self, Handle, RawEdit};
+use crate::types::{Counts, Encoding, Groups, Match, Position, Span, Stretch, TextEdit};
+use std::fmt;
+use std::ops::{Bound, Range, RangeBounds};
+
+/// The number of bytes that a text of a session may have if nothing else is asked for: 1 GiB.
+pub const DEFAULT_LIMIT: usize = 1 << 30;
+
+/// Buffers, of which one is chosen: all calls are about that one. It is closed when it is dropped.
+///
+/// A text is anything that gives bytes: a `str`, a `String`, or bytes that are UTF-8. A position is a
+/// [`Position`] or a pair `(line, column)`.
+///
+/// ```
+/// use rope_search::Session;
+///
+/// let mut session = Session::new()?;
+/// session.set_text("A frog 🐸 and a toad.\nNo toad here is green.")?;
+/// session.set_pattern(r"t\w+d")?;
+/// for span in session.matches(..) {
+///     println!("line {}: columns {:?}", span.line, span.columns());
+/// }
+/// assert_eq!(session.replace("big $0")?, 2);
+/// assert_eq!(session.text(..)?, "A frog 🐸 and a big toad.\nNo big toad here is green.");
+/// session.undo()?;
+/// assert_eq!(session.count_matches(..), 2);
+/// # Ok::<(), rope_search::Error>(())
+/// ```
+pub struct Session {
+    handle: Handle,
+}
+
+impl Session {
+    /// Opens a session of one buffer, with an empty text and no pattern, whose texts have at most
+    /// [`DEFAULT_LIMIT`] bytes.
+    ///
+    /// # Errors
+    ///
+    /// [`Error::Memory`].
+    pub fn new() -> Result<Session> {
+        Session::with_limit(DEFAULT_LIMIT)
+    }
+
+    /// Opens a session whose texts have at most `limit` bytes.
+    ///
+    /// # Errors
+    ///
+    /// [`Error::Size`] for a limit above `isize::MAX`, and [`Error::Memory`].
+    ///
+    /// ```
+    /// use rope_search::{Error, Session};
+    ///
+    /// let mut session = Session::with_limit(3)?;
+    /// session.set_text("one")?;
+    /// assert_eq!(session.set_text("four"), Err(Error::Size));
+    /// # Ok::<(), Error>(())
+    /// ```
+    pub fn with_limit(limit: usize) -> Result<Session> {
+        Handle::open(limit).map(|handle| Session { handle })
+    }
+
+    // ---- commands, on the chosen buffer
+
+    /// Sets the text. Its history begins anew; the pattern stays.
+    ///
+    /// # Errors
+    ///
+    /// [`Error::Utf8`], [`Error::Size`], [`Error::Memory`].
+    pub fn set_text(&mut self, text: impl AsRef<[u8]>) -> Result<()> {
+        self.handle.set_text(text.as_ref())
+    }
+
+    /// Replaces the text from one position to another, as one step of the history. What could be redone is
+    /// dropped.
+    ///
+    /// # Errors
+    ///
+    /// [`Error::Range`] if a position is nowhere in the text, or the end lies before the start;
+    /// [`Error::Utf8`], [`Error::Size`], [`Error::Memory`].
+    ///
+    /// ```
+    /// use rope_search::Session;
+    ///
+    /// let mut session = Session::new()?;
+    /// session.set_text("one two")?;
+    /// session.edit((0, 4)..(0, 7), "three")?;
+    /// session.set_pattern("one")?;
+    /// let first = session.matches(..).next().unwrap();
+    /// session.edit(first.range(), "two")?;
+    /// assert_eq!(session.text(..)?, "two three");
+    /// # Ok::<(), rope_search::Error>(())
+    /// ```
+    pub fn edit<P>(&mut self, range: Range<P>, text: impl AsRef<[u8]>) -> Result<()>
+    where
+        P: Into<Position>,
+    {
+        self.handle
+            .edit(range.start.into(), range.end.into(), text.as_ref())
+    }
+
+    /// Makes several edits as one, all or none, and as one step of the history.
+    ///
+    /// All positions are those of the text before any of the edits. The edits come in the order of their
+    /// positions; two may touch, and texts inserted at one position keep their order. What could be redone is
+    /// dropped, even if there is no edit.
+    ///
+    /// # Errors
+    ///
+    /// [`Error::Range`], also if an edit starts before the end of the one before it; [`Error::Utf8`],
+    /// [`Error::Size`], [`Error::Memory`].
+    ///
+    /// ```
+    /// use rope_search::{Session, TextEdit};
+    ///
+    /// let mut session = Session::new()?;
+    /// session.set_text("one two")?;
+    /// session.edit_all([
+    ///     TextEdit::new((0, 0)..(0, 3), "1"),
+    ///     TextEdit::new((0, 4)..(0, 7), "2"),
+    /// ])?;
+    /// assert_eq!(session.text(..)?, "1 2");
+    /// # Ok::<(), rope_search::Error>(())
+    /// ```
+    pub fn edit_all<T>(&mut self, edits: impl IntoIterator<Item = TextEdit<T>>) -> Result<()>
+    where
+        T: AsRef<[u8]>,
+    {
+        let (mut places, mut text) = (Vec::new(), Vec::new());
+        for edit in edits {
+            let own = edit.text.as_ref();
+            places.push(RawEdit {
+                from: edit.start,
+                to: edit.stop,
+                len: own.len(),
+            });
+            text.extend_from_slice(own);
+        }
+        self.handle.edit_all(&places, &text)
+    }
+
+    /// Goes one text back.
+    ///
+    /// # Errors
+    ///
+    /// [`Error::Nothing`] if there is no text to go back to; with a pattern, [`Error::Memory`].
+    pub fn undo(&mut self) -> Result<()> {
+        self.handle.undo()
+    }
+
+    /// Goes one text forward.
+    ///
+    /// # Errors
+    ///
+    /// [`Error::Nothing`] if there is no text to go forward to; with a pattern, [`Error::Memory`].
+    pub fn redo(&mut self) -> Result<()> {
+        self.handle.redo()
+    }
+
+    /// Sets the pattern, in place of any other.
+    ///
+    /// # Errors
+    ///
+    /// [`Error::Utf8`]; [`Error::Pattern`] with the place and the reason; [`Error::Limit`] if it is too long
+    /// or too heavy; [`Error::Memory`].
+    pub fn set_pattern(&mut self, pattern: impl AsRef<[u8]>) -> Result<()> {
+        let pattern = pattern.as_ref();
+        match self.handle.set_pattern(pattern) {
+            Err(Error::Pattern(unplaced)) => {
+                Err(Error::Pattern(pattern_error(pattern)?.unwrap_or(unplaced)))
+            }
+            done => done,
+        }
+    }
+
+    /// Drops the pattern, if there is one.
+    pub fn off(&mut self) {
+        let done = self.handle.off();
+        debug_assert_eq!(done, Ok(()));
+    }
+
+    /// Replaces all matches in the whole text, as one step of the history, and returns their number.
+    ///
+    /// In the template, `$` and a digit are that group's text, `$$` is a dollar.
+    ///
+    /// # Errors
+    ///
+    /// [`Error::Nothing`] without a pattern; [`Error::Utf8`], [`Error::Size`], [`Error::Memory`].
+    pub fn replace(&mut self, template: impl AsRef<[u8]>) -> Result<usize> {
+        self.handle.replace(template.as_ref())
+    }
+
+    /// Adds a buffer with the chosen buffer's text, and neither its history nor its pattern, and returns its
+    /// number. The chosen buffer stays chosen.
+    ///
+    /// # Errors
+    ///
+    /// [`Error::Memory`].
+    ///
+    /// ```
+    /// use rope_search::Session;
+    ///
+    /// let mut session = Session::new()?;
+    /// session.set_text("one")?;
+    /// let number = session.fork()?;
+    /// session.set_text("two")?;
+    /// session.choose(number)?;
+    /// assert_eq!(session.text(..)?, "one");
+    /// # Ok::<(), rope_search::Error>(())
+    /// ```
+    pub fn fork(&mut self) -> Result<usize> {
+        self.handle.fork()
+    }
+
+    /// Chooses a buffer by its number, from 0.
+    ///
+    /// # Errors
+    ///
+    /// [`Error::Nothing`] if there is no such buffer.
+    pub fn choose(&mut self, number: usize) -> Result<()> {
+        self.handle.choose(number as u64)
+    }
+
+    /// Drops the history: the current text alone is left. The pattern and the report stay.
+    pub fn forget(&mut self) {
+        let done = self.handle.forget();
+        debug_assert_eq!(done, Ok(()));
+    }
+
+    // ---- buffers, and the chosen one's history
+
+    /// Returns the number of buffers.
+    pub fn buffers(&self) -> usize {
+        self.handle.buffers()
+    }
+
+    /// Returns the number of the chosen buffer, from 0.
+    pub fn chosen(&self) -> usize {
+        self.handle.chosen()
+    }
+
+    /// Returns whether there is a text to go back to.
+    pub fn can_undo(&self) -> bool {
+        self.handle.can_undo()
+    }
+
+    /// Returns whether there is a text to go forward to.
+    pub fn can_redo(&self) -> bool {
+        self.handle.can_redo()
+    }
+
+    // ---- reading the chosen buffer
+
+    /// Returns the number of bytes of the text.
+    pub fn text_len(&self) -> usize {
+        self.handle.text_len()
+    }
+
+    /// Returns the number of lines of the text, which is at least 1.
+    pub fn text_lines(&self) -> usize {
+        self.handle.text_lines()
+    }
+
+    /// Returns the text of a range of bytes.
+    ///
+    /// # Errors
+    ///
+    /// [`Error::Range`] if the range is not in the text, runs backward, or cuts a character.
+    ///
+    /// ```
+    /// use rope_search::{Error, Session};
+    ///
+    /// let mut session = Session::new()?;
+    /// session.set_text("a 🐸")?;
+    /// assert_eq!(session.text(..)?, "a 🐸");
+    /// assert_eq!(session.text(2..)?, "🐸");
+    /// assert_eq!(session.text(..3), Err(Error::Range));
+    /// # Ok::<(), Error>(())
+    /// ```
+    pub fn text(&self, range: impl RangeBounds<usize>) -> Result<String> {
+        let (from, to) = ends_of(&range, self.text_len()).ok_or(Error::Range)?;
+        if from > to || to > self.text_len() {
+            return Err(Error::Range);
+        }
+        let mut bytes = vec![0; to - from];
+        if !self.handle.copy_text(from, to, &mut bytes) {
+            return Err(Error::Range);
+        }
+        String::from_utf8(bytes).map_err(|_| Error::Utf8)
+    }
+
+    /// Copies a range of bytes of the text to the front of `out`, and returns their number. The rest of `out`
+    /// is not changed.
+    ///
+    /// # Errors
+    ///
+    /// [`Error::Range`] if the range is not in the text, runs backward, cuts a character, or does not fit;
+    /// `out` is not changed then.
+    pub fn copy_text(&self, range: impl RangeBounds<usize>, out: &mut [u8]) -> Result<usize> {
+        let (from, to) = ends_of(&range, self.text_len()).ok_or(Error::Range)?;
+        if self.handle.copy_text(from, to, out) {
+            Ok(to - from)
+        } else {
+            Err(Error::Range)
+        }
+    }
+
+    /// Returns the offset in bytes of a position.
+    ///
+    /// # Errors
+    ///
+    /// [`Error::Range`] if the position is nowhere: after its line's text, inside a surrogate pair, or after
+    /// the last line.
+    pub fn byte_of(&self, position: impl Into<Position>) -> Result<usize> {
+        self.handle.byte_of(position.into())
+    }
+
+    /// Returns the position of an offset in bytes. Between the CR and the LF of a break it is one past the
+    /// line's text.
+    ///
+    /// # Errors
+    ///
+    /// [`Error::Range`] if no character begins there and the text does not end there.
+    pub fn position_of(&self, byte: usize) -> Result<Position> {
+        self.handle.position_of(byte)
+    }
+
+    /// Returns the column of a position in bytes or in characters.
+    ///
+    /// # Errors
+    ///
+    /// [`Error::Range`] if the position is nowhere.
+    ///
+    /// ```
+    /// use rope_search::{Encoding, Position, Session};
+    ///
+    /// let mut session = Session::new()?;
+    /// session.set_text("🐸 frog")?;
+    /// assert_eq!(session.column_in(Encoding::Utf8, (0, 2))?, 4);
+    /// assert_eq!(session.column_in(Encoding::Utf32, (0, 2))?, 1);
+    /// assert_eq!(session.position_in(Encoding::Utf32, 0, 1)?, Position::new(0, 2));
+    /// # Ok::<(), rope_search::Error>(())
+    /// ```
+    pub fn column_in(&self, encoding: Encoding, position: impl Into<Position>) -> Result<usize> {
+        self.handle.column_in(encoding.bits(), position.into())
+    }
+
+    /// Returns the position of a line and a column in bytes or in characters.
+    ///
+    /// # Errors
+    ///
+    /// [`Error::Range`] if they are nowhere.
+    pub fn position_in(&self, encoding: Encoding, line: usize, column: usize) -> Result<Position> {
+        self.handle.position_in(encoding.bits(), line, column)
+    }
+
+    /// Returns the number of rows of the report: one for each line of the text, or 0 without a pattern.
+    pub fn rows(&self) -> usize {
+        self.handle.rows()
+    }
+
+    /// Returns the number of matches in a range of rows, as far as there are such rows.
+    pub fn count_matches(&self, rows: impl RangeBounds<usize>) -> usize {
+        let (from, to) = rows_of(&rows);
+        self.handle.count_matches(from, to)
+    }
+
+    /// Iterates over the matches in a range of rows, as far as there are such rows, in the order of the text.
+    ///
+    /// ```
+    /// use rope_search::Session;
+    ///
+    /// let mut session = Session::new()?;
+    /// session.set_text("one\ntwo\none one")?;
+    /// session.set_pattern("one")?;
+    /// let columns = |rows| session.matches(rows).map(|span| span.columns()).collect::<Vec<_>>();
+    /// assert_eq!(columns(1..3), [0..3, 4..7]);
+    /// # Ok::<(), rope_search::Error>(())
+    /// ```
+    pub fn matches(&self, rows: impl RangeBounds<usize>) -> Matches<'_> {
+        let (from, to) = rows_of(&rows);
+        Matches::new(self, from, to)
+    }
+
+    /// Puts the matches of rows `from` up to `to` into a vector, in place of what it has.
+    pub(crate) fn copy_matches(&self, from: usize, to: usize, out: &mut Vec<Span>) {
+        let count = self.handle.count_matches(from, to);
+        out.clear();
+        out.resize(count, Span::default());
+        let copied = self.handle.copy_matches(from, to, out);
+        debug_assert_eq!(copied, count);
+    }
+
+    /// Returns the first match in the whole text that starts at a position or after it.
+    ///
+    /// # Errors
+    ///
+    /// [`Error::Nothing`] without a pattern; [`Error::Range`] if the position is nowhere; [`Error::Memory`].
+    ///
+    /// ```
+    /// use rope_search::{Position, Session};
+    ///
+    /// let mut session = Session::new()?;
+    /// session.set_text("one\ntwo")?;
+    /// session.set_pattern(r"e\nt")?;
+    /// let found = session.next((0, 1))?.unwrap();
+    /// assert_eq!(found.range(), Position::new(0, 2)..Position::new(1, 1));
+    /// assert_eq!(session.next((1, 0))?, None);
+    /// # Ok::<(), rope_search::Error>(())
+    /// ```
+    pub fn next(&self, from: impl Into<Position>) -> Result<Option<Match>> {
+        self.handle.next(from.into())
+    }
+
+    /// Returns the groups 0 to 9 of a match: of match `number`, from 0, of those in row `line`.
+    ///
+    /// A report has no groups: the line is searched for them once more, which is counted.
+    ///
+    /// # Errors
+    ///
+    /// [`Error::Nothing`] without a pattern; [`Error::Range`] if there is no such row, or no such match in it;
+    /// [`Error::Memory`].
+    ///
+    /// ```
+    /// use rope_search::{Session, Span};
+    ///
+    /// let mut session = Session::new()?;
+    /// session.set_text("one two")?;
+    /// session.set_pattern("(o)(n)?")?;
+    /// let groups = session.groups_at(0, 1)?;
+    /// assert_eq!(groups[1], Some(Span { line: 0, start: 6, stop: 7 }));
+    /// assert_eq!(groups[2], None);
+    /// # Ok::<(), rope_search::Error>(())
+    /// ```
+    pub fn groups_at(&self, line: usize, number: usize) -> Result<Groups> {
+        self.handle.groups_at(line, number)
+    }
+
+    /// Returns which rows of the report the last accepted command on the chosen buffer replaced, of those that
+    /// may: all but `next`, `fork`, `choose` and `forget`. What is painted is right again once these rows
+    /// are, and those after them moved.
+    pub fn changed(&self) -> Stretch {
+        self.handle.changed()
+    }
+
+    /// Returns what the session counted.
+    pub fn counted(&self) -> Counts {
+        self.handle.counted()
+    }
+}
+
+impl fmt::Debug for Session {
+    fn fmt(&self, f: &mut fmt::Formatter<'_>) -> fmt::Result {
+        f.debug_struct("Session")
+            .field("buffers", &self.buffers())
+            .field("chosen", &self.chosen())
+            .field("text_len", &self.text_len())
+            .field("text_lines", &self.text_lines())
+            .field("rows", &self.rows())
+            .finish()
+    }
+}
+
+/// Returns where and why a text is no pattern, so that [`Session::set_pattern`] refuses it with
+/// [`Error::Pattern`]; `None` if it is one, or is refused with [`Error::Limit`]. No session takes part.
+///
+/// # Errors
+///
+/// [`Error::Utf8`], [`Error::Memory`].
+///
+/// ```
+/// use rope_search::{pattern_error, Reason};
+///
+/// let error = pattern_error("a{2,1}")?.unwrap();
+/// assert_eq!((error.place, error.reason), (5, Reason::CountOrder));
+/// assert_eq!(pattern_error("a{1,2}")?, None);
+/// # Ok::<(), rope_search::Error>(())
+/// ```
+pub fn pattern_error(pattern: impl AsRef<[u8]>) -> Result<Option<PatternError>> {
+    let (number, place) = raw::pattern_error(pattern.as_ref())?;
+    Ok((number != 0).then(|| PatternError {
+        place,
+        reason: Reason::of(number),
+    }))
+}
+
+/// The start and the end of a range in a text or a report of `len`; `None` if there is no such number.
+fn ends_of(range: &impl RangeBounds<usize>, len: usize) -> Option<(usize, usize)> {
+    let from = match range.start_bound() {
+        Bound::Included(&from) => from,
+        Bound::Excluded(&before) => before.checked_add(1)?,
+        Bound::Unbounded => 0,
+    };
+    let to = match range.end_bound() {
+        Bound::Included(&last) => last.checked_add(1)?,
+        Bound::Excluded(&to) => to,
+        Bound::Unbounded => len,
+    };
+    Some((from, to))
+}
+
+/// The rows of a range, of which there may be fewer.
+fn rows_of(rows: &impl RangeBounds<usize>) -> (usize, usize) {
+    // A number past the last one starts or ends past every row.
+    let from = match rows.start_bound() {
+        Bound::Included(&from) => from,
+        Bound::Excluded(&before) => before.saturating_add(1),
+        Bound::Unbounded => 0,
+    };
+    let to = match rows.end_bound() {
+        Bound::Included(&last) => last.saturating_add(1),
+        Bound::Excluded(&to) => to,
+        Bound::Unbounded => usize::MAX,
+    };
+    (from, to)
+}
