@@ -442,6 +442,30 @@ def wrong_long():
     client.end()
 
 
+def wrong_large():
+    """A document that grows above the limit of sessions, here of 20 bytes, is closed: it can't be followed any more."""
+    code = f"""import runpy, sys
+sys.path.insert(0, {os.path.join(TOP, "bindings", "python")!r})
+import rope_search
+rope_search.Session.__init__.__defaults__ = (20,)
+runpy.run_path({SERVER!r}, run_name="__main__")"""
+    client = Client([sys.executable, "-B", "-c", code])
+    client.begin()
+    client.open("a", "TODO")
+    client.change("a", 2, ((0, 0), (0, 0), "x" * 30))
+    methods = [told["method"] for told in client.since() if "method" in told]
+    if methods != ["textDocument/publishDiagnostics"] * 2 + ["window/logMessage"]:
+        yield f"of a text that grows too long it says {methods}"
+    client.change("a", 3, ("TODO",))
+    client.open("b", "x" * 21)
+    if [told["method"] for told in client.since() if "method" in told] != ["window/logMessage"] * 2:
+        yield "a document that was closed so, or a text that is too long, is searched"
+    client.open("a", "a TODO")
+    if client.published() != [("a", [(0, 2, 6, "TODO")])]:
+        yield "the document isn't searched once it is opened again"
+    client.end()
+
+
 # ---- wrong messages
 
 POSITION = {"line": 0, "character": 0}
@@ -744,6 +768,7 @@ def test_all():
     test("the encoding that is chosen", wrong_encodings())
     test("several documents, published where their report changes", wrong_documents())
     test("a document of many lines, and one of a long line", wrong_long())
+    test("a document that grows too long", wrong_large())
     test("what replaces all that is listed", wrong_replacements())
     test("where a replacement is offered", wrong_offers())
     test("wrong messages are answered, and the server goes on", answers_to((frame(sent), due) for sent, due in WRONG))
