@@ -10,7 +10,7 @@ from random_patterns import Maker
 from walks import spelled as spelled_tree
 
 CHARACTERS = "aab\r\r\n\n\u2028🐸éA "
-SESSIONS, SESSIONS_IN_RUN = share_of(20_000), 500
+SESSIONS, SESSIONS_IN_RUN = max(500, share_of(20_000)), 500
 # How often a session at random has each command: one of all kinds, and one that goes back and forward.
 WORDS = ("edit", "undo", "redo", "list", "print", "pattern", "text", "fork", "use", "off", "next", "replace")
 OF_ALL_KINDS = (34, 14, 5, 20, 4, 7, 2, 3, 4, 1, 8, 8)
