@@ -67,7 +67,8 @@ export function programPath() {
 
 /** The UTF-8 of a string. A lone surrogate has none: its bytes are such that the program refuses them. */
 function bytesOf(text) {
-  if (text instanceof Uint8Array) return Buffer.from(text.buffer, text.byteOffset, text.byteLength);
+  // A copy: it is perhaps written later, when the caller has changed its own.
+  if (text instanceof Uint8Array) return Buffer.from(text);
   if (typeof text !== "string") throw new TypeError("a text is a string or a Uint8Array");
   if (!LONE_SURROGATE.test(text)) return Buffer.from(text, "utf8");
   const parts = text.split(LONE_SURROGATE).map((part, index) => {
@@ -155,12 +156,15 @@ export class Session {
     if (this.#why !== null) return; // it is being killed
     try {
       for (const reply of this.#replies.read(data)) {
+        const { error } = reply;
+        if (this.#waiting.length === 0) throw new Error("the program replied to no command");
+        if (error !== undefined && !Object.hasOwn(REASONS, error)) {
+          throw new Error(`the program replied: error ${error}`);
+        }
         const command = this.#waiting.shift();
-        if (command === undefined) throw new Error("the program replied to no command");
         this.#watch();
-        if (reply.error === undefined) command.resolve(reply);
-        else if (reply.error in REASONS) command.reject(new Refused(reply.error, command.word));
-        else throw new Error(`the program replied: error ${reply.error}`);
+        if (error === undefined) command.resolve(reply);
+        else command.reject(new Refused(error, command.word));
       }
     } catch (error) {
       this.#stop(error.message);

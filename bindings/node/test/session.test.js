@@ -95,6 +95,9 @@ withSession("columns are indices of strings", async (session) => {
   const part = new Uint8Array([1, 97, 98, 1]).subarray(1, 3);
   await session.setText(part);
   assert.equal(await session.text(), "ab");
+  const commands = [session.setText("a".repeat(3_000_000)), session.setText(part), session.text()];
+  part[0] = 0xff;
+  assert.equal((await Promise.all(commands))[2], "ab");
   await session.setText("");
   assert.equal(await session.text(), "");
 });
@@ -258,6 +261,12 @@ test("programs that are none", async () => {
   await withScript("head -c 100000 /dev/zero; cat > /dev/null", async (session) => {
     await assert.rejects(session.text(), ended);
   });
+  for (const word of ["end", "command", "toString"]) {
+    await withScript(`echo error ${word}; cat > /dev/null`, async (session) => {
+      const commands = [session.text(), session.undo()];
+      for (const { reason } of await Promise.allSettled(commands)) assert.ok(ended(reason), reason);
+    });
+  }
   await withScript("exit 3", async (session) => {
     await assert.rejects(session.setText("x".repeat(1_000_000)), (error) => ended(error) && error.status === 3);
   });
