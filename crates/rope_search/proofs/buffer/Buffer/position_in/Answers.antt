@@ -1,4 +1,4 @@
-use Rattle.std.proofs.Common.{◌≡◌, ℕ, sym, ap, subst, ◌∙◌}
+use Rattle.std.proofs.Common.{◌≡◌, ℕ, Err, sym, ap, subst, ◌∙◌}
 use Rattle.std.proofs.lemmas.Result.{err_from_is_err_and}
 use Rattle.std.specs.Str.{IsCharBoundary}
 use Rattle.ropey.specs.Chunks.{text_of, is_break}
@@ -29,7 +29,8 @@ returns-in_err-position-clause-range c =
     let sum = column-sum c.char_laws.ensures (c.place_there_and_back.ensures.lines is_break) c.args.encoding text c.args.line c.args.column place there in
     let found = c.place_behind.ensures.only place there.boundary sum in
     let same : c.in-Some.place ≡ place = let is = c.in-Some.is in cc in
-    c.in_err-position.ensures.range (subst (IsCharBoundary (bytes_of (current_text c.args.self.now.state))) (sym same) at.boundary))
+    c.in_err-position.ensures.range.0 (ap Err c.in_err-position.ensures.fault)
+    (subst (IsCharBoundary (bytes_of (current_text c.args.self.now.state))) (sym same) at.boundary))
 
 pub returns-in_err-byte_of-clause-range : goal.returns-in_err-byte_of-clause-range
 returns-in_err-byte_of-clause-range c =
