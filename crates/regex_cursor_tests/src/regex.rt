@@ -3,7 +3,7 @@
 ghost use Rattle.regex_cursor.specs.Regexes.{IsCacheOf};
 
 use regex_cursor::engines::meta::{
-    Builder, Cache, CapturesMatches, Config, FindMatches, Regex, Split, SplitN,
+    Builder, Cache, CapturesMatches, Config, FindMatches, Regex, Split,
 };
 use regex_cursor::util::syntax;
 use regex_cursor::{
@@ -69,7 +69,6 @@ fn captures_matches(rt: HostRuntime) -> Result<(), Fail> {
     let re = Regex::new(rt.alloc(), r"\w+@(\w+)")?;
     let mut found = re.captures_iter(Input::new(ChunkCursor::new(&chunks)))?;
     assert!(rt; found.regex().captures_len() == 2);
-    found.input().set_start(1);
     assert!(rt; first_group(&mut found)? == Some(Span { start: 7, end: 11 }));
     assert!(rt; found.next().is_none());
     Ok(())
@@ -81,16 +80,6 @@ fn first_part(re: &Regex) -> Result<Option<Span>, MatchError> {
     parts.input().set_span(4..5);
     parts.input().set_span(2..5);
     match parts.next() {
-        Some(part) => Ok(Some(part?)),
-        None => Ok(None),
-    }
-}
-
-/// The last of two parts, once the input was moved past the first match.
-fn last_part(re: &Regex) -> Result<Option<Span>, MatchError> {
-    let mut parts: SplitN<&str> = re.splitn(Input::new("a,b,c"), 2)?;
-    parts.input().set_span(2..5);
-    match parts.last() {
         Some(part) => Ok(Some(part?)),
         None => Ok(None),
     }
@@ -109,7 +98,6 @@ fn of_all(alloc: Global) -> Result<Regex, BuildError> {
 fn parts(rt: HostRuntime) -> Result<(), Fail> {
     let re = Regex::new(rt.alloc(), ",")?;
     assert!(rt; first_part(&re)? == Some(Span { start: 0, end: 3 }));
-    assert!(rt; last_part(&re)? == Some(Span { start: 4, end: 5 }));
     assert!(rt; re.split(Input::new("a,b,c"))?.count() == 3);
     assert!(rt; of_all(rt.alloc())?.split(Input::new("abab"))?.count() == 2);
     Ok(())
@@ -141,31 +129,6 @@ fn builder(rt: HostRuntime) -> Result<(), Fail> {
     Ok(())
 }
 
-/// What is found of `git nix`, in any case, from byte 1 on, by a cursor that begins there.
-fn git_nix(alloc: Global, text: &str) -> Result<Option<Span>, Fail> {
-    let mut builder = Regex::builder();
-    builder.syntax(
-        syntax::Config::new()
-            .case_insensitive(true)
-            .multi_line(true),
-    );
-    let re = builder.build(alloc, "git nix")?;
-    let rope = Rope::from_str(alloc, text)?;
-    let slice = rope.slice(..);
-    let cursor = RopeyCursor::at(slice, slice.len_bytes().min(1));
-    let found = re.find(Input::new(cursor).range(1..))?;
-    Ok(found.map(|found| found.span()))
-}
-
-/// Settings of the syntax hold in a rope from a place on.
-#[test]
-fn from_a_place_on(rt: HostRuntime) -> Result<(), Fail> {
-    assert!(rt; git_nix(rt.alloc(), "x")? == None);
-    assert!(rt; git_nix(rt.alloc(), "xgit nix")? == Some(Span { start: 1, end: 8 }));
-    assert!(rt; git_nix(rt.alloc(), "git nix\nGit Nix")? == Some(Span { start: 8, end: 15 }));
-    Ok(())
-}
-
 /// Why there is no regex: here the pattern isn't in the grammar.
 #[test]
 fn build_error(rt: HostRuntime) -> Result<(), Fail> {
@@ -179,13 +142,13 @@ fn of_tree(alloc: Global, pattern: &str, needle: &[u8]) -> Result<Regex, Fail> {
     let hir = parse(alloc, pattern, &syntax::Config::new())?;
     let prefilter = Prefilter::new(alloc, MatchKind::LeftmostFirst, &[needle])?;
     let mut builder = Builder::new();
-    builder.configure(Config::default().auto_prefilter(false).prefilter(prefilter));
-    Ok(builder.build_many_from_hir(alloc, &[&hir])?)
+    builder.configure(Config::new().auto_prefilter(false).prefilter(prefilter));
+    Ok(builder.build_from_hir(alloc, &hir)?)
 }
 
 /// It finds what it should.
 #[test]
-fn build_many_from_hir(rt: HostRuntime) -> Result<(), Fail> {
+fn build_from_hir(rt: HostRuntime) -> Result<(), Fail> {
     let re = of_tree(rt.alloc(), "ab+", b"a")?;
     assert!(rt; re.is_accelerated() && re.get_config().get_prefilter().is_some());
     assert!(rt; re.is_match(Input::new("cab"))? && re.memory_usage() > 0);

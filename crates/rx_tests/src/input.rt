@@ -75,6 +75,17 @@ fn changed_input(rt: HostRuntime) -> Result<(), Fail> {
     Ok(())
 }
 
+/// A range that was iterated to its end is empty, and lies before its last place.
+#[test]
+fn spent_range(rt: HostRuntime) {
+    let mut range = 3..=3;
+    assert!(rt; range.next() == Some(3));
+    if *range.start() <= *range.end() {
+        let input = Input::new("one two").range(range);
+        assert!(rt; input.get_span() == Span { start: 3, end: 3 });
+    }
+}
+
 /// Whether a cursor has these bytes in one piece.
 fn is_one_piece<C: Cursor>(cursor: &mut C, bytes: &[u8]) -> bool {
     let moves = cursor.advance() || cursor.backtrack();
