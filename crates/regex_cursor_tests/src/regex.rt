@@ -3,7 +3,7 @@
 ghost use Rattle.regex_cursor.specs.Regexes.{IsCacheOf};
 
 use regex_cursor::engines::meta::{
-    Builder, Cache, CapturesMatches, Config, FindMatches, Regex, Split, SplitN,
+    Builder, Cache, CapturesMatches, Config, FindMatches, Regex, Split,
 };
 use regex_cursor::util::syntax;
 use regex_cursor::{
@@ -68,7 +68,6 @@ fn captures_matches(rt: HostRuntime) -> Result<(), Fail> {
     let re = Regex::new(rt.alloc(), r"\w+@(\w+)")?;
     let mut found = re.captures_iter(Input::new(ChunkCursor::new(&chunks)))?;
     assert!(rt; found.regex().captures_len() == 2);
-    found.input().set_start(1);
     assert!(rt; first_group(&mut found)? == Some(Span { start: 7, end: 11 }));
     assert!(rt; found.next().is_none());
     Ok(())
@@ -85,22 +84,11 @@ fn first_part(re: &Regex) -> Result<Option<Span>, MatchError> {
     }
 }
 
-/// The last of two parts, once the input was moved past the first match.
-fn last_part(re: &Regex) -> Result<Option<Span>, MatchError> {
-    let mut parts: SplitN<&str> = re.splitn(Input::new("a,b,c"), 2)?;
-    parts.input().set_span(2..5);
-    match parts.last() {
-        Some(part) => Ok(Some(part?)),
-        None => Ok(None),
-    }
-}
-
 /// Parts start at 0, wherever the input was moved to.
 #[test]
 fn parts(rt: HostRuntime) -> Result<(), Fail> {
     let re = Regex::new(rt.alloc(), ",")?;
     assert!(rt; first_part(&re)? == Some(Span { start: 0, end: 3 }));
-    assert!(rt; last_part(&re)? == Some(Span { start: 4, end: 5 }));
     assert!(rt; re.split(Input::new("a,b,c"))?.count() == 3);
     Ok(())
 }
@@ -128,31 +116,6 @@ fn builder(rt: HostRuntime) -> Result<(), Fail> {
     assert!(rt; are_kept(&re));
     let half = re.search_half(Input::new("a;b"))?;
     assert!(rt; half.map(|half| half.offset()) == Some(3));
-    Ok(())
-}
-
-/// What is found of `git nix`, in any case, from byte 1 on, by a cursor that begins there.
-fn git_nix(alloc: Global, text: &str) -> Result<Option<Span>, Fail> {
-    let mut builder = Regex::builder();
-    builder.syntax(
-        syntax::Config::new()
-            .case_insensitive(true)
-            .multi_line(true),
-    );
-    let re = builder.build(alloc, "git nix")?;
-    let rope = Rope::from_str(alloc, text)?;
-    let slice = rope.slice(..);
-    let cursor = RopeyCursor::at(slice, slice.len_bytes().min(1));
-    let found = re.find(Input::new(cursor).range(1..))?;
-    Ok(found.map(|found| found.span()))
-}
-
-/// Settings of the syntax hold in a rope from a place on.
-#[test]
-fn from_a_place_on(rt: HostRuntime) -> Result<(), Fail> {
-    assert!(rt; git_nix(rt.alloc(), "x")? == None);
-    assert!(rt; git_nix(rt.alloc(), "xgit nix")? == Some(Span { start: 1, end: 8 }));
-    assert!(rt; git_nix(rt.alloc(), "git nix\nGit Nix")? == Some(Span { start: 8, end: 15 }));
     Ok(())
 }
 
