@@ -15,8 +15,6 @@ SHARED = set("""CacheView ComesNext FollowEachOther Gives GivesInOrder GivesNext
     IsAnswerAt IsCacheOf IsEmptyAtLast IsShowing MatchesStandAtBoundaries Name OneOf StandsAtBoundaries between end_of
     is_among is_anchored joined left_of limit_in nodes_of none_set prefilter_of search_by showing span_of start_of
     with_replaced""".split())
-# What crates above reports take of regex_cursor: why a text is no pattern.
-EXPLAINS = "explain util syntax Config Mistake Reason Refusal".split()
 # Inner crates, and the crates of their group, which alone name them.
 GROUPS = {r"ropey_(tree|walk)": r"ropey\w*", r"rx_\w+": r"rx_\w+|regex_cursor\w*",
           r"rope_search_(io|changes|reports|templates)": r"rope_search\w*"}
@@ -57,11 +55,13 @@ def test_regexes():
     built = that_name(r"\bRegex\s*::\s*(new|builder)\b|\bPikeVM\s*::\s*new\b|\bBuilder\s*::\s*new\b", above)
     wrong = [f"{path} builds one" for path in built if not path.startswith("rope_search_reports/src/rows")]
     test("a regex is built where its searches are counted alone", wrong + ([] if len(built) == 1 else [f"{built}"]))
-    taken = [(path, item) for path, text in above if not path.startswith("rope_search_reports/")
-             for found in re.findall(r"\bregex_cursor\s*::\s*([^;]+)", text) for item in re.findall(r"\w+", found)]
-    wrong = [f"{path} takes {item}" for path, item in taken if item not in EXPLAINS]
-    test("no other crate above takes of regex_cursor what searches", wrong)
-    kept = ("rope_search_reports/src/rows/counted.rt", "rope_search_reports/src/laws.rt")
+    wrong = [crate for crate, libraries in listed().items() if crate.startswith("rope_search") and "regex_cursor" in libraries]
+    test("no other crate above names regex_cursor", [] if wrong == ["rope_search_reports"] else [f"{wrong}"])
+    kept = ("rope_search_reports/src/rows/counted.rt", "rope_search_reports/src/laws.rt",
+            "rope_search_reports/src/explaining.rt")
+    shown = re.findall(r"\w+", " ".join(re.findall(r"regex_cursor::([^;]+);", dict(above)[kept[2]])))
+    due = ["util", "syntax", "Config", "Mistake", "Reason", "Refusal", "explain"]
+    test("what reports hand on of regex_cursor searches nothing", [] if shown == due else [f"{shown}"])
     reports = [(path, re.sub(r"^ *ghost use .*", "", text, flags=re.M)) for path, text in above
                if path.startswith("rope_search_reports/") and path not in kept]
     wrong = that_name(r"\bregex_cursor\b", reports)

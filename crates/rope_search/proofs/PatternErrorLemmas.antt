@@ -1,7 +1,7 @@
 -- What is told of bytes that may be a pattern.
 use Rattle.std.proofs.Common.{◌≡◌, ◌↔◌, ◌≤◌, ◌<◌, ℕ, List, length, IsSome, refl, ap, subst, arith}
 use Rattle.std.specs.Prelude.{Option, None, Some}
-use Rattle.regex_cursor.specs.Explaining.{Refusal, SpellsSome, Settings, default_settings}
+use Rattle.rope_search_reports.specs.Explaining.{Refusal, SpellsSome, Settings, default_settings}
 use Rattle.rope_search_io.specs.declared.faults.Fault.TheVariants.{Pattern}
 use Rattle.rope_search_reports.specs.Pattern.{pattern_limit}
 use Rattle.rope_search.specs.Order.{SetPattern}

@@ -31,8 +31,8 @@ pub use encodings::Encoding;
 pub use endings::Ended;
 pub use limits::Limits;
 pub use pattern_errors::pattern_error;
-pub use regex_cursor::{Mistake, Reason, Refusal};
 pub use rope_search_io::{Broken, Device, Failed, Fault, MemorySink, MemorySource, Sink, Source};
+pub use rope_search_reports::explaining::{Mistake, Reason, Refusal};
 pub use rope_search_reports::{
     Finder, Groups, Lines, Position, Row, byte_of, find_all, find_from, groups_at, position_of,
     search_line,

@@ -1,15 +1,14 @@
 //! Where and why bytes are no pattern.
 ghost use Rattle.std.specs.Prelude.{◌≡◌, ◌↔◌, ◌⊎◌, ℕ, IsSome, IfSome, IfOk, IfErr, Err};
 ghost use Rattle.std.specs.Str.{IsCharBoundary, IsUtf8};
-ghost use Rattle.regex_cursor.specs.Explaining.{IsRefusedAs, default_settings};
+ghost use Rattle.rope_search_reports.specs.Explaining.{IsRefusedAs, default_settings};
 ghost use Rattle.rope_search.specs.Order.{SetPattern};
 ghost use Rattle.rope_search.specs.Session.{State};
 ghost use Rattle.rope_search.specs.Step.{Refuses};
 
-use regex_cursor::util::syntax::Config;
-use regex_cursor::{Refusal, explain};
 use rope_search_io::Fault;
 use rope_search_reports::PATTERN_LEN;
+use rope_search_reports::explaining::{Config, Refusal, explain};
 use simdutf8::compat::from_utf8;
 use std::alloc::Global;
 

@@ -2,7 +2,7 @@
 use Rattle.std.proofs.Common.{◌≡◌, ◌↔◌, ℕ, List, IsSome, ap, inl, inr, refl, sym, subst, ◌∙◌}
 use Rattle.std.specs.Prelude.{Option, None, Some}
 use Rattle.std.specs.Str.{IsCharBoundary}
-use Rattle.regex_cursor.specs.Explaining.{Refusal, IsRefusedAs, default_settings}
+use Rattle.rope_search_reports.specs.Explaining.{Refusal, IsRefusedAs, default_settings}
 use Rattle.rope_search_io.specs.declared.faults.Fault.TheVariants.{Pattern}
 use Rattle.rope_search.specs.declared.commands.CommandOf.TheVariants.{Pattern as SetPattern}
 use Rattle.rope_search.specs.Session.{State, first_state}

@@ -1,7 +1,7 @@
 -- Why bytes are no pattern, as C is told.
 use Rattle.std.specs.Prelude.{◌≡◌, ◌⊎◌, ℕ, List}
 use Rattle.std.specs.Str.{IsCharBoundary, IsUtf8}
-use Rattle.regex_cursor.specs.Explaining.{Mistake, OpenGroup, NoOpenGroup, NothingToRepeat, Count, LargeCount, CountOrder, Escape, Scalar, OpenClass, ClassItem, RangeOrder, GroupHead, RepeatedName, Dot, Reason, TooLong, Nesting, Outside, IsRefusedAs, default_settings}
+use Rattle.rope_search_reports.specs.Explaining.{Mistake, OpenGroup, NoOpenGroup, NothingToRepeat, Count, LargeCount, CountOrder, Escape, Scalar, OpenClass, ClassItem, RangeOrder, GroupHead, RepeatedName, Dot, Reason, TooLong, Nesting, Outside, IsRefusedAs, default_settings}
 use Rattle.rope_search_io.specs.declared.faults.Fault.TheVariants.{Pattern}
 use Rattle.rope_search.specs.declared.commands.CommandOf.TheVariants.{Pattern as SetPattern}
 use Rattle.rope_search.specs.Session.{State}

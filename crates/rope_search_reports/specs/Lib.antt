@@ -11,5 +11,6 @@ pub mod Replacement
 pub mod Turned
 pub mod Laws
 pub mod Drafts
+pub mod Explaining
 pub mod Finders
 pub mod LineGroups

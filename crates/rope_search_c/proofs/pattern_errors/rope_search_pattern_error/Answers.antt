@@ -1,7 +1,7 @@
 use Rattle.std.proofs.Common.{refl, subst}
 use Rattle.std.specs.Prelude.{IfSome}
 use Rattle.std.specs.Str.{IsCharBoundary}
-use Rattle.regex_cursor.specs.Explaining.{Refusal, IsRefusedAs, default_settings}
+use Rattle.rope_search_reports.specs.Explaining.{Refusal, IsRefusedAs, default_settings}
 use Rattle.rope_search_c.proofs.PatternErrorLemmas.{IsToldAlike, nothing-told, why-told}
 use Rattle.rope_search_c.proofs.pattern_errors.rope_search_pattern_error.Goals as goal
 
