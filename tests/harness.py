@@ -19,7 +19,7 @@ LIBRARY_FOLDER = os.path.abspath(os.environ.get("ROPE_SEARCH_LIBRARIES") or os.p
 LIBRARY = os.path.join(LIBRARY_FOLDER, "librope_search.so")
 ROOM = tempfile.mkdtemp(prefix="rope-search-")  # the one folder that tests write in
 atexit.register(shutil.rmtree, ROOM, ignore_errors=True)
-SECONDS = 120
+SECONDS = 600  # that a program of a test may take, also on a busy machine
 SHARE = int(os.environ.get("SHARE") or 100)  # how many percent of the cases at random are tried
 PASSED, FAILED = [], []
 
