@@ -1,6 +1,6 @@
 //! Examples of calls of a `Regex`, of its builder and of its iterators.
 
-use regex_cursor::engines::meta::{Builder, CapturesMatches, Config, Regex, SplitN};
+use regex_cursor::engines::meta::{Builder, CapturesMatches, Config, Regex};
 use regex_cursor::util::syntax;
 use regex_cursor::{Input, MatchError, RopeyCursor, Span, parse};
 use ropey::Rope;
@@ -66,23 +66,5 @@ fn moved_captures(rt: HostRuntime) -> Result<(), Fail> {
     let mut found = re.captures_iter(Input::new("abac"))?;
     found.input().set_start(1);
     assert!(rt; next_group(&mut found)? == Some(Span { start: 3, end: 4 }));
-    Ok(())
-}
-
-/// The first of two parts, once the input was moved past the first match.
-fn first_part(re: &Regex) -> Result<Option<Span>, MatchError> {
-    let mut parts: SplitN<&str> = re.splitn(Input::new("a,b,c"), 2)?;
-    parts.input().set_span(2..5);
-    match parts.next() {
-        Some(part) => Ok(Some(part?)),
-        None => Ok(None),
-    }
-}
-
-/// It starts at 0, as that of all parts does.
-#[test]
-fn moved_parts(rt: HostRuntime) -> Result<(), Fail> {
-    let re = Regex::new(rt.alloc(), ",")?;
-    assert!(rt; first_part(&re)? == Some(Span { start: 0, end: 3 }));
     Ok(())
 }
