@@ -1,15 +1,20 @@
 -- A part of a content in which no needle occurs has no match.
-use Rattle.std.proofs.Common.{◌≡◌, ℕ, ◌+◌, ◌<◌, ◌≤◌, List, length, take, get_or, Option, Some, None, refl, sym, ap, subst, ◌∙◌, arith, length-drop}
+use Rattle.std.proofs.Common.{◌≡◌, ℕ, ◌+◌, ◌<◌, ◌≤◌, Bool, true, List, length, take, get_or, Option, Some, None, refl, sym, ap, subst, ◌∙◌, arith, length-drop}
 use Rattle.std.proofs.lemmas.List.{length-take, get_or-take, get_or-drop, take_all}
 use Rattle.unicode.specs.Perl.{is_word_char}
+use Rattle.rx_sets.specs.Sets.{Range}
+use Rattle.rx_utf8.specs.Automata.{is_in}
 use Rattle.rx_util.specs.declared.search.Span.{Span}
 use Rattle.rx_input.specs.Inputs.{between}
+use Rattle.rx_walks.specs.Looks.{Look}
+use Rattle.rx_walks.specs.Programs.{Program}
+use Rattle.rx_walks.specs.ProgramFinds.{ProgramFinds}
 use Rattle.rx_program.specs.Programs.{character_program}
 use Rattle.rx_literals.specs.Needles.{AreNeedles, FoundAt, no_needle, this_needle, other_needle, FoundBetween, nowhere, at_least_place}
-use Rattle.rx_literals.specs.Beginnings.{MatchesBeginWith, NoNeedleNoMatch}
+use Rattle.rx_literals.specs.Requirements.{MatchesContain, NoneContainedNoMatch}
 use Rattle.rx_literals.proofs.NeedleLaws.{found_start}
-use Rattle.regex_cursor.specs.Patterns.{HasNoMatchBetween, TreeFinds, program_for, search_from}
-use Rattle.regex_cursor.specs.Regexes.{RegexView, IsRegexOf}
+use Rattle.regex_cursor.specs.Patterns.{HasNoMatchBetween, program_for, search_part}
+use Rattle.regex_cursor.specs.Regexes.{Engine, HasNoFindBetween, RegexView, IsRegexOf}
 use Rattle.regex_cursor.proofs.PatternLemmas.{program-is}
 
 -- a place of a part of a content is a place of the content, which may be cut behind that part
@@ -56,18 +61,30 @@ found_within (nowhere none) e = absurd (cc e)
 found_within {bytes} {needles} (at_least_place i low high here before) e =
     let start = found_start (subst (λ o. FoundAt bytes i needles o) e here) in omega (arith, high, start)
 
--- ---- what that tells of a regex whose matches begin with the needles
+-- ---- what that tells of a program whose matches contain one of the needles
 
-module _ (text : List ℕ) (re : RegexView) (built : IsRegexOf text re) (needles : List (List ℕ)) (begins : MatchesBeginWith needles (character_program re.engine.program)) (are : AreNeedles needles) (law : NoNeedleNoMatch) where
-  none_there : (part : List ℕ) → ((i : ℕ) → i < length part → FoundAt part i needles None) → TreeFinds built.tree part 0 None
-  none_there part none =
-      let of_tree : MatchesBeginWith needles (program_for built.tree) = subst (λ p. MatchesBeginWith needles p) (program-is text re built) begins in
+module _ (needles : List (List ℕ)) (are : AreNeedles needles) (law : NoneContainedNoMatch) where
+  -- no needle in a part
+  abbrev NoneIn : List ℕ → Type 0
+  NoneIn part = (i : ℕ) → i < length part → FoundAt part i needles None
+
+  none_there : (p : Program Look (List Range)) → MatchesContain needles p → (utf8_empty : Bool) (part : List ℕ) → NoneIn part → ProgramFinds is_in is_word_char p (search_part utf8_empty part) None
+  none_there p contain utf8_empty part none =
       let whole : take (length part) part ≡ part = take_all (length part) part (omega arith) in
-      law needles (program_for built.tree) is_word_char (search_from part 0) are of_tree refl
+      law needles p is_word_char (search_part utf8_empty part) are contain refl
       (nowhere (λ i low below. subst (λ bytes. FoundAt bytes i needles None) (sym whole) (none i below)))
 
-  pub none_between : (content : List ℕ) (from place cut : ℕ) → place ≤ cut → NoneUpTo (take cut content) needles from place → HasNoMatchBetween built.tree content from place
-  none_between content from place cut within none start end behind before =
-      none_there (between start end content) (λ i below.
+  part_without : (content : List ℕ) (from place cut : ℕ) → place ≤ cut → NoneUpTo (take cut content) needles from place → (start end : ℕ) → from ≤ start → end ≤ place → NoneIn (between start end content)
+  part_without content from place cut within none start end behind before i below =
       let inside : start + i < place = omega (arith, below, length-drop start (take end content), length-take end content, before) in
-      none_in content start end cut i (omega (arith, before, within)) below (none (start + i) (omega (arith, behind)) inside) refl)
+      none_in content start end cut i (omega (arith, before, within)) below (none (start + i) (omega (arith, behind)) inside) refl
+
+  module _ (content : List ℕ) (from place cut : ℕ) (within : place ≤ cut) (none : NoneUpTo (take cut content) needles from place) where
+    pub none_by_program : (e : Engine) → MatchesContain needles (character_program e.program) → HasNoFindBetween e content from place
+    none_by_program e contain start end behind before =
+        none_there (character_program e.program) contain e.utf8_empty (between start end content) (part_without content from place cut within none start end behind before)
+
+    pub none_between : (text : List ℕ) (re : RegexView) (built : IsRegexOf text re) → MatchesContain needles (character_program re.engine.program) → HasNoMatchBetween built.tree content from place
+    none_between text re built contain start end behind before =
+        let of_tree : MatchesContain needles (program_for built.tree) = subst (λ p. MatchesContain needles p) (program-is text re built) contain in
+        none_there (program_for built.tree) of_tree true (between start end content) (part_without content from place cut within none start end behind before)

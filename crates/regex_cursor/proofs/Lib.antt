@@ -20,3 +20,4 @@ pub mod StartLaws
 pub mod LowerLaws
 pub mod TreeLaws
 pub mod LastLaws
+pub mod ExactLaws

@@ -6,4 +6,10 @@ pub use Rattle.rx_grammar.specs.declared.refusals.Refusal.{Refusal}
 pub use Rattle.rx_grammar.specs.declared.refusals.Reason.{Reason}
 pub use Rattle.rx_grammar.specs.declared.refusals.Reason.TheVariants.{TooLong, Nesting, Outside}
 pub use Rattle.rx_grammar.specs.declared.refusals.Mistake.{Mistake}
-pub use Rattle.rx_grammar.specs.declared.refusals.Mistake.TheVariants.{OpenGroup, NoOpenGroup, NothingToRepeat, Count, LargeCount, CountOrder, Escape, Scalar, OpenClass, ClassItem, RangeOrder, GroupHead, RepeatedName, Dot}
+pub use Rattle.rx_grammar.specs.declared.refusals.Mistake.TheVariants.{OpenGroup, NoOpenGroup}
+pub use Rattle.rx_grammar.specs.declared.refusals.Mistake.TheVariants.{NothingToRepeat, Count}
+pub use Rattle.rx_grammar.specs.declared.refusals.Mistake.TheVariants.{LargeCount, CountOrder}
+pub use Rattle.rx_grammar.specs.declared.refusals.Mistake.TheVariants.{Escape, Scalar, Dot}
+pub use Rattle.rx_grammar.specs.declared.refusals.Mistake.TheVariants.{OpenClass, ClassItem}
+pub use Rattle.rx_grammar.specs.declared.refusals.Mistake.TheVariants.{RangeOrder, GroupHead}
+pub use Rattle.rx_grammar.specs.declared.refusals.Mistake.TheVariants.{RepeatedName}

@@ -1,6 +1,6 @@
 -- What a pattern's text spells, and what a search for it finds over a whole content: the words of
 -- the crates below, for crates that stand on this one.
-use Rattle.std.specs.Prelude.{◌≡◌, ℕ, ◌≤◌, false, true, List, [], ◌∷◌, length, Option, None}
+use Rattle.std.specs.Prelude.{◌≡◌, ℕ, ◌≤◌, Bool, false, true, List, [], ◌∷◌, length, Option, None}
 use Rattle.unicode.specs.Perl.{is_word_char}
 use Rattle.rx_util.specs.declared.search.Anchored.TheVariants.{No}
 pub use Rattle.rx_input.specs.Inputs.{Asked, InputState, between}
@@ -58,6 +58,10 @@ search_from content from = record {
   anchoring = unanchored;
   utf8_empty = true;
 }
+
+-- the search of all of a content, where an empty match inside a character is passed over or isn't
+abbrev pub search_part : Bool → List ℕ → Search
+search_part utf8_empty content = record (search_from content 0) { utf8_empty = utf8_empty }
 
 -- an input that asks for it: for any match from a place on, and looks see all of the content
 pub record AsksFrom (content : List ℕ) (from : ℕ) (input : InputState) : Type 0 where

@@ -1,10 +1,10 @@
 -- A regex: of what it was built, and what its searches tell.
-use Rattle.std.specs.Prelude.{◌≡◌, ℕ, Bool, List, [], ◌∷◌, length, Option, option_map}
+use Rattle.std.specs.Prelude.{◌≡◌, ℕ, ◌≤◌, Bool, List, [], ◌∷◌, length, None, Option, option_map}
 use Rattle.std.specs.Str.{chars}
 use Rattle.rx_util.specs.Captured.{Captured}
 use Rattle.rx_util.specs.Groups.{slot_len}
 use Rattle.rx_util.specs.Search.{Found, HalfFound}
-use Rattle.rx_input.specs.Inputs.{InputState}
+use Rattle.rx_input.specs.Inputs.{InputState, between}
 use Rattle.rx_grammar.specs.Grammar.{Spells}
 use Rattle.rx_grammar.specs.Trees.{Tree}
 use Rattle.rx_walks.specs.Finds.{Search}
@@ -15,9 +15,11 @@ use Rattle.rx_program.specs.declared.error.BuildError.{BuildError}
 -- its searches tell what those of its engine do
 pub use Rattle.rx_engine.specs.Engines.{Engine}
 pub use Rattle.rx_chunk.specs.Engines.{EngineFinds, IsFound, TellsWhether}
+use Rattle.rx_chunk.specs.Engines.{Finds}
 use Rattle.rx_chunk.specs.Iterating.{EngineMatches}
 pub use Rattle.rx_chunk.specs.Searches.{HoldsMatches, TellsMatch, TellsSlots, TellsWhole, search_by}
 use Rattle.rx_engine.specs.Engines.{AreRefused, IsBuiltOfTrees, IsEngine, IsRefused, IsRefusedOfAll, Spell}
+use Rattle.regex_cursor.specs.Patterns.{search_part}
 use Rattle.regex_cursor.specs.Configs.{RegexSettings, RegexWanted, capacity_of, default_regex, engine_settings, engine_wanted}
 
 -- a regex is seen as the engine that serves any search, and the settings that it was built under
@@ -107,3 +109,9 @@ RegexMatches re s ms = EngineMatches re.engine s ms
 abbrev pub HasRoom : RegexView → Captured → Type 0
 HasRoom re caps =
     HoldsMatches re.engine caps × (length caps.slots ≡ slot_len re.engine.groups)
+
+-- no part of a content from one place up to another has a match of the engine's program, searched by
+-- itself
+abbrev pub HasNoFindBetween : Engine → List ℕ → ℕ → ℕ → Type 0
+HasNoFindBetween e content from to = (start end : ℕ) → from ≤ start → end ≤ to
+    → Finds e.program (search_part e.utf8_empty (between start end content)) None

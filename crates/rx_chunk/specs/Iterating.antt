@@ -1,5 +1,5 @@
 -- What comes next in an input, and what an iterator over the matches of a program gives.
-use Rattle.std.specs.Prelude.{◌≡◌, ℕ, ◌-◌, ◌<◌, ◌≤◌, ◌==◌, Bool, false, true, List, [], ◌∷◌, ◌++◌, map, length, Option, Some, None, option_map, Result, Err, IfSome, IfErr}
+use Rattle.std.specs.Prelude.{◌≡◌, ◌⊎◌, ℕ, ◌+◌, ◌-◌, ◌<◌, ◌≤◌, ◌==◌, Bool, false, true, List, [], ◌∷◌, ◌++◌, map, length, Option, Some, None, option_map, Result, Err, IfSome, IfErr}
 use Rattle.std.specs.Iterator.{Count, Yields, Drains, at_most, size}
 use Rattle.rx_util.specs.declared.search.MatchError.{MatchError}
 use Rattle.rx_util.specs.declared.search.MatchError.TheVariants.{Memory}
@@ -43,6 +43,11 @@ pub record IsNextAnswer (finding : Finding) (s : Search) (last pattern : Option 
 pub record StartsFrom (old new : InputState) (start : ℕ) : Type 0 where
   pub same : IsSameContent old.cursor new.cursor
   pub asked : new.asked ≡ record old.asked { span = record old.asked.span { start = start } }
+
+-- the span of an input starts where it did, or one byte further on
+abbrev pub StartsThereOrNext : InputState → InputState → Type 0
+StartsThereOrNext old new = (new.asked.span.start ≡ old.asked.span.start)
+    ⊎ (new.asked.span.start ≡ old.asked.span.start + 1)
 
 -- a refusal is want of memory
 abbrev pub IsWantOfMemory : {A : Type 0} → Option (Result A MatchError) → Type 0

@@ -14,9 +14,9 @@ pub fn slots_of_other_patterns_hold_none()
     ensures { OthersHoldNone }
 {}
 
-/// The slots that are told of a pattern's groups, as by `get_group`, are those in which the pattern's
-/// part of the program notes them: the whole match in those of group 0, each further group in its
-/// own two.
+/// The slots that are told of a pattern's groups, as by `get_group`, are those in which the
+/// pattern's part of the program notes them: the whole match in those of group 0, each further
+/// group in its own two.
 pub fn groups_have_their_slots()
     ensures { GroupsHaveTheirSlots }
 {}

@@ -14,7 +14,8 @@ ghost use Rattle.rx_steps.specs.Standing.{StopsAt};
 ghost use Rattle.rx_steps.specs.Threads.{no_slots};
 ghost use Rattle.rx_steps.specs.Caches.{IsCacheOf};
 ghost use Rattle.rx_chunk.specs.Engines.{nothing_set, settings_over, IsEngine, AreRefused, IsBuiltOf, IsBuiltOfAll, IsBuiltOfTrees, IsRefused, IsRefusedOfAll, EngineFinds, IsAnswerAt, IsFoundAt, StopsAs, TellsWhether, by_default, end_noted, start_noted, whole_span};
-ghost use Rattle.rx_chunk.specs.Iterating.{EndsAhead, HasNotedNext, IsFoundNext, IsNextAnswer, StartsFrom, matches_from};
+ghost use Rattle.rx_chunk.specs.Iterating.{EndsAhead, HasNotedNext, IsFoundNext, IsNextAnswer};
+ghost use Rattle.rx_chunk.specs.Iterating.{StartsFrom, StartsThereOrNext, matches_from};
 ghost use Rattle.rx_chunk.specs.FindMatches.{cache_of, engine_of, left_of};
 ghost use Rattle.rx_chunk.specs.Searches.{AsksTheSame, HoldsMatches, ServesOn, StopsInTime, TellsMatch, TellsSlots, TellsSlotsAt, TellsWhole, search_by};
 
@@ -636,6 +637,7 @@ pub fn next_slots<C: Cursor>(
     ensures none { OnErr result (slots.new ≡ no_slots (length slots.new)) }
     ensures made { IsCacheOf vm.now.program cache.new }
     ensures same { (start : ℕ) × StartsFrom input.old input.new start }
+    ensures start { StartsThereOrNext input.old input.new }
     ensures engine { IsEngine vm.now }
     ensures refused { IfErr result (λ error. error ≡ MatchError.Memory) }
 {
@@ -657,6 +659,7 @@ fn next_in<C: Cursor>(
     ensures none { OnErr result (slots.new ≡ no_slots (length slots.new)) }
     ensures made { IsCacheOf vm.now.program cache.new }
     ensures same { (start : ℕ) × StartsFrom input.old input.new start }
+    ensures start { StartsThereOrNext input.old input.new }
     ensures engine { IsEngine vm.now }
     ensures refused { IfErr result (λ error. error ≡ MatchError.Memory) }
 {
@@ -686,6 +689,7 @@ pub fn find_next<C: Cursor>(
         (search_by vm.now input.old) m.span.end)) }
     ensures made { IsCacheOf vm.now.program cache.new }
     ensures same { (start : ℕ) × StartsFrom input.old input.new start }
+    ensures start { StartsThereOrNext input.old input.new }
     ensures refused { IfErr result (λ error. error ≡ MatchError.Memory) }
 {
     let slots = whole_slots(vm, &mut cache.places)?;
@@ -719,6 +723,7 @@ pub fn search_next<C: Cursor>(
     ensures no_answer { OnErr result (caps.new.pattern ≡ None) }
     ensures made { IsCacheOf vm.now.program cache.new }
     ensures same { (start : ℕ) × StartsFrom input.old input.new start }
+    ensures start { StartsThereOrNext input.old input.new }
     ensures refused { IfErr result (λ error. error ≡ MatchError.Memory) }
 {
     caps.set_pattern(None);

@@ -1,5 +1,5 @@
 -- What stands before where an input stands.
-use Rattle.std.proofs.Common.{◌≡◌, ℕ, ◌+◌, ◌-◌, ◌<◌, min, List, length, take, drop, get_or, Some, slice_get, sym, ap, ◌∙◌, arith}
+use Rattle.std.proofs.Common.{◌≡◌, ℕ, ◌+◌, ◌-◌, ◌<◌, ◌≤◌, min, List, length, take, drop, get_or, Some, slice_get, sym, ap, ◌∙◌, arith}
 use Rattle.std.proofs.lemmas.List.{length-take, length-drop}
 use Rattle.std.proofs.lemmas.Option.{get_or_from_slice_get, slice_get-get_or, slice_get_within}
 use Rattle.rx_input.specs.Cursors.{CursorState, piece_of}
@@ -28,7 +28,7 @@ pub record ShowsBefore (s : Search) (i : ℕ) (c : CursorState) (piece : List �
   pub behind : lowest s < i
   pub small : i < 18446744073709551616
   pub end_is : end ≡ min (min (pos + 1) 18446744073709551615) (length piece)
-  pub few_is : few ≡ min end (i - lowest s)
+  pub few_is : few ≤ min end (i - lowest s)
 
 module _ (s : Search) (i : ℕ) (c : CursorState) (piece : List ℕ) (pos end few : ℕ) (shows : ShowsBefore s i c piece pos end few) where
   in_it : pos < length piece

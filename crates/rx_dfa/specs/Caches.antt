@@ -113,6 +113,11 @@ size_of_all width states = counted (sum_by (size_of width) states)
 abbrev pub used_with : CacheView → AutomatonState → ℕ
 used_with cache x = counted (cache.used + counted (size_of cache.width x))
 
+-- there are two states, and a further one doesn't fit
+pub record HasNoRoom (capacity : ℕ) (cache : CacheView) (x : AutomatonState) : Type 0 where
+  pub some : 2 ≤ length cache.states
+  pub full : capacity < used_with cache x
+
 -- what is known of the states and steps of an automaton of a program
 pub record HoldsSteps (p : Directed) (alphabet : AlphabetView) (cache : CacheView) : Type 0 where
   pub widths : cache.widths ≡ widths_of p.bytes

@@ -1,6 +1,6 @@
 //! Searches back by an automaton of a program turned round, from the end of the span on, or of the
-//! content where that comes first. Places are counted from the span's end, and bytes are turned round, so that the loop over them is the one that
-//! searches forward.
+//! content where that comes first. Places are counted from the span's end, and bytes are turned
+//! round, so that the loop over them is the one that searches forward.
 
 ghost use Rattle.std.specs.Prelude.{◌≡◌, ◌-◌, ◌<◌, ◌≤◌, ℕ, Bool, IsTrue, true, false, None, Some, get_or, length, min, take, IfErr, IfOk, OnOk};
 ghost use Rattle.rx_util.specs.declared.search.MatchError.{MatchError};
@@ -36,6 +36,8 @@ use rx_util::{HalfMatch, MatchError, StateID};
 
 /// How many bytes are turned round at once.
 const TURNED: usize = 64;
+/// How many of them where a search back begins, since most matches are short.
+const TURNED_FIRST: usize = 16;
 
 /// The last bytes of a piece, at most as many as are turned round at once, from the last one back;
 /// and how many they are.
@@ -51,6 +53,14 @@ fn turned(piece: &[u8]) -> ([u8; TURNED], usize)
         bytes[index] = piece[piece.len() - 1 - index];
     }
     (bytes, len)
+}
+
+/// How many bytes are turned round at once before a place, where the span ends at this end.
+fn few_at(at: usize, end: usize) -> usize
+    ensures some { 0 < result }
+    ensures few { result ≤ TURNED }
+{
+    if at < end { TURNED } else { TURNED_FIRST }
 }
 
 /// The first place inside span and slice.
@@ -82,7 +92,8 @@ fn bytes_before<C: Cursor>(input: &mut Input<C>) -> ([u8; TURNED], usize)
     input.move_to(at - 1);
     let piece = input.chunk();
     let end = input.chunk_pos().saturating_add(1).min(piece.len());
-    let few = end.min(at - first);
+    let inside = end.min(at - first);
+    let few = inside.min(few_at(at, input.end()));
     turned(&piece[end - few..end])
 }
 
@@ -344,8 +355,8 @@ pub(crate) fn search_back<T: Table, C: Cursor>(
 /// finds them. The cache must be one for searches back by that automaton, and still is one
 /// afterwards, whatever is answered. `utf8_empty` passes over an empty match inside a character.
 ///
-/// Refusals are `UnsupportedAnchored` where the input isn't anchored; else `Memory`; `Quit`, with a byte
-/// of 128 or more of the slice and its place, where the program asks for looks of words; and
+/// Refusals are `UnsupportedAnchored` where the input isn't anchored; else `Memory`; `Quit`, with a
+/// byte of 128 or more of the slice and its place, where the program asks for looks of words; and
 /// `GaveUp`, with a place inside, at which the cache would have been cleared for the fourth time in
 /// this search.
 ///

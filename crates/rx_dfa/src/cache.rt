@@ -1,11 +1,15 @@
 //! The states of an automaton that searches have come to, and the table of the steps between them.
 
-ghost use Rattle.std.specs.Prelude.{◌≡◌, ◌⊎◌, ◌+◌, ◌*◌, ◌<◌, ◌≤◌, ◌++◌, ◌∷◌, [], ℕ, true, false, None, Some, length, replicate, set, slice_get, All, IfSome, IfOk, IfErr, OnOk, OnErr};
+ghost use Rattle.std.specs.Prelude.{◌≡◌, ◌⊎◌, ◌+◌, ◌*◌, ◌<◌, ◌≤◌, ◌++◌, ◌∷◌, [], ℕ, true, false};
+ghost use Rattle.std.specs.Prelude.{None, Some, length, replicate, set, slice_get, All};
+ghost use Rattle.std.specs.Prelude.{IfSome, IfOk, IfErr, OnOk, OnErr};
 ghost use Rattle.rx_util.specs.declared.search.MatchError.{MatchError};
 ghost use Rattle.rx_dfa.specs.declared.states.AutomatonState.{AutomatonState};
 ghost use Rattle.rx_dfa.specs.Alphabets.{column_count};
 ghost use Rattle.rx_dfa.specs.Automata.{directed, directed_by};
-ghost use Rattle.rx_dfa.specs.Caches.{GivesUpLate, HasFirst, IsBare, IsCacheOf, IsEntryTo, IsNewState, IsSameState, KeepNumbers, counted, size_of, size_of_parts, used_with};
+ghost use Rattle.rx_dfa.specs.Caches.{GivesUpLate, HasFirst, HasNoRoom, IsBare, IsCacheOf};
+ghost use Rattle.rx_dfa.specs.Caches.{IsEntryTo, IsNewState, IsSameState, KeepNumbers};
+ghost use Rattle.rx_dfa.specs.Caches.{counted, size_of, size_of_parts, used_with};
 ghost use Rattle.rx_dfa.specs.DenseTables.{HasOneFirst};
 ghost use Rattle.rx_dfa.specs.Directions.{backward, forward};
 ghost use Rattle.rx_dfa.specs.States.{IsFirstState, IsStateOf, IsStep};
@@ -216,9 +220,10 @@ impl Cache {
         self.used = 0;
     }
 
-    /// Takes all states out for want of room, and counts it.
-    fn clear_for_room(&mut self)
-        requires { self.old.cleared < CLEARS }
+    /// Takes all states out for want of room for a further one, and counts it.
+    fn clear_for_room(&mut self, _automaton: &Automaton, _state: &AutomatonState)
+        requires few { self.old.cleared < CLEARS }
+        requires full { HasNoRoom _automaton.now.alphabet.now.capacity self.old _state.now }
         ensures widths { self.new.widths ≡ self.old.widths }
         ensures width { self.new.width ≡ self.old.width }
         ensures table { self.new.table ≡ [] }
@@ -359,8 +364,10 @@ impl Cache {
 
     /// Whether a further state fits: beside one state another one always does.
     fn has_room(&self, automaton: &Automaton, state: &AutomatonState) -> bool
-        ensures { result ≡ true → (length self.now.states < 2)
+        ensures room { result ≡ true → (length self.now.states < 2)
             ⊎ (used_with self.now state.now ≤ automaton.now.alphabet.now.capacity) }
+        ensures full { result ≡ false
+            → HasNoRoom automaton.now.alphabet.now.capacity self.now state.now }
     {
         self.states.len() < 2 || self.used_with(state) <= automaton.alphabet.capacity()
     }
@@ -396,7 +403,7 @@ impl Cache {
         if self.cleared >= CLEARS {
             return Err(MatchError::GaveUp { offset: at });
         }
-        self.clear_for_room();
+        self.clear_for_room(automaton, &state);
         let number = self.add(automaton, state)?;
         Ok((number, true))
     }
@@ -593,6 +600,7 @@ impl Table for Cache {
         self
     }
 
+    #[inline(always)]
     fn step(
         &mut self,
         automaton: &Automaton,
@@ -610,6 +618,7 @@ impl Table for Cache {
         Ok(Some(self.number_at(entry)))
     }
 
+    #[inline(always)]
     fn first(
         &mut self,
         automaton: &Automaton,

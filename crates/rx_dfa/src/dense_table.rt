@@ -237,6 +237,7 @@ impl Table for &DenseTable {
         DenseTable::cache(self)
     }
 
+    #[inline(always)]
     fn step(
         &mut self,
         automaton: &Automaton,
@@ -247,6 +248,7 @@ impl Table for &DenseTable {
         Ok(DenseTable::step(self, automaton, number, column))
     }
 
+    #[inline(always)]
     fn first(
         &mut self,
         automaton: &Automaton,

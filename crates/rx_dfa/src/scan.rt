@@ -65,6 +65,7 @@ impl Cache {
     /// Follows bytes that stand from a place on as far as entries are known and the search isn't
     /// over, and notes the last end that is met: the state behind them, and how many bytes were
     /// followed.
+    #[inline(always)]
     pub(crate) fn run(
         &self,
         automaton: &Automaton,
@@ -148,6 +149,7 @@ fn pass<T: Table>(
 /// Passes bytes that stand from a place on, up to a state at which the search is over, and notes
 /// the last end that is met: the state behind them, and how many bytes were passed, which is at
 /// least one, if there is one.
+#[inline(always)]
 pub(crate) fn scan<T: Table>(
     table: &mut T,
     automaton: &Automaton,

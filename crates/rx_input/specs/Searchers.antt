@@ -82,9 +82,9 @@ end_of_match a = a.span.end
 module _ {F I : Type 0}
     (calls : Mut F (MutBor I × Unit {0}) (Result (Option Found) MatchError × (MutBor I × Unit {0})))
     (state : I → InputState) where
-  -- a finder of matches: it may be called with any input, again and again; a match that it tells ends
-  -- in the span, not before its start and not at the greatest number; and it changes nothing of what
-  -- is asked for
+  -- a finder of matches: it may be called with any input, again and again; a match that it tells
+  -- ends in the span, not before its start and not at the greatest number; and it changes nothing of
+  -- what is asked for
   pub record IsMatchFinder (finder : F) : Type 0 where
     pub callable : always_mut calls finder
     pub inside : StaysInside (finder_of calls state) end_of_match
@@ -116,8 +116,9 @@ module _ {F I : Type 0}
     pub callable : always_mut calls finder
     pub inside : StaysInside (finder_of calls state) end_of_half
 
-  -- the next half match, which leaves the finder so: as the next match, but that any half match at
-  -- the end of the last one is passed over
+  -- the next half match, which leaves the finder so: as the next match, but that the one which is
+  -- told at once is passed over wherever it ends at the end of the last one, since no start tells
+  -- whether it is empty
   abbrev pub GivesHalfMatchBy : F → F → SearcherState → Result (Option HalfFound) MatchError
       → SearcherState → Type 0
   GivesHalfMatchBy finder left old r new =

@@ -1,11 +1,12 @@
 //! What a search is asked for, and where in a content it stands.
 
-ghost use Rattle.std.specs.Prelude.{◌≡◌, ◌+◌, ◌-◌, ◌<◌, ◌≤◌, ◌↔◌, IsTrue, length, min, false};
+ghost use Rattle.std.specs.Prelude.{◌≡◌, ◌+◌, ◌-◌, ◌<◌, ◌≤◌, ◌↔◌, IsTrue, false, length, min};
 ghost use Rattle.std.specs.Bool.{OnTrue};
 ghost use Rattle.std.specs.Str.{IsCharBoundary};
 ghost use Rattle.rx_util.specs.declared.search.Span.{Span};
 ghost use Rattle.rx_input.specs.Cursors.{piece_of};
-ghost use Rattle.rx_input.specs.Inputs.{HoldsPlace, asked_first, is_done, IsSpan, HasSpan, HasSlice, IsMoved, span_of, seen_around};
+ghost use Rattle.rx_input.specs.Inputs.{HasSlice, HasSpan, HoldsPlace, IsMoved, IsSpan};
+ghost use Rattle.rx_input.specs.Inputs.{asked_first, is_done, seen_around, span_of};
 
 use crate::cursor::Cursor;
 use crate::look_around::{LookAround, SIDE};

@@ -1,7 +1,10 @@
 //! Matches one after the other.
 
 ghost use Rattle.std.specs.Prelude.{◌≡◌, ◌+◌, ◌^◌, ◌<◌, ◌≤◌, None, Some, true, false};
-ghost use Rattle.rx_input.specs.Searchers.{GivesHalfMatchBy, GivesAnswer, GivesNextHalfMatch, GivesNextMatch, HasPassedMatch, IsEmptyAtLast, IsHalfMatchFinder, IsMatchFinder, IsSetTo, half_matches_left};
+ghost use Rattle.rx_input.specs.Searchers.{HasPassedMatch, IsEmptyAtLast, IsSetTo};
+ghost use Rattle.rx_input.specs.Searchers.{GivesNextMatch, IsMatchFinder};
+ghost use Rattle.rx_input.specs.Searchers.{GivesAnswer, GivesHalfMatchBy, GivesNextHalfMatch};
+ghost use Rattle.rx_input.specs.Searchers.{IsHalfMatchFinder, half_matches_left};
 
 use crate::cursor::Cursor;
 use crate::input::Input;
@@ -76,7 +79,8 @@ impl<I: Searched> Searcher<I> {
     }
 
     /// Returns the input in which the next search is, which may be changed. The end of the last
-    /// match is kept: an empty match that is found there at once is passed over, and no other.
+    /// match is kept: where the next search finds an empty match there, or any half match, that is
+    /// passed over, and the search repeated one byte further on, whose answer is told as it is.
     pub fn input(&mut self) -> &mut I
         ensures* writes_back { sem 𝓛 (LendsInput I.row I.Searched self.entry result) }
         ensures input { I.state result.now ≡ self.old.input }
@@ -126,8 +130,10 @@ impl<I: Searched> Searcher<I> {
         Ok(Some(further))
     }
 
-    /// Returns the next half match, as `try_advance` does a match; any half match at the end of the
-    /// last one is thrown away. Errors and conditions are those of `try_advance`.
+    /// Returns the next half match, as `try_advance` does a match. The first one that the finder
+    /// tells is passed over where it ends at the end of the last one, whether empty or not, since
+    /// its start is not known; the one that is told from one byte further on is not. Errors and
+    /// conditions are those of `try_advance`.
     pub fn try_advance_half<F>(&mut self, mut finder: F) -> Result<Option<HalfMatch>, MatchError>
     where
         F: FnMut(&mut I) -> Result<Option<HalfMatch>, MatchError>,

@@ -1,11 +1,11 @@
 -- What is found in a part, and from one place on, of what is found in all.
 use Rattle.std.proofs.Common.{◌≡◌, ℕ, ◌+◌, ◌-◌, ◌<◌, ◌≤◌, List, [], ◌∷◌, length, Option, Some, None, refl, sym, ap, subst, ◌∙◌, arith, inl, inr}
 use Rattle.std.specs.List.{All}
-use Rattle.std.proofs.lemmas.Bool.{cases_lt}
+use Rattle.std.proofs.lemmas.Bool.{cases_lt, eq-eqb, eqb-true}
 use Rattle.std.proofs.lemmas.List.Elements.{All-head, All-tail}
 use Rattle.std.proofs.Common.{take, min, get_or}
 use Rattle.std.proofs.lemmas.List.{length-take, get_or-drop, get_or-take}
-use Rattle.memchr.specs.Find.{OccursAt, FindsNeedle}
+use Rattle.memchr.specs.Find.{FindsNeedle, NoneBefore, Nowhere, OccursAt, Passes, is_byte}
 use Rattle.rx_input.specs.Inputs.{between}
 use Rattle.rx_literals.proofs.PieceLaws.{length_between}
 use Rattle.rx_util.specs.declared.search.Span.{Span}
@@ -145,3 +145,29 @@ told_else hay bytes at from stop part needles told tells same ends {found} {out}
     let behind : from + told ≡ at + told = omega (arith, same) in
     earlier (omega arith) (untold hay bytes at part needles told tells.within tells.lies in_part late)
     (subst (λ n. FoundBetween bytes needles (at + told) n out) ends (subst (λ n. FoundBetween bytes needles n (from + length hay) out) behind on))
+
+-- ---- a needle of one byte
+
+byte_there : (hay : List ℕ) (byte k : ℕ) → k < length hay → Passes (is_byte byte) hay k → OccursAt hay (byte ∷ []) k
+byte_there hay byte k below is = record {
+  fits = omega (arith, below);
+  reads = λ j low.
+      let first : j ≡ 0 = omega (arith, low) in
+      let same : k + 0 ≡ k = omega arith in
+      subst (λ n. get_or hay (k + n) 0 ≡ get_or (byte ∷ []) n 0) (sym first) (ap (λ n. get_or hay n 0) same ∙ eqb-true (get_or hay k 0) byte is);
+}
+
+there_byte : (hay : List ℕ) (byte k : ℕ) → OccursAt hay (byte ∷ []) k → Passes (is_byte byte) hay k
+there_byte hay byte k occurs =
+    let same : k ≡ k + 0 = omega arith in
+    let is : get_or hay k 0 ≡ byte = ap (λ n. get_or hay n 0) same ∙ occurs.reads 0 (omega arith) in
+    eq-eqb (get_or hay k 0) byte is
+
+pub byte_first : (hay : List ℕ) (byte k : ℕ) → NoneBefore (Passes (is_byte byte) hay) 0 (length hay) k × Passes (is_byte byte) hay k → FindsNeedle hay (byte ∷ []) 0 (Some k)
+byte_first hay byte k first = (
+  record { low = first.0.low; high = omega (arith, first.0.high); before = λ j low below occurs. first.0.before j low below (there_byte hay byte j occurs) },
+  byte_there hay byte k first.0.high first.1,
+)
+
+pub byte_nowhere : (hay : List ℕ) (byte : ℕ) → Nowhere (Passes (is_byte byte) hay) 0 (length hay) → FindsNeedle hay (byte ∷ []) 0 None
+byte_nowhere hay byte none j low below occurs = none j low (omega (arith, occurs.fits)) (there_byte hay byte j occurs)

@@ -13,3 +13,4 @@ pub mod MapLaws
 pub mod SpellingLaws
 pub mod LiteralLaws
 pub mod EndingLaws
+pub mod RequirementLaws

@@ -32,13 +32,13 @@ pub one_in_more : (content : List ℕ) {n m i : ℕ} {needles : List (List ℕ)}
 one_in_more content {n} {m} {i} fewer (this_occurs {needle = needle} occurs) = this_occurs (occurs_in_more content needle n m i fewer occurs)
 one_in_more content fewer (other_occurs one) = other_occurs (one_in_more content fewer one)
 
-none_not_one : {bytes : List ℕ} {i : ℕ} {needles : List (List ℕ)} {out : Option Span} → FoundAt bytes i needles out → out ≡ None → OneOccursAt bytes i needles → ⊥
+pub none_not_one : {bytes : List ℕ} {i : ℕ} {needles : List (List ℕ)} {out : Option Span} → FoundAt bytes i needles out → out ≡ None → OneOccursAt bytes i needles → ⊥
 none_not_one (this_needle occurs) e one = absurd (cc e)
 none_not_one (other_needle absent found) e (this_occurs occurs) = absent occurs
 none_not_one (other_needle absent found) e (other_occurs one) = none_not_one found e one
 none_not_one no_needle e one = elim one [ ]
 
-one_below : {bytes : List ℕ} {i : ℕ} {needles : List (List ℕ)} → All IsNeedle needles → OneOccursAt bytes i needles → i < length bytes
+pub one_below : {bytes : List ℕ} {i : ℕ} {needles : List (List ℕ)} → All IsNeedle needles → OneOccursAt bytes i needles → i < length bytes
 one_below all (this_occurs {needle = needle} {needles = needles} occurs) = let some = All-head IsNeedle needle needles all in omega (arith, occurs.fits, some.0)
 one_below all (other_occurs {needle = needle} {needles = needles} one) = one_below (All-tail IsNeedle needle needles all) one
 

@@ -118,7 +118,7 @@ module _ (is_word : ℕ → Bool) (p : Program Look (List Range)) (s : Search) (
     pub stands : drop i (take (highest s) s.content) ≡ encode_utf8 c ++ rest
     pub path : Path M r (i + length (encode_utf8 c)) pattern e
 
-  reads_at : (q i r : ℕ) (ranges : List Range) → slice_get p.nodes q ≡ Some (set ranges r) → Path M q i pattern e → IsRead ranges r i
+  pub reads_at : (q i r : ℕ) (ranges : List Range) → slice_get p.nodes q ≡ Some (set ranges r) → Path M q i pattern e → IsRead ranges r i
   reads_at q i r ranges at (at_end {p = k} is) =
       absurd (read_not_ends r i (first_by is_in ranges (left_from H i)) (ends_by (first_by is_in) H p.nodes q i k (Some (set ranges r)) at is))
   reads_at q i r ranges at (by_edge rs to k is on path) =
@@ -192,13 +192,13 @@ leads_same p stems others same is_word s i pattern e inside one = subst (OneOf (
 
 -- ---- the literals begin each match
 
-path_grows : {Q N : Type 0} {m : Machine Q N} {q : Q} {i p e : ℕ} → IsForward m → Path m q i p e → i ≤ e
+pub path_grows : {Q N : Type 0} {m : Machine Q N} {q : Q} {i p e : ℕ} → IsForward m → Path m q i p e → i ≤ e
 path_grows forward (at_end is) = omega arith
 path_grows forward (by_edge rs r k is at path) = path_grows forward path
 path_grows {q = q} {i = i} forward (by_read r j is path) = omega (arith, forward i j q r is, path_grows forward path)
 
 -- an occurrence that ends before a cut stands in the bytes up to it
-occurs_in_fewer : (content literal : List ℕ) (high e i : ℕ) → i + length literal ≤ e → e ≤ high → e ≤ length content → OccursAt (take high content) literal i → OccursAt (take e content) literal i
+pub occurs_in_fewer : (content literal : List ℕ) (high e i : ℕ) → i + length literal ≤ e → e ≤ high → e ≤ length content → OccursAt (take high content) literal i → OccursAt (take e content) literal i
 occurs_in_fewer content literal high e i ends_ below inside occurs = record {
   fits = omega (arith, length-take e content, ends_, inside);
   reads = λ j under.

@@ -6,3 +6,4 @@ pub mod Literals
 pub mod Spellings
 pub mod Ways
 pub mod Endings
+pub mod Requirements

@@ -7,6 +7,7 @@ use Rattle.rx_literals.specs.FirstBytes.{BeginAmong}
 
 -- a searcher finds these needles
 abbrev pub SearchesNeedles : Searcher → List (List ℕ) → Type 0
+SearchesNeedles (searcher.Byte byte) needles = needles ≡ (byte ∷ []) ∷ []
 SearchesNeedles (searcher.One finder) needles = needles ≡ finder ∷ []
 SearchesNeedles (searcher.First first) needles = BeginAmong first needles
 SearchesNeedles searcher.Several needles = Unit {0}

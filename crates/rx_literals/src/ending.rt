@@ -12,11 +12,11 @@ use std::alloc::{AllocError, Global};
 
 /// How often the states are gone through at most. Most edges lead to states with greater numbers,
 /// so that a few times do.
-const ROUNDS: usize = 16;
+pub(crate) const ROUNDS: usize = 16;
 
 /// What going through the states tells of those that are marked.
 #[derive(Clone, Copy, Debug)]
-enum Told {
+pub(crate) enum Told {
     /// A match ends at one of them.
     Match,
     /// More were marked.
@@ -26,7 +26,7 @@ enum Told {
 }
 
 /// Marks a state, and answers whether it wasn't.
-fn mark(marks: &mut [bool], state: StateID) -> bool
+pub(crate) fn mark(marks: &mut [bool], state: StateID) -> bool
     ensures kept { result ≡ false → marks.new ≡ marks.old }
     ensures marked { MayCome marks.new state }
     ensures grows { MarksGrow marks.old marks.new }
@@ -40,7 +40,7 @@ fn mark(marks: &mut [bool], state: StateID) -> bool
 }
 
 /// Marks states, and answers whether one of them wasn't.
-fn mark_all(marks: &mut [bool], states: &[StateID]) -> bool
+pub(crate) fn mark_all(marks: &mut [bool], states: &[StateID]) -> bool
     ensures kept { result ≡ false → marks.new ≡ marks.old }
     ensures marked { (k r : ℕ) → slice_get states.now k ≡ Some r → MayCome marks.new r }
     ensures grows { MarksGrow marks.old marks.new }

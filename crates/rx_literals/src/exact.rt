@@ -28,7 +28,7 @@ fn only_member(ranges: &[Range]) -> Option<char>
 
 /// The character that the state with this number reads, if it reads that one alone, and the state
 /// to which it leads.
-fn read_at(program: &Program, at: StateID) -> Option<(char, StateID)>
+pub(crate) fn read_at(program: &Program, at: StateID) -> Option<(char, StateID)>
     ensures { IfSome result (λ read. ReadsOnly
         (slice_get (character_program program.now).nodes at) read.0 read.1) }
 {

@@ -3,6 +3,7 @@
 
 ghost use Rattle.rx_literals.specs.Beginnings.{MatchesComeBehind, NoNeedleNoMatch};
 ghost use Rattle.rx_literals.specs.Literals.{LiteralsFind};
+ghost use Rattle.rx_literals.specs.Requirements.{BeginningsAreContained, NoneContainedNoMatch};
 
 /// Where no needle is found in a search's span, a program whose matches begin with the needles
 /// finds nothing, unless the search is anchored.
@@ -20,4 +21,15 @@ pub fn matches_come_behind()
 /// lies in the slice; and nothing where it doesn't occur.
 pub fn literals_find()
     ensures { LiteralsFind }
+{}
+
+/// Where none of the needles that each match of a program contains is found in a search's span, it
+/// finds nothing, unless the search is anchored.
+pub fn none_contained_no_match()
+    ensures { NoneContainedNoMatch }
+{}
+
+/// What the matches of a program begin with they contain.
+pub fn beginnings_are_contained()
+    ensures { BeginningsAreContained }
 {}

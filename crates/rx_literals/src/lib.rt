@@ -9,6 +9,7 @@ pub mod laws;
 pub mod literal;
 mod members;
 mod prefilter;
+mod required;
 
 pub use ending::ends_with_slice;
 pub use prefilter::Prefilter;

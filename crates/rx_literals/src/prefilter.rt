@@ -8,6 +8,7 @@ ghost use Rattle.rx_literals.specs.Prefilters.{SearchesNeedles, AreParts};
 
 use crate::first_bytes::FirstBytes;
 use memchr::arch::all::is_prefix;
+use memchr::memchr;
 use memchr::memmem::Finder;
 use rx_util::{MatchError, MatchKind, Span};
 use std::alloc::{AllocError, Global};
@@ -23,6 +24,8 @@ const NEEDLE_LEN: usize = 64;
 /// How needles are looked for in one piece.
 #[derive(Debug, Drop)]
 pub(crate) enum Searcher {
+    /// There is one, of one byte.
+    Byte(u8),
     /// There is one.
     One(Finder<'static>),
     /// There may be more, which begin with few bytes.
@@ -99,17 +102,40 @@ fn longest_of(needles: &[&[u8]]) -> usize
     longest
 }
 
+/// What finds one needle.
+fn searcher_of_one(alloc: Global, needle: &[u8]) -> Result<Searcher, AllocError>
+    ensures { IfOk result (λ searcher. SearchesNeedles searcher (needle.now ∷ [])) }
+{
+    if needle.len() == 1 {
+        return Ok(Searcher::Byte(needle[0]));
+    }
+    Ok(Searcher::One(Finder::new(needle).into_owned(alloc)?))
+}
+
 /// What finds the needles.
 fn searcher_of(alloc: Global, needles: &[&[u8]]) -> Result<Searcher, AllocError>
     ensures { IfOk result (λ searcher. SearchesNeedles searcher
         (map (λ needle. needle.now) needles.now)) }
 {
     if needles.len() == 1 {
-        return Ok(Searcher::One(Finder::new(needles[0]).into_owned(alloc)?));
+        return searcher_of_one(alloc, needles[0]);
     }
     match FirstBytes::of(needles) {
         Some(first) => Ok(Searcher::First(first)),
         None => Ok(Searcher::Several),
+    }
+}
+
+/// Where a byte is in `hay` first.
+fn find_byte(byte: u8, hay: &[u8]) -> Option<Span>
+    ensures { FoundBetween hay.now ((byte ∷ []) ∷ []) 0 (length hay.now) result }
+{
+    match memchr(byte, hay) {
+        Some(start) => Some(Span {
+            start,
+            end: start + 1,
+        }),
+        None => None,
     }
 }
 
@@ -197,6 +223,7 @@ impl Parts {
         ensures { FoundBetween hay.now self.now 0 (length hay.now) result }
     {
         match &self.searcher {
+            Searcher::Byte(byte) => find_byte(*byte, hay),
             Searcher::One(finder) => find_one(finder, hay),
             Searcher::First(first) => self.try_first(first, hay),
             Searcher::Several => self.try_each(hay),

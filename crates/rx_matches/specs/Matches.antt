@@ -1,5 +1,5 @@
 -- What searches for whole matches are refused by, and what iterators over them give.
-use Rattle.std.specs.Prelude.{◌≡◌, ◌⊎◌, Option, Result, IfSome, IfErr}
+use Rattle.std.specs.Prelude.{◌≡◌, ◌⊎◌, Option, Result, IfSome, IfErr, OnErr}
 use Rattle.std.specs.Borrow.{MutBor}
 use Rattle.rx_util.specs.declared.search.MatchError.{MatchError}
 use Rattle.rx_util.specs.declared.search.MatchError.TheVariants.{Memory}
@@ -9,6 +9,7 @@ use Rattle.rx_walks.specs.Iterating.{MatchesLeft, GivesMatch}
 use Rattle.rx_program.specs.Programs.{ByteProgram}
 use Rattle.rx_steps.specs.declared.asked.AskedLooks.{AskedLooks}
 use Rattle.rx_steps.specs.Searching.{search_of}
+use Rattle.rx_dfa.specs.Alphabets.{IsAlphabetOf}
 use Rattle.rx_dfa.specs.Dense.{DenseView}
 use Rattle.rx_dfa.specs.DenseTables.{IsQuit}
 use Rattle.rx_dfa.specs.Hybrid.{HybridCacheView, HybridView, IsHybridCacheOf}
@@ -53,6 +54,9 @@ pub record DenseGives {C : Type 0} (m : dense.FindMatches C)
     (item : Option (Result Found MatchError)) (n : dense.FindMatches C) : Type 0 where
   pub next : GivesNext (dense_engine m).engine.program
       (IsDenseRefusal (dense_engine m).automaton.dfa.asked) (dense_left m) item (dense_left n)
+  -- the looks of words that make it quit are those of the program
+  pub dfa : IfSome item (λ answer. OnErr answer
+      (IsAlphabetOf (dense_engine m).engine.program (dense_engine m).automaton.dfa))
   pub same_engine : dense_engine n ≡ dense_engine m
 
 -- the same of an iterator that was lent a cache
@@ -79,6 +83,8 @@ pub record LazyGives {C : Type 0} (m : lazy.FindMatches C)
     (item : Option (Result Found MatchError)) (n : lazy.FindMatches C) : Type 0 where
   pub next : GivesNext (lazy_engine m).engine.program
       (IsLazyRefusal (lazy_engine m).dfa.asked) (lazy_left m) item (lazy_left n)
+  pub dfa : IfSome item (λ answer. OnErr answer
+      (IsAlphabetOf (lazy_engine m).engine.program (lazy_engine m).dfa))
   pub same_engine : lazy_engine n ≡ lazy_engine m
   pub same_cache : (lazy_cache n).ghost_name ≡ (lazy_cache m).ghost_name
   pub serves : lazy_serves n

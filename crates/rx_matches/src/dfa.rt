@@ -9,6 +9,7 @@ ghost use Rattle.std.specs.Option.{ForSome};
 ghost use Rattle.rx_input.specs.Cursors.{IsSameContent};
 ghost use Rattle.rx_input.specs.Searchers.{EndsInside};
 ghost use Rattle.rx_steps.specs.Searching.{search_of};
+ghost use Rattle.rx_dfa.specs.Alphabets.{IsAlphabetOf};
 ghost use Rattle.rx_chunk.specs.Engines.{Finds, IsFound};
 ghost use Rattle.rx_chunk.specs.Iterating.{EndsAhead, IsFoundNext, StartsFrom, matches_from};
 ghost use Rattle.rx_matches.specs.Matches.{IsDenseRefusal, dense_engine, dense_left};
@@ -49,7 +50,7 @@ fn search_back<C: Cursor>(
 /// span's start, takes no search back.
 ///
 /// The refusals are those of `try_search_fwd` and `try_search_rev`: `Quit`, with a byte of 128 or
-/// more of the slice, and `Memory`.
+/// more of the slice, where `dfa` says that `\b` or `\B` stands in the program; and `Memory`.
 pub fn try_search<C: Cursor>(re: &Regex, input: &mut Input<C>) -> Result<Option<Match>, MatchError>
     ensures answer { IfOk result (IsFound (Finds re.now.engine.program)
         (search_of re.now.engine.utf8_empty input.old)) }
@@ -59,6 +60,7 @@ pub fn try_search<C: Cursor>(re: &Regex, input: &mut Input<C>) -> Result<Option<
     ensures asked { input.new.asked ≡ input.old.asked }
     ensures refused { IfErr result (IsDenseRefusal re.now.automaton.dfa.asked
         (search_of re.now.engine.utf8_empty input.old)) }
+    ensures dfa { IsAlphabetOf re.now.engine.program re.now.automaton.dfa }
 {
     let _at = input.position(); // tells how long the content may be
     let Some(half) = try_search_fwd(re, input)? else {
@@ -84,6 +86,7 @@ pub fn find<C: Cursor>(re: &Regex, input: &mut Input<C>) -> Result<Option<Match>
     ensures asked { input.new.asked ≡ input.old.asked }
     ensures refused { IfErr result (IsDenseRefusal re.now.automaton.dfa.asked
         (search_of re.now.engine.utf8_empty input.old)) }
+    ensures dfa { IsAlphabetOf re.now.engine.program re.now.automaton.dfa }
 {
     try_search(re, input)
 }
@@ -102,6 +105,7 @@ fn find_next<C: Cursor>(
     ensures same { (start : ℕ) × StartsFrom input.old input.new start }
     ensures refused { IfErr result (IsDenseRefusal re.now.automaton.dfa.asked
         (search_of re.now.engine.utf8_empty input.old)) }
+    ensures dfa { IsAlphabetOf re.now.engine.program re.now.automaton.dfa }
 {
     let Some(found) = try_search(re, input)? else {
         return Ok(None);

@@ -9,6 +9,7 @@ ghost use Rattle.std.specs.Option.{ForSome};
 ghost use Rattle.rx_input.specs.Cursors.{IsSameContent};
 ghost use Rattle.rx_input.specs.Searchers.{EndsInside};
 ghost use Rattle.rx_steps.specs.Searching.{search_of};
+ghost use Rattle.rx_dfa.specs.Alphabets.{IsAlphabetOf};
 ghost use Rattle.rx_dfa.specs.Caches.{GivesUpLate};
 ghost use Rattle.rx_dfa.specs.Hybrid.{IsHybridCacheOf};
 ghost use Rattle.rx_chunk.specs.Engines.{Finds, IsFound};
@@ -55,7 +56,8 @@ fn search_back<C: Cursor>(
 /// afterwards, whatever is answered.
 ///
 /// The refusals are those of `try_search_fwd` and `try_search_rev`: `Quit`, with a byte of 128 or
-/// more of the slice, `GaveUp`, and `Memory`.
+/// more of the slice, where `dfa` says that `\b` or `\B` stands in the program; `GaveUp`; and
+/// `Memory`.
 pub fn try_search<C: Cursor>(
     re: &Regex,
     cache: &mut Cache,
@@ -71,6 +73,7 @@ pub fn try_search<C: Cursor>(
     ensures asked { input.new.asked ≡ input.old.asked }
     ensures refused { IfErr result (IsLazyRefusal re.now.dfa.asked
         (search_of re.now.engine.utf8_empty input.old)) }
+    ensures dfa { IsAlphabetOf re.now.engine.program re.now.dfa }
     ensures late { IfErr result (GivesUpLate cache.new.states) }
 {
     let _at = input.position(); // tells how long the content may be
@@ -103,6 +106,7 @@ pub fn find<C: Cursor>(
     ensures asked { input.new.asked ≡ input.old.asked }
     ensures refused { IfErr result (IsLazyRefusal re.now.dfa.asked
         (search_of re.now.engine.utf8_empty input.old)) }
+    ensures dfa { IsAlphabetOf re.now.engine.program re.now.dfa }
     ensures late { IfErr result (GivesUpLate cache.new.states) }
 {
     try_search(re, cache, input)
@@ -126,6 +130,7 @@ fn find_next<C: Cursor>(
     ensures same { (start : ℕ) × StartsFrom input.old input.new start }
     ensures refused { IfErr result (IsLazyRefusal re.now.dfa.asked
         (search_of re.now.engine.utf8_empty input.old)) }
+    ensures dfa { IsAlphabetOf re.now.engine.program re.now.dfa }
 {
     let Some(found) = try_search(re, cache, input)? else {
         return Ok(None);

@@ -30,11 +30,13 @@ mirror_of s i = length s.content - i
 abbrev pub byte_taken_back : Search → ℕ → Option ℕ
 byte_taken_back s i = cond (nat_lt (lowest s) i) (slice_get s.content (i - 1)) None
 
--- a search goes back from a place to the one before it, unless it is the first one inside
+-- a search goes back from a place to the one before it; at the first place inside, and before that,
+-- it stays where it is
 abbrev pub HasSteppedBack : Search → ℕ → ℕ → Type 0
 HasSteppedBack s i j = ((lowest s < i) × (j + 1 ≡ i)) ⊎ ((i ≤ lowest s) × (j ≡ i))
 
--- the step of walks back at a place, which all began at the span's end
+-- the step of walks back at a place, which all began at the span's end, or at the content's where
+-- that comes first
 abbrev pub IsStepBack : ByteProgram → Search → ℕ → List (ℕ × ℕ) → List (ℕ × ℕ) → Option ℕ → Type 0
 IsStepBack p s i nodes next met =
     IsStepAll (back_machine_in p s) (mirror_of s i) (started_at (mirror_of s s.end) nodes)

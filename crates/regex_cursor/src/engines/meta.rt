@@ -8,6 +8,7 @@ mod cache;
 mod captures_matches;
 mod config;
 mod dense;
+mod exact;
 mod find_matches;
 mod finder;
 mod left;

@@ -9,6 +9,8 @@ ghost use Rattle.rx_util.specs.declared.search.MatchKind.{MatchKind};
 ghost use Rattle.rx_util.specs.declared.search.Span.{Span};
 ghost use Rattle.rx_input.specs.Cursors.{IsSameContent};
 ghost use Rattle.rx_walks.specs.ProgramFinds.{highest, lowest};
+ghost use Rattle.rx_program.specs.Programs.{character_program};
+ghost use Rattle.rx_literals.specs.Literals.{IsLiteralOf};
 ghost use Rattle.rx_steps.specs.Searching.{search_of};
 ghost use Rattle.rx_steps.specs.Threads.{no_slots};
 ghost use Rattle.rx_chunk.specs.Engines.{EngineFinds, whole_span};
@@ -18,14 +20,17 @@ ghost use Rattle.regex_cursor.specs.Linear.{AreBehind, FindAlike, GivesSlots, Ha
 ghost use Rattle.regex_cursor.specs.Linear.{IsListedFor, IsRestOf};
 ghost use Rattle.regex_cursor.specs.Linear.{TellsWhatComes, all_places, left_of, linear_from};
 ghost use Rattle.regex_cursor.specs.Linear.{passed_over, places_read};
+ghost use Rattle.regex_cursor.specs.Literals.{AsksInSlice};
 ghost use Rattle.regex_cursor.specs.Regexes.{IsCacheOf, search_by};
 
 use super::cache::Cache;
+use super::exact::{asks_in_slice, next_occurrence};
 use super::regex::Regex;
 use counters::Counter;
 use rx_chunk::pikevm::match_in;
 use rx_input::{Cursor, Input};
 use rx_lists::{ListedMatch, list_matches};
+use rx_literals::Prefilter;
 use rx_steps::{clear_slots, last_place};
 use rx_util::{HalfMatch, MatchError, MatchKind, NonMaxUsize, PatternID};
 use std::marker::Model;
@@ -426,6 +431,49 @@ impl<C: Cursor> LinearMatches<C> {
         Ok(self.go_on(found?))
     }
 
+    /// What comes next, where each match is a literal: its next occurrence in the span, with no
+    /// engine and no cache. What is read is counted.
+    fn next_literal(
+        &mut self,
+        re: &Regex,
+        needle: &Prefilter,
+        slots: &mut [Option<NonMaxUsize>],
+        read: &mut Counter,
+    ) -> Option<PatternID>
+        requires literal { IsLiteralOf needle.now (character_program re.now.engine.program) }
+        requires first { re.now.engine.match_kind ≡ MatchKind.LeftmostFirst }
+        requires asks { AsksInSlice self.old.input.asked }
+        requires on { self.old.is_over ≡ false }
+        requires alone { self.old.rest ≡ None }
+        requires room { self.old.finds_read
+            ≤ 3 * (lowest (search_of true self.old.input) - self.old.first)
+            + all_places self.old + 10 }
+        ensures next { GivesSlots (EngineFinds re.now.engine) (left_of re.now.engine self.old)
+            result slots.new (left_of re.now.engine self.new) }
+        ensures same { (start : ℕ) × StartsFrom self.old.input self.new.input start }
+        ensures first { self.new.first ≡ self.old.first }
+        ensures alone { self.new.rest ≡ None }
+        ensures counted { read.new + self.old.finds_read ≡ read.old + self.new.finds_read }
+        ensures few { self.new.finds_read ≤ 4 * all_places self.old + 10 }
+    {
+        let from = self.input.get_slice().start.max(self.input.start());
+        self.is_over = true;
+        let (found, end) = next_occurrence(re, needle, &mut self.input, slots, self.last_end);
+        let find = Find {
+            counts: true,
+            from,
+            places: end.saturating_sub(from),
+        };
+        count_if(
+            find,
+            &mut self.last,
+            &mut self.input,
+            &mut self.finds_read,
+            read,
+        );
+        self.go_on(found)
+    }
+
     /// Lists the further matches, each with so many slots. The one refusal is `Memory`, after which
     /// no more come.
     fn list_rest(
@@ -570,10 +618,10 @@ impl<C: Cursor> LinearMatches<C> {
     /// `None` behind the last match, and after an error. The one error is `Memory`: then no slot
     /// holds a place.
     ///
-    /// `read` counts the places that it reads, where the regex finds the leftmost match. Where as
-    /// many slots are asked for each time, all calls together read at most ten times as many places
-    /// as there are inside span, slice and content, and ten; if more are asked for than were
-    /// listed, the list is made again.
+    /// `read` counts the places that it reads, where the regex finds the leftmost match: of one
+    /// find at most three times those that lie ahead. Where as many slots are asked for each time,
+    /// all calls together count at most ten times as many places as there are inside span, slice
+    /// and content, and ten; if more are asked for than were listed, the list is made again.
     ///
     /// Requires that the cache is one for this regex, as it is afterwards too, two slots for each
     /// of its patterns or more, and a regex that finds the same as the one before.
@@ -615,6 +663,11 @@ impl<C: Cursor> LinearMatches<C> {
         let kind = re.vm().match_kind();
         if self.rest.is_some() || self.is_due(kind) {
             return self.next_by_list(re, cache, slots, read);
+        }
+        if let Some(needle) = re.whole_literal() {
+            if asks_in_slice(&self.input) {
+                return Ok(self.next_literal(re, needle, slots, read));
+            }
         }
         let counts = kind == MatchKind::LeftmostFirst;
         self.next_found(re, cache, slots, counts, read)

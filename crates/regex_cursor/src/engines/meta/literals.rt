@@ -1,9 +1,10 @@
-//! The literals that a program's matches begin with, or are.
+//! The literals that a program's matches begin with, are, or contain.
 
 ghost use Rattle.std.specs.Prelude.{◌≡◌, IfOk, IfSome, None, false};
 ghost use Rattle.rx_program.specs.Programs.{character_program};
 ghost use Rattle.rx_literals.specs.Beginnings.{MatchesBeginWith};
 ghost use Rattle.rx_literals.specs.Literals.{IsLiteralOf};
+ghost use Rattle.rx_literals.specs.Requirements.{MatchesContain};
 ghost use Rattle.regex_cursor.specs.Configs.{WantsNoLiterals, auto_prefilter_of, prefilter_of};
 ghost use Rattle.regex_cursor.specs.Literals.{AreLiteralsOf, no_literals};
 
@@ -13,13 +14,15 @@ use rx_program::Program;
 use rx_util::MatchKind;
 use std::alloc::{AllocError, Global};
 
-/// What is known of the literals that a program's matches begin with.
+/// What is known of the literals in a program's matches.
 #[derive(Debug, Drop)]
 pub(super) struct Literals {
     /// Those of which each match begins with one, if they are known.
     pub(super) beginnings: Option<Prefilter>,
     /// The one that each match is, if that is known.
     pub(super) whole: Option<Prefilter>,
+    /// One that each match contains, if it is known and none are that matches begin with.
+    pub(super) required: Option<Prefilter>,
 }
 
 impl Literals {
@@ -36,7 +39,12 @@ impl Literals {
     {
         let beginnings = beginnings_of(alloc, program, config)?;
         let whole = literal_of(alloc, program, config)?;
-        Ok(Literals { beginnings, whole })
+        let required = required_of(alloc, program, config, &beginnings)?;
+        Ok(Literals {
+            beginnings,
+            whole,
+            required,
+        })
     }
 }
 
@@ -92,6 +100,26 @@ fn literal_of(
 {
     if config.get_auto_prefilter() {
         Prefilter::of_literal(alloc, program)
+    } else {
+        Ok(None)
+    }
+}
+
+/// A literal that each match contains, if one is read from the program. None is read where it is
+/// known what matches begin with.
+fn required_of(
+    alloc: Global,
+    program: &Program,
+    config: &Config,
+    beginnings: &Option<Prefilter>,
+) -> Result<Option<Prefilter>, AllocError>
+    ensures contained { IfOk result (λ required. IfSome required
+        (λ needles. MatchesContain needles (character_program program.now))) }
+    ensures unwanted { IfOk result
+        (λ required. auto_prefilter_of config.now ≡ false → required ≡ None) }
+{
+    if beginnings.is_none() && config.get_auto_prefilter() {
+        Prefilter::required(alloc, program)
     } else {
         Ok(None)
     }

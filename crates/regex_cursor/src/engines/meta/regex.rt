@@ -9,6 +9,8 @@ ghost use Rattle.rx_util.specs.declared.search.MatchError.{MatchError};
 ghost use Rattle.rx_util.specs.declared.search.MatchKind.{MatchKind};
 ghost use Rattle.rx_util.specs.Captured.{nothing_noted};
 ghost use Rattle.rx_util.specs.Groups.{slot_len};
+ghost use Rattle.rx_program.specs.Programs.{character_program};
+ghost use Rattle.rx_literals.specs.Literals.{IsLiteralOf};
 ghost use Rattle.rx_steps.specs.Threads.{no_slots};
 ghost use Rattle.rx_chunk.specs.Iterating.{IsNextAnswer, StartsFrom};
 ghost use Rattle.regex_cursor.specs.Capturing as capturing;
@@ -18,7 +20,7 @@ ghost use Rattle.regex_cursor.specs.Iterating.{GivesAll, left_of, matches_from, 
 ghost use Rattle.regex_cursor.specs.Patterns.{HasNoMatchBetween};
 ghost use Rattle.regex_cursor.specs.Configs.{WantsNoLiterals, default_regex, none_set};
 ghost use Rattle.regex_cursor.specs.Strategies.{regex_of as regex_with};
-ghost use Rattle.regex_cursor.specs.Regexes.{AreRefusedAsRegex, EngineFinds, HasRoom, HoldsMatches, IsCacheOf, IsRefusedAsRegex, IsRegex, IsRegexOf, IsRegexOfAll, TellsHalf, TellsMatch, TellsSlots, TellsWhether, TellsWhole, search_by};
+ghost use Rattle.regex_cursor.specs.Regexes.{AreRefusedAsRegex, EngineFinds, HasNoFindBetween, HasRoom, HoldsMatches, IsCacheOf, IsRefusedAsRegex, IsRegex, IsRegexOf, IsRegexOfAll, TellsHalf, TellsMatch, TellsSlots, TellsWhether, TellsWhole, search_by};
 
 use super::builder::Builder;
 use super::cache::Cache;
@@ -31,6 +33,7 @@ use super::split_n::SplitN;
 use super::strategy::Strategy;
 use rx_chunk::pikevm::PikeVM;
 use rx_input::{Cursor, Input};
+use rx_literals::Prefilter;
 use rx_program::BuildError;
 use rx_steps::clear_slots;
 use rx_util::{Captures, GroupInfo, HalfMatch, Match, MatchError, NonMaxUsize, PatternID};
@@ -124,6 +127,16 @@ impl Regex {
         ensures { result.now ≡ self.now.engine }
     {
         self.strategy.vm()
+    }
+
+    /// The literal that each match is, if it is known and the leftmost match is found.
+    pub(super) fn whole_literal(&self) -> Option<&Prefilter>
+        ensures first { IfSome result
+            (λ needle. self.now.engine.match_kind ≡ MatchKind.LeftmostFirst) }
+        ensures is_literal { IfSome result
+            (λ needle. IsLiteralOf needle.now (character_program self.now.engine.program)) }
+    {
+        self.strategy.whole_literal()
     }
 
     /// Returns the same regex, which shares what it was compiled to. The one error is `Memory`.
@@ -436,18 +449,21 @@ impl Regex {
             .next_slots(cache, input, slots, last_match_end)
     }
 
-    /// Returns a place of the input's span up to which no match lies, told by the literals that
-    /// each match begins with: in the content from the span's start up to there no part, searched
-    /// by itself, has a match. It is where the first of these literals lies in the span, or the
-    /// span's end, which may lie behind the content's. `None` where no such literals are known.
-    /// Span, slice, anchoring and `earliest` of the input stay as they are. It asks for no memory.
+    /// Returns an offset of the input's span before which no match lies, found by literals of which
+    /// each match begins with one, or contains one: no part of the content from the span's start up
+    /// to there has a match, searched by itself. It is where the first of these literals is in the
+    /// span, or the span's end, which may lie behind the content's. `None` where no such literals
+    /// are known. Span, slice, anchoring and `earliest` of the input stay as they are. It asks for
+    /// no memory.
     ///
     /// Where there is one literal, it takes time in proportion to the bytes and pieces up to the
-    /// place.
+    /// offset.
     pub fn no_match_before<C: Cursor>(&self, input: &mut Input<C>) -> Option<usize>
         ensures no_match { (text : List ℕ) → (built : IsRegexOf text self.now)
             → IfSome result (λ place. HasNoMatchBetween built.tree input.old.cursor.content
             input.old.asked.span.start place) }
+        ensures no_find { IfSome result (λ place. HasNoFindBetween self.now.engine
+            input.old.cursor.content input.old.asked.span.start place) }
         ensures within { IfSome result (λ place. place ≤ input.old.asked.span.end) }
         ensures asked { input.new.asked ≡ input.old.asked }
         ensures same { IsSameContent input.old.cursor input.new.cursor }

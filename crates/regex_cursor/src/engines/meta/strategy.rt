@@ -11,7 +11,8 @@ ghost use Rattle.rx_input.specs.Cursors.{IsSameContent};
 ghost use Rattle.rx_input.specs.Searchers.{EndsInside};
 ghost use Rattle.rx_walks.specs.Finds.{from_place_on};
 ghost use Rattle.rx_program.specs.Programs.{character_program};
-ghost use Rattle.rx_literals.specs.Beginnings.{MatchesBeginWith};
+ghost use Rattle.rx_literals.specs.Literals.{IsLiteralOf};
+ghost use Rattle.rx_literals.specs.Requirements.{MatchesContain};
 ghost use Rattle.rx_dfa.specs.Searching.{IsHalfAnswer};
 ghost use Rattle.rx_steps.specs.Threads.{no_slots};
 ghost use Rattle.rx_engine.specs.Engines.{IsEngine};
@@ -27,6 +28,7 @@ ghost use Rattle.regex_cursor.specs.Strategies.{AreKeptFor, IsLeft, IsNextLeft, 
 use super::cache::{Cache, Kept};
 use super::config::Config;
 use super::dense::{bytes_of_states, closed_of, state_count};
+use super::exact::{asks_in_slice, find_occurrence};
 use super::left::{Left, Part, Start, Told, find_literal, half_of, put_back, start_of_literal};
 use super::literals::Literals;
 use super::{ahead, leftmost};
@@ -267,12 +269,28 @@ impl Strategy {
         self.closed.is_some() || self.config().get_hybrid() && kept.pays()
     }
 
-    /// The prefilter of what each match begins with, if one is known.
+    /// The prefilter of what each match begins with or contains, if one is known.
     pub(super) fn prefilter(&self) -> Option<&Prefilter>
-        ensures begins { IfSome result
-            (λ needles. MatchesBeginWith needles.now (character_program self.now.vm.program)) }
+        ensures contained { IfSome result
+            (λ needles. MatchesContain needles.now (character_program self.now.vm.program)) }
     {
-        self.literals.beginnings.as_ref()
+        match &self.literals.beginnings {
+            Some(beginnings) => Some(beginnings),
+            None => self.literals.required.as_ref(),
+        }
+    }
+
+    /// The literal that each match is, if it is known and the leftmost match is found.
+    pub(super) fn whole_literal(&self) -> Option<&Prefilter>
+        ensures first { IfSome result
+            (λ needle. self.now.vm.match_kind ≡ MatchKind.LeftmostFirst) }
+        ensures is_literal { IfSome result
+            (λ needle. IsLiteralOf needle.now (character_program self.now.vm.program)) }
+    {
+        match self.vm().match_kind() {
+            MatchKind::LeftmostFirst => self.literals.whole.as_ref(),
+            MatchKind::All => None,
+        }
     }
 
     /// Where the match ends, by the automaton. Where all states are made already, those that are
@@ -747,6 +765,11 @@ impl Strategy {
         ensures refused { IfErr result (λ error. error ≡ MatchError.Memory) }
     {
         let last = last_match_end;
+        if let Some(needle) = self.whole_literal() {
+            if asks_in_slice(input) {
+                return Ok(find_occurrence(needle, input));
+            }
+        }
         match self.vm().match_kind() {
             MatchKind::LeftmostFirst => leftmost::find_next(self, cache, input, last),
             MatchKind::All => pikevm::find_next(self.vm(), &mut cache.kept.vm, input, last),

@@ -1,4 +1,4 @@
-use Rattle.std.proofs.Common.{◌*◌, ◌≤◌, length, refl, arith}
+use Rattle.std.proofs.Common.{inl, ◌*◌, ◌≤◌, length, refl, arith}
 use Rattle.rx_steps.specs.Searching.{search_of}
 use Rattle.rx_chunk.proofs.IterLaws.{all_end}
 use Rattle.rx_chunk.proofs.NextLaws.{found_next, in_order, nothing_next}
@@ -37,3 +37,6 @@ returns-clause-ahead g c =
 
 pub returns-in_err-slots-clause-same : goal.returns-in_err-slots-clause-same
 returns-in_err-slots-clause-same g c = (c.args.input.now.asked.span.start, record { same = record { content = refl; is_sized = refl }; asked = refl })
+
+pub returns-in_err-slots-clause-start : goal.returns-in_err-slots-clause-start
+returns-in_err-slots-clause-start g c = inl refl

@@ -1,4 +1,4 @@
-use Rattle.std.proofs.Common.{◌≡◌, ◌+◌, ◌*◌, ◌≤◌, ◌<◌, ◌^◌, length, arith, ap, subst, ◌∙◌}
+use Rattle.std.proofs.Common.{inl, inr, ◌≡◌, ◌+◌, ◌*◌, ◌≤◌, ◌<◌, ◌^◌, length, arith, ap, subst, ◌∙◌}
 use Rattle.rx_walks.specs.Finds.{from_place_on}
 use Rattle.rx_steps.specs.Searching.{search_of}
 use Rattle.rx_chunk.specs.Engines.{EngineFinds, IsAnswer}
@@ -20,6 +20,21 @@ returns-then-not-is_empty_at_last-clause-answer g c =
     let room : 2 * length vm.groups ≤ length c.seek.new.slots = omega (arith, c.requires.slots) in
     next_some vm (notes_places vm c.seek.ensures.engine) (search_of vm.utf8_empty c.args.input.now) c.args.last_match_end c.in_ok-pattern.field-0 c.in-Some.pattern c.seek.new.slots c.in-Some.is room
     c.in_ok-pattern.ensures.answer (c.is_empty_at_last.ensures.elsewhere c.if-not-is_empty_at_last.true)
+
+-- ---- where the span starts then
+pub returns-in_err-pattern-clause-start : goal.returns-in_err-pattern-clause-start
+returns-in_err-pattern-clause-start g c = inl (ap (λ a. a.span.start) c.in_err-pattern.ensures.asks.asked)
+
+pub returns-in_default-clause-start : goal.returns-in_default-clause-start
+returns-in_default-clause-start g c = inl (ap (λ a. a.span.start) c.in_ok-pattern.ensures.asks.asked)
+
+pub returns-then-not-is_empty_at_last-clause-start : goal.returns-then-not-is_empty_at_last-clause-start
+returns-then-not-is_empty_at_last-clause-start g c = inl (ap (λ a. a.span.start) c.in_ok-pattern.ensures.asks.asked)
+
+pub returns-clause-start : goal.returns-clause-start
+returns-clause-start g c =
+    inr (ap (λ a. a.span.start) c.seek-2.ensures.asks.asked ∙ ap (λ a. a.span.start) c.set_start.ensures.asked_is
+    ∙ ap (λ k. k + 1) (c.start-start.ensures ∙ ap (λ a. a.span.start) c.in_ok-pattern.ensures.asks.asked))
 
 -- ---- an empty match there
 pub overflow_add-start : goal.overflow_add-start

@@ -22,7 +22,7 @@ returns-clause-stand g c = λ b inside.
       behind = omega (arith, c.if-at-first.false, c.first_place-first.ensures b, c.position-at.ensures.position);
       small = omega (arith, c.position-at.type_inv, c.position-at.ensures.position);
       end_is = omega (arith, c.min-end.ensures, c.saturating_add.ensures);
-      few_is = omega (arith, c.min-few.ensures, c.first_place-first.ensures b, c.position-at.ensures.position);
+      few_is = omega (arith, c.min-few.ensures, c.min-inside.ensures, c.first_place-first.ensures b, c.position-at.ensures.position);
     } in
     let turned : IsTurned c.chunk-piece.result.now c.turned.result.0 c.turned.result.1 c.min-end.result c.min-few.result = record { len = c.turned.ensures.len; each = c.turned.ensures.each } in
     stand_before s i shown.cursor c.chunk-piece.result.now c.chunk_pos.result c.min-end.result c.min-few.result shows c.turned.result.0 c.turned.result.1 turned
