@@ -16,7 +16,8 @@ use crate::rope::Rope;
 pub use ropey_walk::iter::{Bytes, Chars, Chunks, Lines};
 
 impl Rope {
-    /// Returns an iterator over the bytes, before the first.
+    /// Returns an iterator over the bytes, before the first. A loop over the bytes of `chunks()`
+    /// can be vectorized, and one over these can't.
     pub fn bytes(&self) -> Bytes<'_>
         ensures { result ≡ before_item 0 (encode_utf8_all (text_of self.now)) }
     {

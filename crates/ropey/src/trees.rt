@@ -13,6 +13,7 @@ use crate::rope::{MAX_TEXT_BYTES, Rope};
 use ropey_tree::MIN_BYTES;
 use ropey_tree::cutter::leaves_of;
 use ropey_tree::edits::replace_in_leaf;
+use ropey_tree::halves::{split_back, split_front};
 use ropey_tree::made::Made;
 use ropey_tree::node::Node;
 use ropey_tree::seams::append;
@@ -117,15 +118,13 @@ fn around(alloc: Global, node: &Rc<Node>, from: usize, to: usize) -> Result<Halv
         (text_of (pieces_in halves.left) ++ text_of (pieces_in halves.right))) }
     ensures place { IfOk result (λ halves. byte_len (text_of (pieces_in halves.left)) ≡ from) }
 {
-    let front = halves_at(alloc, node, from)?;
     if from == to {
-        return Ok(front);
+        let halves = halves_at(alloc, node, from)?;
+        return Ok(halves);
     }
-    let back = halves_at(alloc, node, to)?;
-    Ok(Halves {
-        left: front.left,
-        right: back.right,
-    })
+    let left = split_front(alloc, node, from, &mut Visits::new())?;
+    let right = split_back(alloc, node, to, &mut Visits::new())?;
+    Ok(Halves { left, right })
 }
 
 /// The tree, of `len` bytes, with a text in the place of what stands from one byte index up to

@@ -18,3 +18,12 @@ pub record IsSplit (pieces : List (List ℕ)) (at : ℕ) (left right : List (Lis
   pub place : (total left).bytes ≡ at
   pub after : (before : List (List ℕ)) → IsRopeText (before ++ pieces) → IsRopeText (before ++ left)
   pub before : (after : List (List ℕ)) → IsRopeText (pieces ++ after) → IsRopeText (right ++ after)
+
+-- the text before a byte index, and the one behind it, each as a part of a split of which the other need not be built
+pub record IsFrontOf (pieces : List (List ℕ)) (at : ℕ) (front : List (List ℕ)) : Type 0 where
+  pub rest : List (List ℕ)
+  pub split : IsSplit pieces at front rest
+
+pub record IsBackOf (pieces : List (List ℕ)) (at : ℕ) (back : List (List ℕ)) : Type 0 where
+  pub front : List (List ℕ)
+  pub split : IsSplit pieces at front back

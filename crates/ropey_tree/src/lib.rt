@@ -9,6 +9,7 @@ pub mod counts;
 pub mod cutter;
 pub mod edits;
 pub mod error;
+pub mod halves;
 pub mod joins;
 pub mod laws;
 pub mod leaf;

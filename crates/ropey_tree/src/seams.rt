@@ -15,9 +15,9 @@ ghost use Rattle.ropey_tree.specs.Seams.{StandsBetween};
 ghost use Rattle.ropey_tree.specs.Splits.{pieces_in};
 
 use crate::counts::By;
+use crate::halves::{split_back, split_front};
 use crate::leaf::{Leaf, LeafBuffer, fill_end};
 use crate::node::{Node, leaf_at};
-use crate::splits::{Halves, split};
 use crate::visits::Visits;
 use crate::{MAX_BYTES, MIN_BYTES, joins};
 use std::alloc::{AllocError, Global};
@@ -154,8 +154,8 @@ fn append_both(alloc: Global, left: &Rc<Node>, right: &Rc<Node>) -> Result<Rc<No
         let tree = joins::concat(alloc, left, right)?;
         return Ok(tree);
     };
-    let Halves { left: before, .. } = split(alloc, left, start + from, &mut Visits::new())?;
-    let Halves { right: after, .. } = split(alloc, right, to, &mut Visits::new())?;
+    let before = split_front(alloc, left, start + from, &mut Visits::new())?;
+    let after = split_back(alloc, right, to, &mut Visits::new())?;
     let middle = leaf.into_leaf(alloc)?;
     let leaf = Rc::new(alloc, Node::from_leaf(middle))?;
     let back = match after {

@@ -59,7 +59,7 @@ fn split_leaf(alloc: Global, node: &Rc<Node>, leaf: &Leaf, at: usize) -> Result<
 }
 
 /// A tree over the children from one index up to another.
-fn tree_over(
+pub(crate) fn tree_over(
     alloc: Global,
     height: usize,
     children: &Children,

@@ -61,14 +61,14 @@ overflow_add-start t c =
     let left_is = rw c.deref.ensures at c.height.ensures.tree.text in
     omega (arith, between.place, bytes-concat c.args.left.now.value.pieces, ap byte_len between.left_is, byte_len-append between.front between.last, left_is.fits)
 
-pub split-requires : goal.split-requires
-split-requires t c =
-    let a = (goal.at.split-requires t c).In-Some in
+pub split_front-requires : goal.split_front-requires
+split_front-requires t c =
+    let a = (goal.at.split_front-requires t c).In-Some in
     left_boundary c.args.left.now.value.pieces c.args.right.now.value.pieces c.in-Some.field-0.leaf (c.counts-end.result.bytes - length c.as_str.result.now + c.in-Some.field-0.from) c.in-Some.field-0.to (seam_is t a)
 
-pub split-requires-2 : goal.split-requires-2
-split-requires-2 t c =
-    let a = (goal.at.split-requires-2 t c).In-Some in
+pub split_back-requires : goal.split_back-requires
+split_back-requires t c =
+    let a = (goal.at.split_back-requires t c).In-Some in
     right_boundary c.args.left.now.value.pieces c.args.right.now.value.pieces c.in-Some.field-0.leaf (c.counts-end.result.bytes - length c.as_str.result.now + c.in-Some.field-0.from) c.in-Some.field-0.to (seam_is t a)
 
 pub append_both-requires : goal.append_both-requires
@@ -78,20 +78,20 @@ append_both-requires t c =
     let qs = c.args.right.now.value.pieces in
     let mid = c.in-Some.field-0.leaf in
     let at = c.counts-end.result.bytes - length c.as_str.result.now + c.in-Some.field-0.from in
-    let l = pieces_in c.in_ok-before.field-0.left in
-    let x = pieces_in c.in_ok-before.field-0.right in
-    let y = pieces_in c.in_ok-after.field-0.left in
-    let r = pieces_in c.in_ok-after.field-0.right in
-    let low = shorter ps qs mid at c.in-Some.field-0.to (seam_is t a) l x y r c.in-Some.ensures.some c.requires.fits c.in_ok-before.ensures.halves c.in_ok-after.ensures.halves in
-    let fits = rest_fits ps qs mid at c.in-Some.field-0.to (seam_is t a) l x y r c.in-Some.ensures.some c.requires.fits c.in_ok-before.ensures.halves c.in_ok-after.ensures.halves in
+    let l = pieces_in c.in_ok-before.before in
+    let x = c.in_ok-before.ensures.front.rest in
+    let y = c.in_ok-after.ensures.back.front in
+    let r = pieces_in c.in_ok-after.after in
+    let low = shorter ps qs mid at c.in-Some.field-0.to (seam_is t a) l x y r c.in-Some.ensures.some c.requires.fits c.in_ok-before.ensures.front.split c.in_ok-after.ensures.back.split in
+    let fits = rest_fits ps qs mid at c.in-Some.field-0.to (seam_is t a) l x y r c.in-Some.ensures.some c.requires.fits c.in_ok-before.ensures.front.split c.in_ok-after.ensures.back.split in
     let rest : r ≡ c.in-Some-after.rest.value.pieces = ap pieces_in c.in-Some-after.is in
     let leaf : c.in_ok-leaf.leaf.value.pieces ≡ mid ∷ [] = ap (λ v. v.pieces) (c.in_ok-leaf.ensures.ok ∙ c.from_leaf.ensures ∙ ap leaf_view c.in_ok-middle.ensures.text) in
     let rest_bytes = ap (λ ps. (total ps).bytes) rest in
     (omega (arith, c.decreases, low, rest_bytes), omega (arith, fits, rest_bytes, ap (λ ps. (total ps).bytes) leaf, sum_by-cons byte_len mid []))
 
 record Joins (t : ℕ) (c : After-height-3 t) : Type 0 where
-  whole : IsRopeText (pieces_in c.in_ok-before.field-0.left ++ c.match-after-3.back.value.pieces)
-  text : concat (pieces_in c.in_ok-before.field-0.left ++ c.match-after-3.back.value.pieces) ≡ concat c.args.left.now.value.pieces ++ concat c.args.right.now.value.pieces
+  whole : IsRopeText (pieces_in c.in_ok-before.before ++ c.match-after-3.back.value.pieces)
+  text : concat (pieces_in c.in_ok-before.before ++ c.match-after-3.back.value.pieces) ≡ concat c.args.left.now.value.pieces ++ concat c.args.right.now.value.pieces
 
 joins : (t : ℕ) (c : After-height-3 t) → StandsBetween c.args.left.now.value.pieces (c.counts-end.result.bytes - length c.as_str.result.now + c.in-Some.field-0.from) c.in-Some.field-0.leaf c.args.right.now.value.pieces c.in-Some.field-0.to → Joins t c
 joins t c between =
@@ -99,10 +99,10 @@ joins t c between =
     let qs = c.args.right.now.value.pieces in
     let mid = c.in-Some.field-0.leaf in
     let at = c.counts-end.result.bytes - length c.as_str.result.now + c.in-Some.field-0.from in
-    let l = pieces_in c.in_ok-before.field-0.left in
-    let x = pieces_in c.in_ok-before.field-0.right in
-    let y = pieces_in c.in_ok-after.field-0.left in
-    let r = pieces_in c.in_ok-after.field-0.right in
+    let l = pieces_in c.in_ok-before.before in
+    let x = c.in_ok-before.ensures.front.rest in
+    let y = c.in_ok-after.ensures.back.front in
+    let r = pieces_in c.in_ok-after.after in
     let bs = c.match-after-3.back.value.pieces in
     let leaf : c.in_ok-leaf.leaf.value.pieces ≡ mid ∷ [] = ap (λ v. v.pieces) (c.in_ok-leaf.ensures.ok ∙ c.from_leaf.ensures ∙ ap leaf_view c.in_ok-middle.ensures.text) in
     let one : concat c.in_ok-leaf.leaf.value.pieces ≡ mid = ap concat leaf ∙ append-nil mid in
@@ -114,8 +114,8 @@ joins t c between =
     let left_is = rw c.deref.ensures at c.height.ensures.tree.text in
     let back_is = rw c.deref-7.ensures at c.height-3.ensures.tree.text in
     record {
-      whole = whole_text ps qs mid at c.in-Some.field-0.to between l x y r c.in-Some.ensures.some c.requires.fits c.in_ok-before.ensures.halves c.in_ok-after.ensures.halves bs left_is back_is joined;
-      text = whole_concat ps qs mid at c.in-Some.field-0.to between l x y r c.in-Some.ensures.some c.requires.fits c.in_ok-before.ensures.halves c.in_ok-after.ensures.halves bs left_is back_is joined;
+      whole = whole_text ps qs mid at c.in-Some.field-0.to between l x y r c.in-Some.ensures.some c.requires.fits c.in_ok-before.ensures.front.split c.in_ok-after.ensures.back.split bs left_is back_is joined;
+      text = whole_concat ps qs mid at c.in-Some.field-0.to between l x y r c.in-Some.ensures.some c.requires.fits c.in_ok-before.ensures.front.split c.in_ok-after.ensures.back.split bs left_is back_is joined;
     }
 
 pub behind-requires : goal.behind-requires
