@@ -25,6 +25,8 @@
 # The version of the program and the library. The manifests of bindings/rust and bindings/node repeat it, and a
 # test compares them.
 version := $(shell cat VERSION)
+# The name by which a program finds the shared library when it runs: up to 1.0 its number is the first two of the version.
+soname := librope_search.so.$(basename $(version))
 PREFIX ?= /usr/local
 
 # The command of the Rattle kit; make RT=PROGRAM names another.
@@ -88,11 +90,12 @@ bin/librope_search.a: bin/librope_search_c.a
 	@rm -f $@.new && printf 'create $@.new\naddlib $<\naddlib $(heap)\nsave\nend\n' | $(AR) -M && mv $@.new $@
 
 # It shows the calls of include/rope_search.h and nothing else.
-bin/librope_search.so: bin/librope_search_c.a
+bin/librope_search.so: bin/librope_search_c.a VERSION
 	@:$(need_rt)
 	@printf '{ global: rope_search_*; local: *; };\n' > $@.map
-	@$(CC) -shared -o $@.new -Wl,-soname,librope_search.so -Wl,--version-script,$@.map \
+	@$(CC) -shared -o $@.new -Wl,-soname,$(soname) -Wl,--version-script,$@.map \
 		-Wl,--whole-archive $< -Wl,--no-whole-archive $(heap) && rm $@.map && mv $@.new $@
+	@ln -sf $(@F) bin/$(soname)
 
 bin/rope_search.pc: bin/librope_search.a VERSION
 	@printf 'prefix=%s\nName: rope_search\nDescription: %s\nVersion: %s\nCflags: -I$${prefix}/include\nLibs: -L$${prefix}/bin -lrope_search\n' \
@@ -108,7 +111,8 @@ define put_down
 	@install -m 755 $(program) '$(root)/bin'
 	@install -m 644 include/rope_search.h '$(root)/include'
 	@install -m 644 bin/librope_search.a '$(root)/lib'
-	@install -m 755 bin/librope_search.so '$(root)/lib'
+	@install -m 755 bin/librope_search.so '$(root)/lib/$(soname)'
+	@ln -sf $(soname) '$(root)/lib/librope_search.so'
 	@sed -e 's|^prefix=.*|prefix=$${pcfiledir}/../..|' -e 's|/bin -l|/lib -l|' bin/rope_search.pc > '$(root)/lib/pkgconfig/rope_search.pc'
 	@sed 's/@VERSION@/$(version)/' docs/rope-search.1 > '$(root)/share/man/man1/rope-search.1'
 	@install -m 644 $(pages) '$(root)/share/doc/rope-search'

@@ -14,7 +14,6 @@ int main(int argc, char **argv)
     double *typed = malloc(count * sizeof *typed), *undone = malloc(count * sizeof *undone);
     double *shown = malloc(count * sizeof *shown);
     rope_search session = {0};
-    rope_search_ticks ticks = {0, 0, 0};
     rope_search_span spans[256];
     const uint8_t *pattern = (const uint8_t *)"y\\(\\w+";
     size_t line = 7;
@@ -22,7 +21,7 @@ int main(int argc, char **argv)
         return 2;
     for (i = 0; i < lines; i++)
         len += sprintf(text + len, "line %lu of the text: let x = y(a, b);\n", (unsigned long)i);
-    if (rope_search_open((size_t)1 << 30, ticks, &session) || rope_search_set_text(&session, (const uint8_t *)text, len)
+    if (rope_search_open((size_t)1 << 30, &session) || rope_search_set_text(&session, (const uint8_t *)text, len)
         || rope_search_set_pattern(&session, pattern, 6))
         return 3;
     for (i = 0; i < count; i++) {

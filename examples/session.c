@@ -27,8 +27,7 @@ int main(void)
 {
     static const char text[] = "let one = two(1);\nlet three = one;\n", pattern[] = "\\bone\\b";
     rope_search session = {0};
-    rope_search_ticks ticks = {0, 0, 0};
-    uint32_t status = rope_search_open((size_t)1 << 30, ticks, &session);
+    uint32_t status = rope_search_open((size_t)1 << 30, &session);
     if (status == ROPE_SEARCH_DONE)
         status = rope_search_set_text(&session, (const uint8_t *)text, sizeof text - 1);
     if (status == ROPE_SEARCH_DONE)

@@ -19,7 +19,7 @@ class Session {
     }
 
   public:
-    explicit Session(size_t limit = size_t(1) << 30) { check(rope_search_open(limit, {0, 0, 0}, &handle_)); }
+    explicit Session(size_t limit = size_t(1) << 30) { check(rope_search_open(limit, &handle_)); }
     Session(Session &&other) noexcept { std::swap(handle_, other.handle_); }
     Session(const Session &) = delete;
     Session &operator=(Session other) noexcept

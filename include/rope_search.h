@@ -11,7 +11,7 @@
  * UTF-8; LF, CR and CR LF end a line, and nothing else does.
  *
  *     rope_search session = {0};
- *     if (rope_search_open(1 << 30, (rope_search_ticks){0}, &session) != ROPE_SEARCH_DONE) ...
+ *     if (rope_search_open(1 << 30, &session) != ROPE_SEARCH_DONE) ...
  *     ...
  *     rope_search_close(&session);
  *
@@ -26,8 +26,33 @@
  *   it was given, and what a call writes to overlaps nothing else that it was given.
  * - `malloc`, `realloc` and `free` are of one allocator, which aligns to 16 bytes.
  *
- * A call of a closed session is harmless: it answers ROPE_SEARCH_CLOSED, or 0, or false. No call
- * ends the program: where memory is refused, that is told, and nothing has changed.
+ * - A thread that calls has 128 kB of stack: with that much the calls are tested.
+ *
+ * A call of a closed session is harmless: it answers ROPE_SEARCH_CLOSED, or 0, or false, and writes
+ * nothing. No call ends the program: where memory is refused, that is told, and nothing has changed.
+ * No call can be stopped.
+ *
+ * What calls cost, for a text of n bytes; O(log n) is some microseconds:
+ *
+ * - set_text and set_pattern take time linear in what they are given and, with a pattern, search the
+ *   text line by line: linear in it, times the pattern's weight.
+ * - edit, edit_bytes and edit_all take O(log n) for each edit, and time linear in what they insert;
+ *   with a pattern they search the lines that they touch, and move the rows behind them where the
+ *   number of lines changes. undo and redo do the same for what comes back; without a pattern they
+ *   are O(1).
+ * - replace searches the whole text once, and takes time linear in the matches and in what comes in
+ *   their place; next searches up to the match that it finds; groups_at searches one line.
+ * - count_matches, copy_matches and copy_matches_in take time linear in the rows from `from` up to
+ *   `to` and in their matches, and copy_matches_in O(log n) for each row with a match and each match.
+ *   Where `from` is not below `to` there are no such rows.
+ * - copy_text and copy_line are O(log n), and linear in what they copy.
+ * - byte_of, position_of, column_in, position_in, clamp and line_len are O(log n).
+ * - fork and choose are O(1), forget is linear in the texts that it drops, off and close in what the
+ *   buffers keep, pattern_error in the pattern; all others are O(1).
+ *
+ * What a session keeps: a report takes 16 bytes for each row and 16 for each match, and some more for
+ * a row with several; a history each text since set_text or forget, some 4 kB for a letter at a random
+ * line of 20 MB, since it shares the rest with the text before it. Buffers stay until close.
  */
 #ifndef ROPE_SEARCH_H
 #define ROPE_SEARCH_H
@@ -39,6 +64,12 @@
 #ifdef __cplusplus
 extern "C" {
 #endif
+
+/*
+ * The version of this header: 1,000,000 times its first number, 1,000 times its second, and its
+ * third. Up to 1.0 a library serves a program that was compiled for the same first two numbers.
+ */
+#define ROPE_SEARCH_VERSION 2000 /* 0.2.0 */
 
 /*
  * What a call answers that may be refused: that it is done, or why it is refused; where several
@@ -62,11 +93,6 @@ typedef struct {
     void *at;
     bool is_open;
 } rope_search;
-
-/* What a session counts from, zeros as a rule. `looked` is for proofs alone; nothing tells it. */
-typedef struct {
-    uint64_t rows, wholes, looked;
-} rope_search_ticks;
 
 /* What a session counted: the rows that were made, and the searches of a whole text. */
 typedef struct {
@@ -99,6 +125,14 @@ typedef struct {
 } rope_search_group;
 
 /*
+ * A match of a report: its line, its number in the row of that line, from 0, and the columns where it
+ * starts and where it ends.
+ */
+typedef struct {
+    size_t line, number, start, stop;
+} rope_search_listed;
+
+/*
  * Why bytes are no pattern, one of the reasons below, and the byte at which the first character
  * begins that can't stand there: the bytes' length where they end too early.
  */
@@ -125,6 +159,14 @@ typedef struct {
     size_t first, removed, added;
 } rope_search_stretch;
 
+/*
+ * A range of the old text, in bytes, and the range of the new text that took its place. Either may
+ * be empty.
+ */
+typedef struct {
+    size_t old_start, old_end, new_start, new_end;
+} rope_search_text_change;
+
 /* Why bytes are no pattern. */
 enum {
     ROPE_SEARCH_NO_REASON = 0,          /* they are one, or they are refused for another reason */
@@ -147,12 +189,15 @@ enum {
 
 /* ---- opening and closing ---- */
 
+/* The version of the library: its three numbers, as in ROPE_SEARCH_VERSION. */
+uint32_t rope_search_version(void);
+
 /*
  * Opens a session of one buffer, with an empty text and no pattern, whose texts have at most
- * `limit` bytes. One that was open is ended then. Refused: SIZE, for a limit above PTRDIFF_MAX, and
- * MEMORY; what was open is then still open.
+ * `limit` bytes; its counts begin at 0. One that was open is closed first. Refused: SIZE, for a
+ * limit above PTRDIFF_MAX, and MEMORY; the session that was open then stays open.
  */
-uint32_t rope_search_open(size_t limit, rope_search_ticks ticks, rope_search *session);
+uint32_t rope_search_open(size_t limit, rope_search *session);
 
 /* Closes a session, if it is open. It may be opened again. */
 void rope_search_close(rope_search *session);
@@ -179,6 +224,14 @@ uint32_t rope_search_edit(rope_search *session, rope_search_position from, rope_
  */
 uint32_t rope_search_edit_all(rope_search *session, const rope_search_text_edit *edits,
                               size_t count, const uint8_t *text, size_t len);
+
+/*
+ * Replaces the bytes from one offset to another, as `edit` does between the positions at these
+ * bytes. Refused: RANGE, where an offset is past the text, inside a character or between the CR and
+ * the LF of a break, which no edit parts, or the second is before the first; UTF8, SIZE, MEMORY.
+ */
+uint32_t rope_search_edit_bytes(rope_search *session, size_t from, size_t to, const uint8_t *text,
+                                size_t len);
 
 /* Go one text back, and one forward. Refused: NONE; with a pattern, MEMORY. */
 uint32_t rope_search_undo(rope_search *session);
@@ -225,11 +278,17 @@ uint32_t rope_search_fork(rope_search *session, size_t *number);
 uint32_t rope_search_choose(rope_search *session, uint64_t number);
 
 /*
- * Drops the history: the current text alone is left, and nothing can be undone or redone. The
- * pattern and the report stay. It is never refused; the list of texts shrinks if memory for a
- * shorter one is granted, and else keeps its room.
+ * Drops the history, as `keep` of 0 steps does: the current text alone is left, and nothing can be
+ * undone or redone. The pattern and the report stay. It is never refused.
  */
 uint32_t rope_search_forget(rope_search *session);
+
+/*
+ * Drops all undo steps but the last `steps`, and what could be redone. The text, the pattern, the
+ * report and what `text_changes` returns stay. It is never refused; the list of texts shrinks if
+ * memory for a shorter one is granted, and else keeps its room. Linear in the number of texts.
+ */
+uint32_t rope_search_keep(rope_search *session, size_t steps);
 
 /* ---- buffers, and the chosen one's history ---- */
 
@@ -240,6 +299,10 @@ size_t rope_search_chosen(rope_search *session);
 /* Whether there is a text to go back to, and one to go forward to. */
 bool rope_search_can_undo(rope_search *session);
 bool rope_search_can_redo(rope_search *session);
+
+/* The number of texts to go back to, and of those to go forward to. */
+size_t rope_search_undo_steps(rope_search *session);
+size_t rope_search_redo_steps(rope_search *session);
 
 /* ---- reading the chosen buffer ---- */
 
@@ -269,15 +332,36 @@ uint32_t rope_search_position_of(rope_search *session, size_t byte,
                                  rope_search_position *position);
 
 /*
- * Tell the column of a position in bytes (`bits` 8) or in characters (`bits` 32), and the position of
- * a line and such a column, for servers that agree on `utf-8` or `utf-32` with their editor. Refused:
- * RANGE, where it is nowhere, or `bits` is another number; `column`, or `position`, is then as it
- * was.
+ * Tell the column of a position in bytes (`bits` 8), UTF-16 code units (16) or characters (32), and
+ * the position of a line and such a column, for servers that agree on `utf-8` or `utf-32` with their
+ * editor. Refused: RANGE, where it is nowhere, or `bits` is another number; `column`, or `position`,
+ * is then as it was.
  */
 uint32_t rope_search_column_in(rope_search *session, uint32_t bits, rope_search_position position,
                                size_t *column);
 uint32_t rope_search_position_in(rope_search *session, uint32_t bits, size_t line, size_t column,
                                  rope_search_position *position);
+
+/*
+ * Tells the position nearest to a line and a column, in what `bits` names as above, which may be
+ * nowhere: for a column past the line's text its end, for one inside a character or a surrogate pair
+ * the start of that, for a line past the last one the text's end. Refused: RANGE, where `bits` is
+ * another number; `position` is then as it was.
+ */
+uint32_t rope_search_clamp(rope_search *session, uint32_t bits, size_t line, size_t column,
+                           rope_search_position *position);
+
+/*
+ * Tells how long a line's text is, its break left off, in what `bits` names. Refused: RANGE, where
+ * there is no such line, or `bits` is another number; `len` is then as it was.
+ */
+uint32_t rope_search_line_len(rope_search *session, size_t line, uint32_t bits, size_t *len);
+
+/*
+ * Copies a line's text, its break left off, to the front of `out`, and tells whether it did: there
+ * must be such a line, and it must fit. Else `out` is as it was.
+ */
+bool rope_search_copy_line(rope_search *session, size_t line, uint8_t *out, size_t out_len);
 
 /* How many rows the report has: one for each line of the text, or 0 without a pattern. */
 size_t rope_search_rows(rope_search *session);
@@ -293,6 +377,13 @@ size_t rope_search_copy_matches(rope_search *session, size_t from, size_t to, ro
                                 size_t out_len);
 
 /*
+ * The same with columns in what `bits` names as above. For another number it tells 0, and `out` is as
+ * it was.
+ */
+size_t rope_search_copy_matches_in(rope_search *session, uint32_t bits, size_t from, size_t to,
+                                   rope_search_span *out, size_t out_len);
+
+/*
  * Copies the groups 0 to 9 of a match to the front of `out`, as many as fit: of match `number`, from
  * 0, of those in row `line`. Group 0 is the match; one that takes no part in it, or that the pattern
  * doesn't have, isn't found. A report keeps no groups: the line is searched for them once more, and
@@ -303,12 +394,42 @@ uint32_t rope_search_groups_at(rope_search *session, size_t line, size_t number,
                                rope_search_group *out, size_t out_len);
 
 /*
+ * The first match of the report that starts at a position or after it, and the last one that starts
+ * before it. They return whether there is one; without one, and without a pattern, `match` is as it
+ * was. The position need not be one of the text. Nothing is searched: the time is linear in the rows
+ * between the position and the match, and in the matches of the position's row.
+ */
+bool rope_search_listed_from(rope_search *session, rope_search_position position,
+                             rope_search_listed *match);
+bool rope_search_listed_before(rope_search *session, rope_search_position position,
+                               rope_search_listed *match);
+
+/*
+ * How many matches the report lists before the one of a line and a number in its row, from 0, and how
+ * many it lists in all: it is match `index` + 1 of `count`. It returns whether there is such a match;
+ * else both are as they were. The time is linear in the rows of the report.
+ */
+bool rope_search_list_index(rope_search *session, size_t line, size_t number, size_t *index,
+                            size_t *count);
+
+/*
  * Which rows of the report the last accepted command on the chosen buffer replaced, of those that
  * may: set_text, edit, edit_all, undo, redo, set_pattern, off and replace. An edit adds no more rows
  * than what it inserts has lines; where there is no pattern there are none. What is painted is
  * right again once these rows are, and those behind them moved.
  */
 rope_search_stretch rope_search_changed(rope_search *session);
+
+/*
+ * Copies the ranges of bytes in which the last accepted call on the chosen buffer replaced its text
+ * to the front of `out`, as many as fit, and returns the number of them: of set_text, edit, edit_all,
+ * undo, redo and replace, also without a pattern. The old text with each range replaced by the new
+ * text's range is the new text. The ranges ascend; two may touch, and they are never merged. Apply
+ * them to a copy of the old text from the last one back, each at its old start. An edit has one
+ * range, a replacement one for each match, set_text one, and a new buffer none. Linear in their
+ * number. The rest of `out` is not changed.
+ */
+size_t rope_search_text_changes(rope_search *session, rope_search_text_change *out, size_t out_len);
 
 /* What the session counted. */
 rope_search_counts rope_search_counted(rope_search *session);

@@ -17,6 +17,9 @@ RUN_PROGRAM = os.path.abspath(os.environ.get("RUN_DRIVER") or os.path.join(TOP, 
 SEARCH_PROGRAM = os.path.abspath(os.environ.get("SEARCH_DRIVER") or os.path.join(TOP, "bin", "search-driver"))
 LIBRARY_FOLDER = os.path.abspath(os.environ.get("ROPE_SEARCH_LIBRARIES") or os.path.join(TOP, "bin"))
 LIBRARY = os.path.join(LIBRARY_FOLDER, "librope_search.so")
+with open(os.path.join(TOP, "VERSION"), encoding="utf-8") as file:
+    VERSION = file.read().strip()
+SONAME = "librope_search.so." + VERSION.rpartition(".")[0]  # by which programs find the shared library when they run
 ROOM = tempfile.mkdtemp(prefix="rope-search-")  # the one folder that tests write in
 atexit.register(shutil.rmtree, ROOM, ignore_errors=True)
 SECONDS = 600  # that a program of a test may take, also on a busy machine

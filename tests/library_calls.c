@@ -88,6 +88,25 @@ static void groups(rope_search *s)
     IS(rope_search_set_pattern(s, bytes("h"), 1), ROPE_SEARCH_DONE);
 }
 
+/* The matches of the text "hi ho\nhi ha" under "h", looked up. */
+static void listed(rope_search *s)
+{
+    rope_search_listed match;
+    size_t index = 7, count = 7;
+    memset(&match, 0x5a, sizeof match);
+    IS(rope_search_listed_from(s, at(1, 4), &match), false);
+    IS(rope_search_listed_before(s, at(0, 0), &match), false);
+    IS(match.line, (size_t)0x5a5a5a5a5a5a5a5a);
+    IS(rope_search_listed_from(s, at(0, 1), &match), true);
+    IS(match.line == 0 && match.number == 1 && match.start == 3 && match.stop == 4, 1);
+    IS(rope_search_listed_before(s, at(9, 9), &match), true);
+    IS(match.line == 1 && match.number == 1 && match.start == 3 && match.stop == 4, 1);
+    IS(rope_search_list_index(s, 1, 2, &index, &count), false);
+    IS(index == 7 && count == 7, 1);
+    IS(rope_search_list_index(s, 1, 1, &index, &count), true);
+    IS(index == 3 && count == 4, 1);
+}
+
 static void pattern_errors(void)
 {
     rope_search_pattern_reason told;
@@ -127,6 +146,7 @@ static void a_session(rope_search *s)
     is_span(__LINE__, spans[2], 1, 0, 1);
     IS(spans[3].line, (size_t)0x5a5a5a5a5a5a5a5a);
     groups(s);
+    listed(s);
     IS(rope_search_edit(s, at(0, 6), at(0, 6), bytes("h"), 1), ROPE_SEARCH_RANGE);
     IS(rope_search_edit(s, at(1, 0), at(0, 0), bytes("h"), 1), ROPE_SEARCH_RANGE);
     IS(rope_search_edit(s, at(0, 5), at(0, 5), bytes("h"), 1), ROPE_SEARCH_DONE);
@@ -197,10 +217,67 @@ static void several(rope_search *s)
     IS(rope_search_text_len(s), 11);
 }
 
+/* Lines, and edits by bytes, of the text "hi ho\r\nh\303\251 \360\237\220\270", under a pattern, undone at the end. */
+static void lines(rope_search *s)
+{
+    rope_search_span spans[3];
+    rope_search_position position = at(7, 7);
+    uint8_t text[16];
+    size_t len = 77;
+    IS(rope_search_version(), ROPE_SEARCH_VERSION);
+    IS(rope_search_set_text(s, bytes("hi ho\r\nh\303\251 \360\237\220\270"), 15), ROPE_SEARCH_DONE);
+    IS(rope_search_set_pattern(s, bytes("\360\237\220\270|o"), 6), ROPE_SEARCH_DONE);
+    IS(rope_search_clamp(s, 8, 0, 99, &position), ROPE_SEARCH_DONE);
+    IS(position.line == 0 && position.column == 5, 1);
+    IS(rope_search_clamp(s, 16, 1, 4, &position), ROPE_SEARCH_DONE);
+    IS(position.line == 1 && position.column == 3, 1);
+    IS(rope_search_clamp(s, 32, 2, 0, &position), ROPE_SEARCH_DONE);
+    IS(position.line == 1 && position.column == 5, 1);
+    IS(rope_search_clamp(s, 24, 0, 0, &position), ROPE_SEARCH_RANGE);
+    IS(position.line == 1 && position.column == 5, 1);
+    IS(rope_search_line_len(s, 1, 8, &len), ROPE_SEARCH_DONE);
+    IS(len, 8);
+    IS(rope_search_line_len(s, 1, 16, &len), ROPE_SEARCH_DONE);
+    IS(len, 5);
+    IS(rope_search_line_len(s, 2, 16, &len), ROPE_SEARCH_RANGE);
+    IS(rope_search_line_len(s, 0, 0, &len), ROPE_SEARCH_RANGE);
+    IS(len, 5);
+    memset(text, 0x5a, sizeof text);
+    IS(rope_search_copy_line(s, 0, text, 4), 0);
+    IS(rope_search_copy_line(s, 2, text, sizeof text), 0);
+    IS(text[0], 0x5a);
+    IS(rope_search_copy_line(s, 0, text, 5), 1);
+    IS(memcmp(text, "hi hoZ", 6), 0);
+    memset(spans, 0x5a, sizeof spans);
+    IS(rope_search_copy_matches_in(s, 24, 0, SIZE_MAX, spans, 3), 0);
+    IS(rope_search_copy_matches_in(s, 8, 2, 1, spans, 3), 0);
+    IS(rope_search_copy_matches_in(s, 8, SIZE_MAX, SIZE_MAX, spans, 3), 0);
+    IS(spans[0].line, (size_t)0x5a5a5a5a5a5a5a5a);
+    IS(rope_search_copy_matches_in(s, 8, 0, SIZE_MAX, spans, 2), 2);
+    is_span(__LINE__, spans[0], 0, 4, 5);
+    is_span(__LINE__, spans[1], 1, 4, 8);
+    IS(spans[2].line, (size_t)0x5a5a5a5a5a5a5a5a);
+    IS(rope_search_copy_matches_in(s, 32, 1, 2, spans, 1), 1);
+    is_span(__LINE__, spans[0], 1, 3, 4);
+    IS(rope_search_edit_bytes(s, 6, 7, bytes(""), 0), ROPE_SEARCH_RANGE);
+    IS(rope_search_edit_bytes(s, 9, 10, bytes(""), 0), ROPE_SEARCH_RANGE);
+    IS(rope_search_edit_bytes(s, 8, 7, bytes(""), 0), ROPE_SEARCH_RANGE);
+    IS(rope_search_edit_bytes(s, 0, SIZE_MAX, bytes(""), 0), ROPE_SEARCH_RANGE);
+    IS(rope_search_edit_bytes(s, 0, 1, bytes("\377"), 1), ROPE_SEARCH_UTF8);
+    IS(rope_search_can_undo(s), 0);
+    IS(rope_search_edit_bytes(s, 5, 7, bytes(" "), 1), ROPE_SEARCH_DONE);
+    IS(rope_search_copy_line(s, 0, text, sizeof text), 1);
+    IS(memcmp(text, "hi ho h\303\251 \360\237\220\270", 14), 0);
+    IS(rope_search_undo(s), ROPE_SEARCH_DONE);
+    IS(rope_search_text_lines(s), 2);
+    IS(rope_search_off(s), ROPE_SEARCH_DONE);
+}
+
 static void look_ups(rope_search *s)
 {
     size_t byte = 77;
     rope_search_position position = at(5, 5);
+    rope_search_text_change changes[2] = {{0, 0, 0, 0}, {0, 0, 0, 0}};
     IS(rope_search_buffers(s), 2);
     IS(rope_search_chosen(s), 1);
     IS(rope_search_choose(s, 0), ROPE_SEARCH_DONE);
@@ -219,13 +296,23 @@ static void look_ups(rope_search *s)
     IS(position.line == 1 && position.column == 5, 1);
     IS(rope_search_column_in(s, 8, at(1, 5), &byte), ROPE_SEARCH_DONE);
     IS(byte, 5);
-    IS(rope_search_column_in(s, 16, at(1, 5), &byte), ROPE_SEARCH_RANGE);
+    IS(rope_search_column_in(s, 24, at(1, 5), &byte), ROPE_SEARCH_RANGE);
     IS(rope_search_column_in(s, 32, at(1, 6), &byte), ROPE_SEARCH_RANGE);
     IS(byte, 5);
     IS(rope_search_position_in(s, 32, 1, 2, &position), ROPE_SEARCH_DONE);
     IS(position.line == 1 && position.column == 2, 1);
     IS(rope_search_position_in(s, 8, 1, SIZE_MAX, &position), ROPE_SEARCH_RANGE);
     IS(position.line == 1 && position.column == 2, 1);
+    IS(rope_search_undo_steps(s) > 0, 1);
+    IS(rope_search_redo_steps(s), 1);
+    IS(rope_search_text_changes(s, changes, 1), 5);
+    IS(changes[0].old_end > 0 && changes[1].old_end == 0, 1);
+    IS(rope_search_text_changes(s, changes, 2), 5);
+    IS(changes[1].old_start >= changes[0].old_end && changes[1].old_end > changes[1].old_start, 1);
+    IS(rope_search_keep(s, 1), ROPE_SEARCH_DONE);
+    IS(rope_search_undo_steps(s) <= 1, 1);
+    IS(rope_search_redo_steps(s), 0);
+    IS(rope_search_text_changes(s, changes, 2), 5);
     IS(rope_search_forget(s), ROPE_SEARCH_DONE);
     IS(rope_search_can_undo(s), 0);
     IS(rope_search_can_redo(s), 0);
@@ -238,12 +325,11 @@ static void look_ups(rope_search *s)
 int main(void)
 {
     rope_search s = {0}, moved;
-    rope_search_ticks ticks = {0, 0, 0};
     rope_search_counts counts;
     IS(rope_search_undo(&s), ROPE_SEARCH_CLOSED);
     rope_search_close(&s);
-    IS(rope_search_open((size_t)1 << 63, ticks, &s), ROPE_SEARCH_SIZE);
-    IS(rope_search_open(16, ticks, &s), ROPE_SEARCH_DONE);
+    IS(rope_search_open((size_t)1 << 63, &s), ROPE_SEARCH_SIZE);
+    IS(rope_search_open(16, &s), ROPE_SEARCH_DONE);
     refusals(&s);
     pattern_errors();
     a_session(&s);
@@ -254,15 +340,16 @@ int main(void)
     moved = s;
     memset(&s, 0, sizeof s);
     IS(rope_search_text_len(&moved), 12);
-    IS(rope_search_open(1 << 20, ticks, &moved), ROPE_SEARCH_DONE);
+    IS(rope_search_open(1 << 20, &moved), ROPE_SEARCH_DONE);
     IS(rope_search_text_len(&moved), 0);
     rope_search_close(&moved);
     rope_search_close(&moved);
     IS(rope_search_text_len(&moved), 0);
     IS(rope_search_redo(&moved), ROPE_SEARCH_CLOSED);
-    IS(rope_search_open(16, ticks, &s), ROPE_SEARCH_DONE);
+    IS(rope_search_open(16, &s), ROPE_SEARCH_DONE);
     IS(rope_search_set_pattern(&s, bytes("h"), 1), ROPE_SEARCH_DONE);
     several(&s);
+    lines(&s);
     rope_search_close(&s);
     return wrong != 0;
 }

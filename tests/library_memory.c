@@ -30,11 +30,13 @@ void *__wrap_realloc(void *old, size_t bytes)
     return is_refused() ? NULL : __real_realloc(old, bytes);
 }
 
-/* What can be seen of a session: the text and the matches of the chosen buffer. */
+/* What can be seen of a session: of the chosen buffer the text, the matches, the steps back and forward, and the ranges
+ * that were replaced last. */
 struct seen {
-    size_t len, rows, count;
+    size_t len, rows, count, undo, redo, changes;
     uint8_t text[4096];
     rope_search_span spans[512];
+    rope_search_text_change ranges[64];
 };
 
 static void see(rope_search *s, struct seen *seen)
@@ -45,10 +47,13 @@ static void see(rope_search *s, struct seen *seen)
     if (!rope_search_copy_text(s, 0, seen->len, seen->text, sizeof seen->text))
         wrong++;
     seen->count = rope_search_copy_matches(s, 0, SIZE_MAX, seen->spans, 512);
+    seen->undo = rope_search_undo_steps(s);
+    seen->redo = rope_search_redo_steps(s);
+    seen->changes = rope_search_text_changes(s, seen->ranges, 64);
 }
 
 enum kind {
-    SET_TEXT, EDIT, EDIT_ALL, UNDO, REDO, SET_PATTERN, OFF, NEXT, REPLACE, FORK, CHOOSE, FORGET, GROUPS_AT, PATTERN_ERROR
+    SET_TEXT, EDIT, EDIT_ALL, EDIT_BYTES, UNDO, REDO, SET_PATTERN, OFF, NEXT, REPLACE, FORK, CHOOSE, FORGET, KEEP, GROUPS_AT, PATTERN_ERROR
 };
 
 struct call {
@@ -79,6 +84,7 @@ static uint32_t carry_out(rope_search *s, const struct call *call)
     case SET_TEXT: return rope_search_set_text(s, text, len);
     case EDIT: return rope_search_edit(s, from, to, text, len);
     case EDIT_ALL: return rope_search_edit_all(s, edits, 2, text, len);
+    case EDIT_BYTES: return rope_search_edit_bytes(s, call->line, call->to_line, text, len);
     case UNDO: return rope_search_undo(s);
     case REDO: return rope_search_redo(s);
     case SET_PATTERN: return rope_search_set_pattern(s, text, len);
@@ -87,6 +93,7 @@ static uint32_t carry_out(rope_search *s, const struct call *call)
     case REPLACE: return rope_search_replace(s, text, len, &number);
     case FORK: return rope_search_fork(s, &number);
     case FORGET: return rope_search_forget(s);
+    case KEEP: return rope_search_keep(s, call->line);
     case GROUPS_AT: return rope_search_groups_at(s, call->line, call->column, groups, 10);
     case PATTERN_ERROR: return rope_search_pattern_error(text, len, &reason);
     default: return rope_search_choose(s, call->line);
@@ -102,16 +109,17 @@ static const struct call calls[] = {
     TEXT(SET_PATTERN, "(?i)(o)n\\w|e$"),
     {EDIT, 1, 0, 2, 3, "ONE\nof many\none\n"},
     {EDIT_ALL, 0, 3, 2, 1, "a one\n\nand one"},
+    {EDIT_BYTES, 2, 0, 7, 0, "two\none"}, CALL(UNDO),
     AT(NEXT, 0, 2), AT(GROUPS_AT, 0, 0),
     TEXT(PATTERN_ERROR, "(a|(?<name>b)|(?<name>c"), TEXT(PATTERN_ERROR, "((a)|b{1,3}"),
-    CALL(UNDO), CALL(UNDO), CALL(REDO), TEXT(REPLACE, "<$1\n$0>"), CALL(UNDO), CALL(FORK),
+    CALL(UNDO), CALL(UNDO), CALL(REDO), TEXT(REPLACE, "<$1\n$0>"), CALL(UNDO), AT(KEEP, 5, 0), CALL(FORK),
     AT(CHOOSE, 1, 0), TEXT(EDIT, "a letter"), TEXT(SET_PATTERN, "\\be"), CALL(UNDO), CALL(OFF),
-    CALL(REDO), AT(CHOOSE, 0, 0), CALL(REDO), AT(GROUPS_AT, 6, 0), CALL(FORGET),
+    CALL(REDO), AT(CHOOSE, 0, 0), TEXT(EDIT, "one\n"), AT(KEEP, 1, 0), AT(GROUPS_AT, 0, 0), CALL(FORGET),
 };
 
 static int may_ask(enum kind kind)
 {
-    return kind != OFF && kind != CHOOSE && kind != FORGET;
+    return kind != OFF && kind != CHOOSE && kind != FORGET && kind != KEEP;
 }
 
 /* The calls in turn, where one request is refused; how many requests there were. */
@@ -119,12 +127,11 @@ static unsigned long run(unsigned long at, struct seen *last)
 {
     static struct seen before, after;
     rope_search s = {0};
-    rope_search_ticks ticks = {0, 0, 0};
     size_t i;
     asked = 0;
     refused_at = at;
-    if (rope_search_open(1 << 20, ticks, &s) != ROPE_SEARCH_DONE) {
-        if (s.is_open || at == 0 || rope_search_open(1 << 20, ticks, &s) != ROPE_SEARCH_DONE)
+    if (rope_search_open(1 << 20, &s) != ROPE_SEARCH_DONE) {
+        if (s.is_open || at == 0 || rope_search_open(1 << 20, &s) != ROPE_SEARCH_DONE)
             wrong++;
     }
     for (i = 0; i < sizeof calls / sizeof *calls; i++) {

@@ -8,13 +8,12 @@
 static void *edits(void *given)
 {
     rope_search s = {0};
-    rope_search_ticks ticks = {0, 0, 0};
     const uint8_t *text = (const uint8_t *)"one two\none\n", *pattern = (const uint8_t *)"\\bo\\w+";
     size_t *matches = given, i;
     rope_search_position start;
     memset(&start, 0, sizeof start);
     *matches = 0;
-    if (rope_search_open(1 << 20, ticks, &s) != ROPE_SEARCH_DONE)
+    if (rope_search_open(1 << 20, &s) != ROPE_SEARCH_DONE)
         return given;
     if (rope_search_set_text(&s, text, 12) || rope_search_set_pattern(&s, pattern, 6))
         return given;

@@ -124,17 +124,17 @@ def wrong_commands(words, **environment):
 # Types of the header as Rust names them.
 IN_RUST = {
     "uint32_t": "u32", "uint64_t": "u64", "size_t": "usize", "bool": "bool", "const uint8_t*": "*const u8",
-    "uint8_t*": "*mut u8", "rope_search*": "*mut RawSession", "size_t*": "*mut usize", "rope_search_ticks": "Ticks",
+    "uint8_t*": "*mut u8", "rope_search*": "*mut RawSession", "size_t*": "*mut usize",
     "rope_search_position": "Position", "rope_search_position*": "*mut Position", "rope_search_span*": "*mut Span",
     "rope_search_match*": "*mut RawMatch", "rope_search_group*": "*mut RawGroup", "rope_search_stretch": "Stretch",
     "rope_search_pattern_reason*": "*mut RawReason", "const rope_search_text_edit*": "*const RawEdit",
-    "rope_search_counts": "Counts",
+    "rope_search_counts": "Counts", "rope_search_text_change*": "*mut TextChange", "rope_search_listed*": "*mut Listed",
 }
 STRUCTURES = {
-    "rope_search": "RawSession", "rope_search_ticks": "Ticks", "rope_search_counts": "Counts",
+    "rope_search": "RawSession", "rope_search_counts": "Counts",
     "rope_search_position": "Position", "rope_search_match": "RawMatch", "rope_search_span": "Span",
     "rope_search_group": "RawGroup", "rope_search_pattern_reason": "RawReason", "rope_search_text_edit": "RawEdit",
-    "rope_search_stretch": "Stretch",
+    "rope_search_stretch": "Stretch", "rope_search_text_change": "TextChange", "rope_search_listed": "Listed",
 }
 
 

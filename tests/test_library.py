@@ -11,11 +11,14 @@ import shutil
 import subprocess
 import sys
 
-from harness import LIBRARY, LIBRARY_FOLDER, PROGRAM, ROOM, SECONDS, TOP, example_rows, short, test
+from harness import LIBRARY, LIBRARY_FOLDER, PROGRAM, ROOM, SECONDS, SONAME, TOP, VERSION, example_rows, short, test
 from library import replies, reply, rope_search
 from library_changes import wrong_changes
 from library_edits import wrong_with
 from library_groups import wrong_groups
+from library_lines import wrong_edits, wrong_long, wrong_numbers, wrong_small
+from library_listed import wrong_listed
+from library_text_changes import small_changes, wrong_after_edits, wrong_text_changes
 from protocol import Session, lines_of, place_of, position_at, positions_of, read_commands, spelled, units
 from random_patterns import Maker
 from test_edits import BACK_AND_FORWARD, OF_ALL_KINDS, SESSIONS, SESSIONS_IN_RUN, some_sessions
@@ -28,7 +31,7 @@ STRICT = ["-std=c99", "-pedantic", "-O1", "-g", "-Wall", "-Wextra", "-Werror"]
 SANITIZED = ["-fsanitize=address,undefined", "-fno-sanitize-recover=all"]
 # The thread sanitizer's own memory isn't found where addresses are laid out at random too widely.
 FIXED = ["setarch", "-R"] if shutil.which("setarch") else []
-EDITED, GROUPED, MANGLED = 4_000, 1_000, 2_000
+EDITED, GROUPED, LISTED, MANGLED = 4_000, 1_000, 2_000, 2_000
 # The name of a parameter of C, behind its type.
 PARAMETER = re.compile(r"\s*\b(?!const\b|size_t\b|bool\b|void\b|u?int\d+_t\b|rope_search\w*\b)\w+$")
 # Where programs find the modules of the bindings, and these the library.
@@ -60,7 +63,8 @@ def declared(text):
     text = re.sub(r"/\*.*?\*/|#[^\n]*", "", text, flags=re.S)
     calls = {}
     for result, name, parameters in re.findall(r"(\w+) (rope_search_\w+)\(([^)]*)\);", text):
-        kinds = [PARAMETER.sub("", " ".join(one.split())) for one in parameters.split(",")]
+        parameters = [] if parameters == "void" else parameters.split(",")
+        kinds = [PARAMETER.sub("", " ".join(one.split())) for one in parameters]
         calls[name] = (result, *(kind.replace("* ", "*").strip() for kind in kinds))
     return calls
 
@@ -87,6 +91,25 @@ def read(*names):
         return file.read()
 
 
+def wrong_version():
+    """The header, the library and its modules must have the version of the repository, and the shared library a name
+    with its first two numbers, under which it is found."""
+    first, second, third = map(int, VERSION.split("."))
+    number = 1_000_000 * first + 1_000 * second + third
+    defined = re.search(r"#define ROPE_SEARCH_VERSION (\d+) /\* ([0-9.]+) \*/", read("include", "rope_search.h"))
+    told = {
+        "the header": int(defined[1]) if defined[2] == VERSION else defined[2],
+        "the library": rope_search.library().rope_search_version(),
+        "bindings/python": rope_search.VERSION,
+        "bindings/lua": int(re.search(r"M\.version = (\d+)", read("bindings", "lua", "rope_search.lua"))[1]),
+    }
+    wrong = [f"{name} has the version {other}" for name, other in told.items() if other != number]
+    if shutil.which("readelf"):
+        shown = subprocess.run(["readelf", "-d", LIBRARY], stdout=subprocess.PIPE, text=True, check=True).stdout
+        wrong += [] if f"[{SONAME}]" in shown else [f"the shared library isn't named {SONAME}"]
+    return wrong + ([] if os.path.exists(os.path.join(LIBRARY_FOLDER, SONAME)) else [f"there is no {SONAME}"])
+
+
 def test_declarations():
     header, lua = read("include", "rope_search.h"), read("bindings", "lua", "rope_search.lua")
     calls, in_lua = declared(header), declared(lua)
@@ -98,6 +121,7 @@ def test_declarations():
     counts = {f"rope_search_{name}": len(kinds) - 1 for name, kinds in rope_search._CALLS.items()}
     wrong = differing("parameters", counts, {name: len(kinds) - 1 for name, kinds in calls.items()})
     test("bindings/python declares what the header does", wrong)
+    test("the header, the library and its modules have the version of the repository", wrong_version())
 
 
 def reasons_declared(header, lua):
@@ -230,7 +254,7 @@ def wrong_places(session, text):
 def wrong_columns(session, text):
     """What is wrong with columns in bytes and in characters, and with the positions of these."""
     lines, most = lines_of(text), len(text.encode()) + 2
-    for encoding, count in (("utf-8", lambda part: len(part.encode())), ("utf-32", len)):
+    for encoding, count in (("utf-8", lambda part: len(part.encode())), ("utf-16", units), ("utf-32", len)):
         known = {position: count(text[lines[position[0]][0] : place_of(text, *position)]) for position in positions_of(text)}
         back = {(line, known[line, column]): (line, column) for line, column in known}
         for spot in itertools.product(range(len(lines) + 2), (*range(most), (1 << 64) - 1)):
@@ -281,6 +305,22 @@ def test_changes():
         test(f"which rows commands replace, {SESSIONS // 4} sessions at random {kind}", wrong)
 
 
+def test_text_changes():
+    """Sessions at random, after each command of which it is asked in which ranges the text was replaced."""
+    for kind, weights in (("of all kinds", OF_ALL_KINDS), ("back and forward", BACK_AND_FORWARD)):
+        wrong = []
+        for seed in range(SESSIONS // SESSIONS_IN_RUN // 4):
+            name = ("text changes", kind, seed).__repr__()
+            with rope_search.Session() as session:
+                commands = some_sessions(name, SESSIONS_IN_RUN, weights).commands
+                wrong += wrong_text_changes(session, commands, random.Random(name))
+        test(f"which ranges of texts commands replace, {SESSIONS // 4} sessions at random {kind}", wrong)
+    wrong = [one for seed in range(EDITED) for one in wrong_after_edits(seed)]
+    test(f"which ranges several edits as one replace, of {EDITED} texts at random", wrong)
+    for length in range(5):
+        test(f"which ranges edits replace, of all texts of {length} characters over CR, LF and a", small_changes(length))
+
+
 def test_edits():
     for front in range(0, EDITED, EDITED // 4):
         wrong = [one for seed in range(front, front + EDITED // 4) for one in wrong_with(seed)]
@@ -290,6 +330,18 @@ def test_edits():
 def test_groups():
     wrong = [one for seed in range(GROUPED) for one in wrong_groups(seed)]
     test(f"the groups of each match, in {GROUPED} texts at random, beside the model", wrong)
+
+
+def test_lines():
+    test("lines, clamped positions and matches by each unit, of all texts of three characters", wrong_small())
+    test("the same where lines lie in several chunks", wrong_long())
+    test(f"edits by bytes, {GROUPED} texts at random", [one for seed in range(GROUPED) for one in wrong_edits(seed)])
+    test("bindings/python cuts no number", wrong_numbers())
+
+
+def test_listed():
+    wrong = [one for seed in range(LISTED) for one in wrong_listed(seed)]
+    test(f"listed matches looked up, in {LISTED} texts at random, beside the model", wrong)
 
 
 def answered(call, *arguments):
@@ -319,16 +371,22 @@ def test_closed():
         "set_pattern": (b"a", 1), "off": (), "next": (origin, rope_search._Match(True)),
         "replace": (b"a", 1, ctypes.c_size_t(7)), "fork": (ctypes.c_size_t(7),), "choose": (0,),
         "column_in": (8, origin, ctypes.c_size_t(7)), "position_in": (8, 0, 0, rope_search._Position()),
-        "forget": (), "byte_of": (origin, ctypes.c_size_t(7)), "position_of": (0, rope_search._Position()),
-        "groups_at": (0, 0, (rope_search._Group * 10)(), 10),
+        "forget": (), "keep": (1,), "byte_of": (origin, ctypes.c_size_t(7)), "position_of": (0, rope_search._Position()),
+        "groups_at": (0, 0, (rope_search._Group * 10)(), 10), "edit_bytes": (0, 0, b"a", 1),
+        "clamp": (8, 0, 0, rope_search._Position(7, 7)), "line_len": (0, 8, ctypes.c_size_t(7)),
     }
     read_only = {
         "buffers": (), "chosen": (), "can_undo": (), "can_redo": (), "text_len": (), "text_lines": (), "rows": (),
         "count_matches": (0, 9), "copy_text": (0, 0, ctypes.create_string_buffer(4), 4),
-        "copy_matches": (0, 9, (rope_search._Span * 1)(), 1),
+        "copy_matches": (0, 9, (rope_search._Span * 1)(), 1), "undo_steps": (), "redo_steps": (),
+        "text_changes": ((rope_search._TextChange * 1)(), 1),
+        "copy_matches_in": (8, 0, 9, (rope_search._Span * 1)(), 1),
+        "copy_line": (0, ctypes.create_string_buffer(4), 4),
+        "listed_from": (origin, rope_search._Listed(7)),
+        "listed_before": (origin, rope_search._Listed(7)), "list_index": (0, 0, ctypes.c_size_t(7), ctypes.c_size_t(7)),
     }
-    # One call takes no session.
-    named = {"open", "close", "counted", "changed", "pattern_error", *refused, *read_only}
+    # Two calls take no session.
+    named = {"version", "open", "close", "counted", "changed", "pattern_error", *refused, *read_only}
     wrong += [f"no test calls {name}" for name in sorted(set(rope_search._CALLS) - named)]
     for name, arguments in refused.items():
         if (status := getattr(calls, "rope_search_" + name)(handle, *arguments)) != 8:
@@ -342,8 +400,11 @@ def test_closed():
     counts = calls.rope_search_counted(handle)
     if (counts.rows, counts.wholes, handle.is_open) != (0, 0, False):
         wrong.append("counted, or the handle, is something")
-    kept = [refused[name][-1].value for name in ("replace", "fork", "byte_of", "column_in")]
-    if kept != [7] * 4 or not refused["next"][1].found:
+    kept = [refused[name][-1].value for name in ("replace", "fork", "byte_of", "column_in", "line_len")]
+    kept.append(refused["clamp"][-1].line)
+    kept += [read_only[name][1].line for name in ("listed_from", "listed_before")]
+    kept += [count.value for count in read_only["list_index"][2:]]
+    if kept != [7] * 10 or not refused["next"][1].found:
         wrong.append(f"a call of a closed session writes: {kept}, {refused['next'][1].found}")
     if any(group.found for group in refused["groups_at"][2]):
         wrong.append("groups of a closed session are told")
@@ -363,13 +424,14 @@ def test_opening():
             wrong.append("a text above the limit is taken")
         session.set_text("abcd")
         calls = rope_search.library()
-        if calls.rope_search_open(1 << 63, rope_search._Ticks(), session._handle) != 6 or session.text != "abcd":
+        if calls.rope_search_open(1 << 63, session._handle) != 6 or session.text != "abcd":
             wrong.append("a refused opening ends what was open")
-        if calls.rope_search_open(1 << 20, rope_search._Ticks(5, 7, 0), session._handle) != 0 or session.text != "":
+        session.set_pattern("a")
+        if calls.rope_search_open(1 << 20, session._handle) != 0 or session.text != "" or session.rows != 0:
             wrong.append("an opening keeps what was open")
-        if session.counted != (5, 7):
+        if session.counted != (0, 0):
             wrong.append(f"it counts from {session.counted}")
-    test("opening: limits, an open session in its place, counts from others", wrong)
+    test("opening: limits, an open session in its place, whose counts begin at 0", wrong)
 
 
 def built(name, sources, flags, compiler="cc"):
@@ -497,10 +559,13 @@ def test_all():
     test_copies()
     test_closed()
     test_places()
+    test_lines()
     test_histories()
     test_changes()
+    test_text_changes()
     test_edits()
     test_groups()
+    test_listed()
     test_explanations()
     test_programs()
     test_lua()

@@ -6,7 +6,7 @@ import shutil
 import subprocess
 import sys
 
-from harness import FIRST, LIBRARY, LIBRARY_FOLDER, PROGRAM, ROOM, TOP, end_of, open_input, start, test
+from harness import FIRST, LIBRARY, LIBRARY_FOLDER, PROGRAM, ROOM, SONAME, TOP, end_of, open_input, start, test
 from test_bindings import newest_enough, wrong_in_node, wrong_in_rust
 from test_replies import examples_of_page
 from test_sources import broken_links
@@ -14,7 +14,7 @@ from test_language_server import Client
 
 BUILT = ["rope-search", "librope_search_c.a", "librope_search.a", "librope_search.so"]
 INSTALLED = [
-    "bin/rope-search", "include/rope_search.h", "lib/librope_search.a", "lib/librope_search.so",
+    "bin/rope-search", "include/rope_search.h", "lib/librope_search.a", "lib/librope_search.so", f"lib/{SONAME}",
     "lib/pkgconfig/rope_search.pc", "share/man/man1/rope-search.1", "share/rope-search/rope_search.py",
     "share/rope-search/rope_search.lua", "share/rope-search/rust/Cargo.toml", "share/rope-search/rust/build.rs",
     *(f"share/rope-search/rust/src/{name}.rs" for name in ("error", "lib", "matches", "raw", "session", "types")),

@@ -18,20 +18,23 @@ local ffi = require("ffi")
 
 ffi.cdef([[
 typedef struct { void *at; bool is_open; } rope_search;
-typedef struct { uint64_t rows, wholes, looked; } rope_search_ticks;
 typedef struct { uint64_t rows, wholes; } rope_search_counts;
 typedef struct { size_t line, column; } rope_search_position;
 typedef struct { bool found; rope_search_position start, stop; } rope_search_match;
 typedef struct { size_t line, start, stop; } rope_search_span;
 typedef struct { bool found; size_t line, start, stop; } rope_search_group;
+typedef struct { size_t line, number, start, stop; } rope_search_listed;
 typedef struct { uint32_t reason; size_t place; } rope_search_pattern_reason;
 typedef struct { rope_search_position from, to; size_t len; } rope_search_text_edit;
 typedef struct { size_t first, removed, added; } rope_search_stretch;
-uint32_t rope_search_open(size_t, rope_search_ticks, rope_search *);
+typedef struct { size_t old_start, old_end, new_start, new_end; } rope_search_text_change;
+uint32_t rope_search_version(void);
+uint32_t rope_search_open(size_t, rope_search *);
 void rope_search_close(rope_search *);
 uint32_t rope_search_set_text(rope_search *, const uint8_t *, size_t);
 uint32_t rope_search_edit(rope_search *, rope_search_position, rope_search_position, const uint8_t *, size_t);
 uint32_t rope_search_edit_all(rope_search *, const rope_search_text_edit *, size_t, const uint8_t *, size_t);
+uint32_t rope_search_edit_bytes(rope_search *, size_t, size_t, const uint8_t *, size_t);
 uint32_t rope_search_undo(rope_search *);
 uint32_t rope_search_redo(rope_search *);
 uint32_t rope_search_set_pattern(rope_search *, const uint8_t *, size_t);
@@ -42,22 +45,33 @@ uint32_t rope_search_replace(rope_search *, const uint8_t *, size_t, size_t *);
 uint32_t rope_search_fork(rope_search *, size_t *);
 uint32_t rope_search_choose(rope_search *, uint64_t);
 uint32_t rope_search_forget(rope_search *);
+uint32_t rope_search_keep(rope_search *, size_t);
 size_t rope_search_buffers(rope_search *);
 size_t rope_search_chosen(rope_search *);
 bool rope_search_can_undo(rope_search *);
 bool rope_search_can_redo(rope_search *);
+size_t rope_search_undo_steps(rope_search *);
+size_t rope_search_redo_steps(rope_search *);
 uint32_t rope_search_byte_of(rope_search *, rope_search_position, size_t *);
 uint32_t rope_search_position_of(rope_search *, size_t, rope_search_position *);
 uint32_t rope_search_column_in(rope_search *, uint32_t, rope_search_position, size_t *);
 uint32_t rope_search_position_in(rope_search *, uint32_t, size_t, size_t, rope_search_position *);
+uint32_t rope_search_clamp(rope_search *, uint32_t, size_t, size_t, rope_search_position *);
+uint32_t rope_search_line_len(rope_search *, size_t, uint32_t, size_t *);
+bool rope_search_copy_line(rope_search *, size_t, uint8_t *, size_t);
 size_t rope_search_text_len(rope_search *);
 size_t rope_search_text_lines(rope_search *);
 bool rope_search_copy_text(rope_search *, size_t, size_t, uint8_t *, size_t);
 size_t rope_search_rows(rope_search *);
 size_t rope_search_count_matches(rope_search *, size_t, size_t);
 size_t rope_search_copy_matches(rope_search *, size_t, size_t, rope_search_span *, size_t);
+size_t rope_search_copy_matches_in(rope_search *, uint32_t, size_t, size_t, rope_search_span *, size_t);
 uint32_t rope_search_groups_at(rope_search *, size_t, size_t, rope_search_group *, size_t);
+bool rope_search_listed_from(rope_search *, rope_search_position, rope_search_listed *);
+bool rope_search_listed_before(rope_search *, rope_search_position, rope_search_listed *);
+bool rope_search_list_index(rope_search *, size_t, size_t, size_t *, size_t *);
 rope_search_stretch rope_search_changed(rope_search *);
+size_t rope_search_text_changes(rope_search *, rope_search_text_change *, size_t);
 rope_search_counts rope_search_counted(rope_search *);
 ]])
 
@@ -99,8 +113,18 @@ local function library_path()
 end
 
 local calls
+-- The version of the header that is declared above.
+M.version = 2000
+
 local function library()
-  calls = calls or ffi.load(library_path())
+  if not calls then
+    local opened = ffi.load(library_path())
+    local version = opened.rope_search_version()
+    if math.floor(version / 1000) ~= math.floor(M.version / 1000) then
+      error(("the library has the version %d, not %d"):format(version, M.version))
+    end
+    calls = opened
+  end
   return calls
 end
 
@@ -122,7 +146,7 @@ end
 
 local ALL = ffi.cast("size_t", -1)
 -- How C names what columns count.
-local BITS = { ["utf-8"] = 8, ["utf-32"] = 32 }
+local BITS = { ["utf-8"] = 8, ["utf-16"] = 16, ["utf-32"] = 32 }
 
 local Session = {}
 Session.__index = Session
@@ -130,8 +154,7 @@ Session.__index = Session
 -- Opens a session whose texts have at most `limit` bytes, 1 GiB where it isn't given.
 function M.open(limit)
   local handle = ffi.gc(ffi.new("rope_search"), library().rope_search_close)
-  local ticks = ffi.new("rope_search_ticks")
-  return told(calls.rope_search_open(limit or 2 ^ 30, ticks, handle), setmetatable({ handle = handle }, Session))
+  return told(calls.rope_search_open(limit or 2 ^ 30, handle), setmetatable({ handle = handle }, Session))
 end
 
 -- Where and why a text is no pattern: { place, reason }, the byte at which the first character begins
@@ -174,6 +197,12 @@ function Session:edit_all(edits)
   end
   local text = table.concat(texts)
   return told(calls.rope_search_edit_all(self.handle, given, #edits, text, #text))
+end
+
+-- Replaces the bytes from one offset to another: "range" too where one is inside a character, or
+-- between a CR and its LF.
+function Session:edit_bytes(start, stop, text)
+  return told(calls.rope_search_edit_bytes(self.handle, start, stop, text, #text))
 end
 
 function Session:undo()
@@ -223,6 +252,11 @@ function Session:forget()
   return told(calls.rope_search_forget(self.handle))
 end
 
+-- Drops all undo steps but the last ones, and what could be redone.
+function Session:keep(steps)
+  return told(calls.rope_search_keep(self.handle, steps))
+end
+
 -- How many buffers there are, and the number of the chosen one.
 function Session:buffers()
   return tonumber(calls.rope_search_buffers(self.handle))
@@ -241,6 +275,15 @@ function Session:can_redo()
   return calls.rope_search_can_redo(self.handle)
 end
 
+-- How many texts there are to go back to, and how many to go forward to.
+function Session:undo_steps()
+  return tonumber(calls.rope_search_undo_steps(self.handle))
+end
+
+function Session:redo_steps()
+  return tonumber(calls.rope_search_redo_steps(self.handle))
+end
+
 -- The byte of the text at which a position is, and the position of a byte.
 function Session:byte_of(at)
   local byte = ffi.new("size_t[1]")
@@ -252,8 +295,8 @@ function Session:position_of(byte)
   return told(calls.rope_search_position_of(self.handle, byte, at), spot(at))
 end
 
--- The column of a position in bytes, for "utf-8", or in characters, for "utf-32", and the position of
--- a line and such a column.
+-- The column of a position in bytes, for "utf-8", in characters, for "utf-32", or in code units, for
+-- "utf-16", and the position of a line and such a column.
 function Session:column_in(encoding, at)
   local column = ffi.new("size_t[1]")
   local status = calls.rope_search_column_in(self.handle, BITS[encoding] or 0, position(at), column)
@@ -263,6 +306,33 @@ end
 function Session:position_in(encoding, line, column)
   local at = ffi.new("rope_search_position")
   return told(calls.rope_search_position_in(self.handle, BITS[encoding] or 0, line, column, at), spot(at))
+end
+
+-- The position nearest to a line and a column in an encoding ("utf-16" where none is given), which may
+-- be nowhere: for a column past the line's text its end, for one inside a character or a surrogate
+-- pair the start of that, for a line past the last one the text's end.
+function Session:clamp(line, column, encoding)
+  local at = ffi.new("rope_search_position")
+  return told(calls.rope_search_clamp(self.handle, BITS[encoding or "utf-16"] or 0, line, column, at), spot(at))
+end
+
+-- How long a line's text is in an encoding, and that text; the break is left off.
+function Session:line_len(line, encoding)
+  local len = ffi.new("size_t[1]")
+  local status = calls.rope_search_line_len(self.handle, line, BITS[encoding or "utf-16"] or 0, len)
+  return told(status, tonumber(len[0]))
+end
+
+function Session:line_text(line)
+  local room, why = self:line_len(line, "utf-8")
+  if not room then
+    return nil, why
+  end
+  local out = ffi.new("uint8_t[?]", math.max(1, room))
+  if not calls.rope_search_copy_line(self.handle, line, out, room) then
+    return nil, "range"
+  end
+  return ffi.string(out, room)
 end
 
 -- How many bytes the text has, and how many lines.
@@ -296,11 +366,17 @@ function Session:count_matches(start, stop)
   return tonumber(calls.rope_search_count_matches(self.handle, start or 0, stop or ALL))
 end
 
--- These matches, each with its line and its two columns.
-function Session:matches(start, stop)
+-- These matches, each with its line and its two columns in an encoding: "utf-16" where none is given,
+-- and no match for another word.
+function Session:matches(start, stop, encoding)
   local count = self:count_matches(start, stop)
   local out = ffi.new("rope_search_span[?]", math.max(1, count))
-  calls.rope_search_copy_matches(self.handle, start or 0, stop or ALL, out, count)
+  if (encoding or "utf-16") == "utf-16" then
+    calls.rope_search_copy_matches(self.handle, start or 0, stop or ALL, out, count)
+  else
+    local bits = BITS[encoding] or 0
+    count = tonumber(calls.rope_search_copy_matches_in(self.handle, bits, start or 0, stop or ALL, out, count))
+  end
   local matches = {}
   for i = 0, count - 1 do
     local span = out[i]
@@ -324,11 +400,63 @@ function Session:groups_at(line, number)
   return told(status, groups)
 end
 
+local function listed(found, match)
+  if not found then
+    return nil
+  end
+  local copy = {}
+  for _, name in ipairs({ "line", "number", "start", "stop" }) do
+    copy[name] = tonumber(match[name])
+  end
+  return copy
+end
+
+-- The first match of the report that starts at a position or after it, and the last one that starts
+-- before it: its line, its number in that row, from 0, and its two columns; or nil.
+function Session:listed_from(at)
+  local match = ffi.new("rope_search_listed")
+  return listed(calls.rope_search_listed_from(self.handle, position(at), match), match)
+end
+
+function Session:listed_before(at)
+  local match = ffi.new("rope_search_listed")
+  return listed(calls.rope_search_listed_before(self.handle, position(at), match), match)
+end
+
+-- How many matches the report lists before match `number`, from 0, of a row, and how many in all; or
+-- nil if there is no such match.
+function Session:list_index(line, number)
+  local index, count = ffi.new("size_t[1]"), ffi.new("size_t[1]")
+  if not calls.rope_search_list_index(self.handle, line, number, index, count) then
+    return nil
+  end
+  return tonumber(index[0]), tonumber(count[0])
+end
+
 -- Which rows the last accepted command on the chosen buffer replaced, of those that may: `removed`
 -- rows made way from the first on, for `added` others.
 function Session:changed()
   local stretch = calls.rope_search_changed(self.handle)
   return { first = tonumber(stretch.first), removed = tonumber(stretch.removed), added = tonumber(stretch.added) }
+end
+
+-- The ranges of bytes in which the last accepted call on the chosen buffer replaced its text: each
+-- with the four offsets that C has, in ascending order.
+function Session:text_changes()
+  local count = tonumber(calls.rope_search_text_changes(self.handle, ffi.new("rope_search_text_change[1]"), 0))
+  local out = ffi.new("rope_search_text_change[?]", math.max(1, count))
+  calls.rope_search_text_changes(self.handle, out, count)
+  local changes = {}
+  for i = 0, count - 1 do
+    local one = out[i]
+    changes[i + 1] = {
+      old_start = tonumber(one.old_start),
+      old_end = tonumber(one.old_end),
+      new_start = tonumber(one.new_start),
+      new_end = tonumber(one.new_end),
+    }
+  end
+  return changes
 end
 
 -- The rows that were made so far, and the searches of a whole text.

@@ -11,14 +11,19 @@ and leaves the session as it was. A session stays on the thread that opened it. 
 does, docs/patterns.md what patterns there are.
 
 The library is the file that ROPE_SEARCH_LIBRARY names, else that of bin/ in this repository, or of lib/ where both were
-installed, else the system's. It is opened when the first session is.
+installed, else the system's. It is opened when the first session is. A number that C can't take, below 0 or above 64
+bits, raises ctypes.ArgumentError.
 """
 import ctypes
 import ctypes.util
+import operator
 import os
 from typing import Iterable, List, NamedTuple, Optional, Tuple, Type, Union
 
 Text = Union[str, bytes]
+# The version of the header that is declared below.
+VERSION = 2_000
+_ALL = (1 << (8 * ctypes.sizeof(ctypes.c_size_t))) - 1
 
 
 class Position(NamedTuple):
@@ -40,6 +45,14 @@ class Span(NamedTuple):
     stop: int
 
 
+class Listed(NamedTuple):
+    """A match of a report: its line, its number in that row, from 0, and the columns where it starts and where it ends."""
+    line: int
+    number: int
+    start: int
+    stop: int
+
+
 class PatternError(NamedTuple):
     """Where and why a text is no pattern: the byte at which the first character begins that can't stand there, the text's
     length where it ends too early; and one of REASONS."""
@@ -53,6 +66,14 @@ class Stretch(NamedTuple):
     first: int
     removed: int
     added: int
+
+
+class TextChange(NamedTuple):
+    """A range of the old text and the range of the new text that took its place, in bytes. Either may be empty."""
+    old_start: int
+    old_end: int
+    new_start: int
+    new_end: int
 
 
 class Counts(NamedTuple):
@@ -119,12 +140,24 @@ REASONS: Tuple[str, ...] = (
 )
 
 
+def _fitting(number: int) -> int:
+    """The number, where C can take it: ctypes would keep its last bits and say nothing."""
+    number = operator.index(number)
+    if not 0 <= number <= _ALL:
+        raise ctypes.ArgumentError(f"{number} has no place in a size_t")
+    return number
+
+
+class _Number(ctypes.c_size_t):
+    """A number that is handed to C."""
+
+    @classmethod
+    def from_param(cls, number: int) -> "_Number":
+        return cls(_fitting(number))
+
+
 class _Handle(ctypes.Structure):
     _fields_ = [("at", ctypes.c_void_p), ("is_open", ctypes.c_bool)]
-
-
-class _Ticks(ctypes.Structure):
-    _fields_ = [("rows", ctypes.c_uint64), ("wholes", ctypes.c_uint64), ("looked", ctypes.c_uint64)]
 
 
 class _Counts(ctypes.Structure):
@@ -133,6 +166,9 @@ class _Counts(ctypes.Structure):
 
 class _Position(ctypes.Structure):
     _fields_ = [("line", ctypes.c_size_t), ("column", ctypes.c_size_t)]
+
+    def __init__(self, line: int = 0, column: int = 0) -> None:
+        super().__init__(_fitting(line), _fitting(column))
 
 
 class _Match(ctypes.Structure):
@@ -147,6 +183,10 @@ class _Group(ctypes.Structure):
     _fields_ = [("found", ctypes.c_bool), ("line", ctypes.c_size_t), ("start", ctypes.c_size_t), ("stop", ctypes.c_size_t)]
 
 
+class _Listed(ctypes.Structure):
+    _fields_ = [(name, ctypes.c_size_t) for name in ("line", "number", "start", "stop")]
+
+
 class _PatternReason(ctypes.Structure):
     _fields_ = [("reason", ctypes.c_uint32), ("place", ctypes.c_size_t)]
 
@@ -159,13 +199,19 @@ class _Stretch(ctypes.Structure):
     _fields_ = [("first", ctypes.c_size_t), ("removed", ctypes.c_size_t), ("added", ctypes.c_size_t)]
 
 
+class _TextChange(ctypes.Structure):
+    _fields_ = [(name, ctypes.c_size_t) for name in TextChange._fields]
+
+
 _HANDLE, _BYTES, _SIZE, _STATUS = ctypes.POINTER(_Handle), ctypes.c_char_p, ctypes.c_size_t, ctypes.c_uint32
 _CALLS = {
-    "open": (_STATUS, _SIZE, _Ticks, _HANDLE),
+    "version": (ctypes.c_uint32,),
+    "open": (_STATUS, _SIZE, _HANDLE),
     "close": (None, _HANDLE),
     "set_text": (_STATUS, _HANDLE, _BYTES, _SIZE),
     "edit": (_STATUS, _HANDLE, _Position, _Position, _BYTES, _SIZE),
     "edit_all": (_STATUS, _HANDLE, ctypes.POINTER(_TextEdit), _SIZE, _BYTES, _SIZE),
+    "edit_bytes": (_STATUS, _HANDLE, _SIZE, _SIZE, _BYTES, _SIZE),
     "undo": (_STATUS, _HANDLE),
     "redo": (_STATUS, _HANDLE),
     "set_pattern": (_STATUS, _HANDLE, _BYTES, _SIZE),
@@ -176,27 +222,39 @@ _CALLS = {
     "fork": (_STATUS, _HANDLE, ctypes.POINTER(_SIZE)),
     "choose": (_STATUS, _HANDLE, ctypes.c_uint64),
     "forget": (_STATUS, _HANDLE),
+    "keep": (_STATUS, _HANDLE, _SIZE),
     "buffers": (_SIZE, _HANDLE),
     "chosen": (_SIZE, _HANDLE),
     "can_undo": (ctypes.c_bool, _HANDLE),
     "can_redo": (ctypes.c_bool, _HANDLE),
+    "undo_steps": (_SIZE, _HANDLE),
+    "redo_steps": (_SIZE, _HANDLE),
     "byte_of": (_STATUS, _HANDLE, _Position, ctypes.POINTER(_SIZE)),
     "position_of": (_STATUS, _HANDLE, _SIZE, ctypes.POINTER(_Position)),
     "column_in": (_STATUS, _HANDLE, ctypes.c_uint32, _Position, ctypes.POINTER(_SIZE)),
     "position_in": (_STATUS, _HANDLE, ctypes.c_uint32, _SIZE, _SIZE, ctypes.POINTER(_Position)),
+    "clamp": (_STATUS, _HANDLE, ctypes.c_uint32, _SIZE, _SIZE, ctypes.POINTER(_Position)),
+    "line_len": (_STATUS, _HANDLE, _SIZE, ctypes.c_uint32, ctypes.POINTER(_SIZE)),
+    "copy_line": (ctypes.c_bool, _HANDLE, _SIZE, _BYTES, _SIZE),
     "text_len": (_SIZE, _HANDLE),
     "text_lines": (_SIZE, _HANDLE),
     "copy_text": (ctypes.c_bool, _HANDLE, _SIZE, _SIZE, _BYTES, _SIZE),
     "rows": (_SIZE, _HANDLE),
     "count_matches": (_SIZE, _HANDLE, _SIZE, _SIZE),
     "copy_matches": (_SIZE, _HANDLE, _SIZE, _SIZE, ctypes.POINTER(_Span), _SIZE),
+    "copy_matches_in": (_SIZE, _HANDLE, ctypes.c_uint32, _SIZE, _SIZE, ctypes.POINTER(_Span), _SIZE),
     "groups_at": (_STATUS, _HANDLE, _SIZE, _SIZE, ctypes.POINTER(_Group), _SIZE),
+    "listed_from": (ctypes.c_bool, _HANDLE, _Position, ctypes.POINTER(_Listed)),
+    "listed_before": (ctypes.c_bool, _HANDLE, _Position, ctypes.POINTER(_Listed)),
+    "list_index": (ctypes.c_bool, _HANDLE, _SIZE, _SIZE, ctypes.POINTER(_SIZE), ctypes.POINTER(_SIZE)),
     "changed": (_Stretch, _HANDLE),
+    "text_changes": (_SIZE, _HANDLE, ctypes.POINTER(_TextChange), _SIZE),
     "counted": (_Counts, _HANDLE),
 }
-_ALL = (1 << (8 * ctypes.sizeof(ctypes.c_size_t))) - 1
+# What is handed over where the header has such a number.
+_HANDED = {_SIZE: _Number, ctypes.c_uint64: _Number}
 # How C names what columns count.
-_BITS = {"utf-8": 8, "utf-32": 32}
+_BITS = {"utf-8": 8, "utf-16": 16, "utf-32": 32}
 _library: Optional[ctypes.CDLL] = None
 
 
@@ -213,16 +271,19 @@ def library_path() -> str:
 
 
 def library() -> ctypes.CDLL:
-    """The library, with its calls declared. OSError where it isn't found."""
+    """The library, with its calls declared. OSError where it isn't found, or has another version."""
     global _library
     if _library is None:
         path = library_path()
         if not path:
             raise OSError("librope_search.so was not found: make lib builds it, ROPE_SEARCH_LIBRARY names it")
         opened = ctypes.CDLL(path)
+        version = getattr(opened, "rope_search_version", int)()
+        if version // 1_000 != VERSION // 1_000:
+            raise OSError(f"{path} has the version {version}, not {VERSION}")
         for name, (result, *arguments) in _CALLS.items():
             call = getattr(opened, "rope_search_" + name)
-            call.restype, call.argtypes = result, arguments
+            call.restype, call.argtypes = result, [_HANDED.get(kind, kind) for kind in arguments]
         _library = opened
     return _library
 
@@ -251,7 +312,7 @@ class Session:
     def __init__(self, limit: int = 1 << 30) -> None:
         self._calls = library()
         self._handle = _Handle()
-        _check(self._calls.rope_search_open(limit, _Ticks(), self._handle))
+        _check(self._calls.rope_search_open(limit, self._handle))
 
     def __enter__(self) -> "Session":
         return self
@@ -291,6 +352,12 @@ class Session:
         told = (_TextEdit * max(1, len(edits)))(*((start, stop, len(text)) for start, stop, text in edits))
         text = b"".join(text for _, _, text in edits)
         _check(self._calls.rope_search_edit_all(self._handle, told, len(edits), text, len(text)))
+
+    def edit_bytes(self, start: int, stop: int, text: Text) -> None:
+        """Replaces the bytes from one offset to another. Refused: Range, where an offset is past the text, inside a character
+        or between a CR and its LF; Utf8, Size, Memory."""
+        text = _bytes_of(text)
+        _check(self._calls.rope_search_edit_bytes(self._handle, start, stop, text, len(text)))
 
     def undo(self) -> None:
         """Goes one text back. Refused: Nothing, Memory."""
@@ -337,6 +404,10 @@ class Session:
         """Drops the history: the current text alone is left."""
         _check(self._calls.rope_search_forget(self._handle))
 
+    def keep(self, steps: int) -> None:
+        """Drops all undo steps but the last `steps`, and what could be redone."""
+        _check(self._calls.rope_search_keep(self._handle, steps))
+
     # ---- reading
 
     @property
@@ -359,6 +430,16 @@ class Session:
         """Whether there is a text to go forward to."""
         return self._calls.rope_search_can_redo(self._open())
 
+    @property
+    def undo_steps(self) -> int:
+        """How many texts there are to go back to."""
+        return self._calls.rope_search_undo_steps(self._open())
+
+    @property
+    def redo_steps(self) -> int:
+        """How many texts there are to go forward to."""
+        return self._calls.rope_search_redo_steps(self._open())
+
     def byte_of(self, position: Tuple[int, int]) -> int:
         """The byte of the text at which a position is. Refused: Range."""
         byte = ctypes.c_size_t()
@@ -372,16 +453,39 @@ class Session:
         return Position(position.line, position.column)
 
     def column_in(self, encoding: str, position: Tuple[int, int]) -> int:
-        """The column of a position in bytes, for "utf-8", or in characters, for "utf-32". Refused: Range."""
+        """The column of a position in bytes, for "utf-8", in characters, for "utf-32", or in code units, for "utf-16".
+        Refused: Range."""
         column = ctypes.c_size_t()
         _check(self._calls.rope_search_column_in(self._handle, _BITS.get(encoding, 0), _Position(*position), column))
         return column.value
 
     def position_in(self, encoding: str, line: int, column: int) -> Position:
-        """The position of a line and a column in bytes or in characters. Refused: Range, where they are nowhere."""
+        """The position of a line and a column in an encoding. Refused: Range, where they are nowhere."""
         position = _Position()
         _check(self._calls.rope_search_position_in(self._handle, _BITS.get(encoding, 0), line, column, position))
         return Position(position.line, position.column)
+
+    def clamp(self, line: int, column: int, encoding: str = "utf-16") -> Position:
+        """The position nearest to a line and a column in an encoding, which may be nowhere: for a column past the line's
+        text its end, for one inside a character or a surrogate pair the start of that, for a line past the last one the
+        text's end. Refused: Range, for another encoding."""
+        position = _Position()
+        _check(self._calls.rope_search_clamp(self._handle, _BITS.get(encoding, 0), line, column, position))
+        return Position(position.line, position.column)
+
+    def line_len(self, line: int, encoding: str = "utf-16") -> int:
+        """How long a line's text is in an encoding, its break left off. Refused: Range."""
+        length = ctypes.c_size_t()
+        _check(self._calls.rope_search_line_len(self._handle, line, _BITS.get(encoding, 0), length))
+        return length.value
+
+    def line_text(self, line: int) -> str:
+        """A line's text, its break left off. Refused: Range."""
+        room = self.line_len(line, "utf-8")
+        out = ctypes.create_string_buffer(max(1, room))
+        if not self._calls.rope_search_copy_line(self._handle, line, out, room):
+            raise Range()
+        return out.raw[:room].decode("utf-8")
 
     @property
     def text_len(self) -> int:
@@ -416,12 +520,15 @@ class Session:
         """How many matches the rows from one line to another have."""
         return self._calls.rope_search_count_matches(self._open(), start, _ALL if stop is None else stop)
 
-    def matches(self, start: int = 0, stop: Optional[int] = None) -> List[Span]:
-        """The matches in the rows from one line to another."""
+    def matches(self, start: int = 0, stop: Optional[int] = None, encoding: str = "utf-16") -> List[Span]:
+        """The matches in the rows from one line to another, with columns in an encoding; none for another."""
         stop = _ALL if stop is None else stop
         count = self.count_matches(start, stop)
         out = (_Span * max(1, count))()
-        self._calls.rope_search_copy_matches(self._open(), start, stop, out, count)
+        if encoding == "utf-16":
+            self._calls.rope_search_copy_matches(self._open(), start, stop, out, count)
+        else:
+            count = self._calls.rope_search_copy_matches_in(self._open(), _BITS.get(encoding, 0), start, stop, out, count)
         return [Span(span.line, span.start, span.stop) for span in out[:count]]
 
     def groups_at(self, line: int, number: int) -> List[Optional[Span]]:
@@ -431,12 +538,41 @@ class Session:
         _check(self._calls.rope_search_groups_at(self._handle, line, number, out, len(out)))
         return [Span(group.line, group.start, group.stop) if group.found else None for group in out]
 
+    def listed_from(self, position: Tuple[int, int]) -> Optional[Listed]:
+        """The first match of the report that starts at a position or after it."""
+        match = _Listed()
+        found = self._calls.rope_search_listed_from(self._open(), _Position(*position), match)
+        return Listed(match.line, match.number, match.start, match.stop) if found else None
+
+    def listed_before(self, position: Tuple[int, int]) -> Optional[Listed]:
+        """The last match of the report that starts before a position."""
+        match = _Listed()
+        found = self._calls.rope_search_listed_before(self._open(), _Position(*position), match)
+        return Listed(match.line, match.number, match.start, match.stop) if found else None
+
+    def list_index(self, line: int, number: int) -> Optional[Tuple[int, int]]:
+        """How many matches the report lists before match `number`, from 0, of a row, and how many in all; None where there
+        is no such match."""
+        index, count = ctypes.c_size_t(), ctypes.c_size_t()
+        found = self._calls.rope_search_list_index(self._open(), line, number, index, count)
+        return (index.value, count.value) if found else None
+
     @property
     def changed(self) -> Stretch:
         """Which rows the last accepted command on the chosen buffer replaced, of those that may: the setters, edits, undo,
         redo, off and replace."""
         stretch = self._calls.rope_search_changed(self._open())
         return Stretch(stretch.first, stretch.removed, stretch.added)
+
+    @property
+    def text_changes(self) -> List[TextChange]:
+        """The ranges of bytes in which the last accepted call on the chosen buffer replaced its text, of set_text, edit,
+        edit_all, undo, redo and replace: ascending, never merged. The old text with each range replaced by the new text's
+        range is the new text."""
+        count = self._calls.rope_search_text_changes(self._open(), (_TextChange * 1)(), 0)
+        out = (_TextChange * max(1, count))()
+        self._calls.rope_search_text_changes(self._open(), out, count)
+        return [TextChange(one.old_start, one.old_end, one.new_start, one.new_end) for one in out[:count]]
 
     @property
     def counted(self) -> Counts:

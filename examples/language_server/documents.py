@@ -10,6 +10,7 @@ import rope_search
 
 Found = namedtuple("Found", "line start stop text")  # A match: where it is, in the editor's columns, and its text.
 LONE_SURROGATE = re.compile("[\ud800-\udfff]")  # JSON can spell one, UTF-8 can't.
+MOST = (1 << 64) - 1  # the greatest number that the library takes
 REFERENCE = re.compile(r"\$([0-9$])")  # in a template
 
 
@@ -58,39 +59,21 @@ class Document:
     def position(self, line, column):
         """Returns the session's position for a place of the editor. As the protocol asks, a column after the line's end is
         that end. A line after the last is the text's end, and a column inside a character the character's start."""
-        for back in range(4):  # A character has at most four units.
-            try:
-                if self.encoding != "utf-16":
-                    return self.report.position_in(self.encoding, line, column - back)
-                return self.report.position_of(self.report.byte_of((line, column - back)))
-            except rope_search.Range:
-                pass
-        return self.line_end(line)
-
-    def line_end(self, line):
-        if line + 1 >= self.report.text_lines:
-            return self.report.position_of(self.report.text_len)
-        last = self.report.position_of(self.report.byte_of((line + 1, 0)) - 1)
-        try:
-            return self.report.position_of(self.report.byte_of(last))
-        except rope_search.Range:  # It is between CR and LF.
-            return last._replace(column=last.column - 1)
-
-    def column(self, line, column):
-        return column if self.encoding == "utf-16" else self.report.column_in(self.encoding, (line, column))
+        return self.report.clamp(min(line, MOST), min(column, MOST), self.encoding)
 
     def text(self, start, stop):
         return self.report.text_bytes(self.report.byte_of(start), self.report.byte_of(stop)).decode()
 
     def matches(self, session, first=0, stop=None, word=None):
         """Returns the matches that a session of this text lists in some rows, or in all. Each is `word`, if it is given."""
-        return [Found(line, self.column(line, start), self.column(line, end), word or self.text((line, start), (line, end)))
-                for line, start, end in session.matches(first, stop)]
+        told = session.matches(first, stop, self.encoding)
+        return [Found(*own, word or self.text((line, start), (line, end)))
+                for own, (line, start, end) in zip(told, session.matches(first, stop))]
 
     def word_at(self, line, column):
         """Returns the word around a position, or None."""
         with rope_search.Session() as session:
-            session.set_text(self.text((line, 0), self.line_end(line)))
+            session.set_text(self.report.line_text(line))
             session.set_pattern(r"\w+")
             spans = [((line, start), (line, stop)) for _, start, stop in session.matches() if start <= column <= stop]
         return self.text(*spans[0]) if spans else None

@@ -7,7 +7,7 @@
 #![allow(unsafe_code)]
 
 use crate::error::{Error, Result};
-use crate::types::{Counts, Match, Position, Span, Stretch};
+use crate::types::{Counts, Listed, Match, Position, Span, Stretch, TextChange};
 use std::cell::UnsafeCell;
 use std::ffi::c_void;
 use std::ptr;
@@ -16,14 +16,6 @@ use std::ptr;
 struct RawSession {
     at: *mut c_void,
     is_open: bool,
-}
-
-#[repr(C)]
-#[derive(Clone, Copy)]
-struct Ticks {
-    rows: u64,
-    wholes: u64,
-    looked: u64,
 }
 
 #[repr(C)]
@@ -60,7 +52,8 @@ pub(crate) struct RawEdit {
 }
 
 extern "C" {
-    fn rope_search_open(limit: usize, ticks: Ticks, session: *mut RawSession) -> u32;
+    fn rope_search_version() -> u32;
+    fn rope_search_open(limit: usize, session: *mut RawSession) -> u32;
     fn rope_search_close(session: *mut RawSession);
     fn rope_search_set_text(session: *mut RawSession, text: *const u8, len: usize) -> u32;
     fn rope_search_edit(
@@ -74,6 +67,13 @@ extern "C" {
         session: *mut RawSession,
         edits: *const RawEdit,
         count: usize,
+        text: *const u8,
+        len: usize,
+    ) -> u32;
+    fn rope_search_edit_bytes(
+        session: *mut RawSession,
+        from: usize,
+        to: usize,
         text: *const u8,
         len: usize,
     ) -> u32;
@@ -92,10 +92,13 @@ extern "C" {
     fn rope_search_fork(session: *mut RawSession, number: *mut usize) -> u32;
     fn rope_search_choose(session: *mut RawSession, number: u64) -> u32;
     fn rope_search_forget(session: *mut RawSession) -> u32;
+    fn rope_search_keep(session: *mut RawSession, steps: usize) -> u32;
     fn rope_search_buffers(session: *mut RawSession) -> usize;
     fn rope_search_chosen(session: *mut RawSession) -> usize;
     fn rope_search_can_undo(session: *mut RawSession) -> bool;
     fn rope_search_can_redo(session: *mut RawSession) -> bool;
+    fn rope_search_undo_steps(session: *mut RawSession) -> usize;
+    fn rope_search_redo_steps(session: *mut RawSession) -> usize;
     fn rope_search_text_len(session: *mut RawSession) -> usize;
     fn rope_search_text_lines(session: *mut RawSession) -> usize;
     fn rope_search_copy_text(
@@ -124,10 +127,37 @@ extern "C" {
         column: usize,
         position: *mut Position,
     ) -> u32;
+    fn rope_search_clamp(
+        session: *mut RawSession,
+        bits: u32,
+        line: usize,
+        column: usize,
+        position: *mut Position,
+    ) -> u32;
+    fn rope_search_line_len(
+        session: *mut RawSession,
+        line: usize,
+        bits: u32,
+        len: *mut usize,
+    ) -> u32;
+    fn rope_search_copy_line(
+        session: *mut RawSession,
+        line: usize,
+        out: *mut u8,
+        out_len: usize,
+    ) -> bool;
     fn rope_search_rows(session: *mut RawSession) -> usize;
     fn rope_search_count_matches(session: *mut RawSession, from: usize, to: usize) -> usize;
     fn rope_search_copy_matches(
         session: *mut RawSession,
+        from: usize,
+        to: usize,
+        out: *mut Span,
+        out_len: usize,
+    ) -> usize;
+    fn rope_search_copy_matches_in(
+        session: *mut RawSession,
+        bits: u32,
         from: usize,
         to: usize,
         out: *mut Span,
@@ -140,13 +170,41 @@ extern "C" {
         out: *mut RawGroup,
         out_len: usize,
     ) -> u32;
+    fn rope_search_listed_from(
+        session: *mut RawSession,
+        position: Position,
+        found: *mut Listed,
+    ) -> bool;
+    fn rope_search_listed_before(
+        session: *mut RawSession,
+        position: Position,
+        found: *mut Listed,
+    ) -> bool;
+    fn rope_search_list_index(
+        session: *mut RawSession,
+        line: usize,
+        number: usize,
+        index: *mut usize,
+        count: *mut usize,
+    ) -> bool;
     fn rope_search_changed(session: *mut RawSession) -> Stretch;
+    fn rope_search_text_changes(
+        session: *mut RawSession,
+        out: *mut TextChange,
+        out_len: usize,
+    ) -> usize;
     fn rope_search_counted(session: *mut RawSession) -> Counts;
 }
 
 /// What a call returned that may be refused.
 fn check(status: u32) -> Result<()> {
     Error::of(status).map_or(Ok(()), Err)
+}
+
+/// The version of the library.
+pub(crate) fn version() -> u32 {
+    // SAFETY: it takes nothing.
+    unsafe { rope_search_version() }
 }
 
 /// Why bytes are no pattern: the number of the reason, 0 if there is none, and the byte.
@@ -174,12 +232,7 @@ impl Handle {
             at: ptr::null_mut(),
             is_open: false,
         };
-        let ticks = Ticks {
-            rows: 0,
-            wholes: 0,
-            looked: 0,
-        };
-        check(unsafe { rope_search_open(limit, ticks, &mut session) })?;
+        check(unsafe { rope_search_open(limit, &mut session) })?;
         Ok(Handle(UnsafeCell::new(session)))
     }
 
@@ -198,6 +251,11 @@ impl Handle {
     pub fn edit_all(&mut self, edits: &[RawEdit], text: &[u8]) -> Result<()> {
         let (edits, count) = (edits.as_ptr(), edits.len());
         check(unsafe { rope_search_edit_all(self.ptr(), edits, count, text.as_ptr(), text.len()) })
+    }
+
+    pub fn edit_bytes(&mut self, from: usize, to: usize, text: &[u8]) -> Result<()> {
+        let (text, len) = (text.as_ptr(), text.len());
+        check(unsafe { rope_search_edit_bytes(self.ptr(), from, to, text, len) })
     }
 
     pub fn undo(&mut self) -> Result<()> {
@@ -250,6 +308,10 @@ impl Handle {
         check(unsafe { rope_search_forget(self.ptr()) })
     }
 
+    pub fn keep(&mut self, steps: usize) -> Result<()> {
+        check(unsafe { rope_search_keep(self.ptr(), steps) })
+    }
+
     pub fn buffers(&self) -> usize {
         unsafe { rope_search_buffers(self.ptr()) }
     }
@@ -264,6 +326,14 @@ impl Handle {
 
     pub fn can_redo(&self) -> bool {
         unsafe { rope_search_can_redo(self.ptr()) }
+    }
+
+    pub fn undo_steps(&self) -> usize {
+        unsafe { rope_search_undo_steps(self.ptr()) }
+    }
+
+    pub fn redo_steps(&self) -> usize {
+        unsafe { rope_search_redo_steps(self.ptr()) }
     }
 
     pub fn text_len(&self) -> usize {
@@ -302,6 +372,22 @@ impl Handle {
         Ok(position)
     }
 
+    pub fn clamp(&self, bits: u32, line: usize, column: usize) -> Result<Position> {
+        let mut position = Position { line: 0, column: 0 };
+        check(unsafe { rope_search_clamp(self.ptr(), bits, line, column, &mut position) })?;
+        Ok(position)
+    }
+
+    pub fn line_len(&self, line: usize, bits: u32) -> Result<usize> {
+        let mut len = 0;
+        check(unsafe { rope_search_line_len(self.ptr(), line, bits, &mut len) })?;
+        Ok(len)
+    }
+
+    pub fn copy_line(&self, line: usize, out: &mut [u8]) -> bool {
+        unsafe { rope_search_copy_line(self.ptr(), line, out.as_mut_ptr(), out.len()) }
+    }
+
     pub fn rows(&self) -> usize {
         unsafe { rope_search_rows(self.ptr()) }
     }
@@ -312,6 +398,11 @@ impl Handle {
 
     pub fn copy_matches(&self, from: usize, to: usize, out: &mut [Span]) -> usize {
         unsafe { rope_search_copy_matches(self.ptr(), from, to, out.as_mut_ptr(), out.len()) }
+    }
+
+    pub fn copy_matches_in(&self, bits: u32, from: usize, to: usize, out: &mut [Span]) -> usize {
+        let (out, len) = (out.as_mut_ptr(), out.len());
+        unsafe { rope_search_copy_matches_in(self.ptr(), bits, from, to, out, len) }
     }
 
     pub fn groups_at(&self, line: usize, number: usize) -> Result<[Option<Span>; 10]> {
@@ -335,8 +426,31 @@ impl Handle {
         }))
     }
 
+    pub fn listed_from(&self, position: Position) -> Option<Listed> {
+        let mut found = Listed::default();
+        let is_found = unsafe { rope_search_listed_from(self.ptr(), position, &mut found) };
+        is_found.then_some(found)
+    }
+
+    pub fn listed_before(&self, position: Position) -> Option<Listed> {
+        let mut found = Listed::default();
+        let is_found = unsafe { rope_search_listed_before(self.ptr(), position, &mut found) };
+        is_found.then_some(found)
+    }
+
+    pub fn list_index(&self, line: usize, number: usize) -> Option<(usize, usize)> {
+        let (mut index, mut count) = (0, 0);
+        let is_listed =
+            unsafe { rope_search_list_index(self.ptr(), line, number, &mut index, &mut count) };
+        is_listed.then_some((index, count))
+    }
+
     pub fn changed(&self) -> Stretch {
         unsafe { rope_search_changed(self.ptr()) }
+    }
+
+    pub fn text_changes(&self, out: &mut [TextChange]) -> usize {
+        unsafe { rope_search_text_changes(self.ptr(), out.as_mut_ptr(), out.len()) }
     }
 
     pub fn counted(&self) -> Counts {

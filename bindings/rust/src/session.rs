@@ -2,7 +2,9 @@
 use crate::error::{Error, PatternError, Reason, Result};
 use crate::matches::Matches;
 use crate::raw::{self, Handle, RawEdit};
-use crate::types::{Counts, Encoding, Groups, Match, Position, Span, Stretch, TextEdit};
+use crate::types::{
+    Counts, Encoding, Groups, Listed, Match, Position, Span, Stretch, TextChange, TextEdit,
+};
 use std::fmt;
 use std::ops::{Bound, Range, RangeBounds};
 
@@ -141,6 +143,33 @@ impl Session {
         self.handle.edit_all(&places, &text)
     }
 
+    /// Replaces a range of bytes, as [`Session::edit`] does between the positions at its ends.
+    ///
+    /// # Errors
+    ///
+    /// [`Error::Range`] if an end is past the text, inside a character or between the CR and the LF of a
+    /// break, or the range runs backward; [`Error::Utf8`], [`Error::Size`], [`Error::Memory`].
+    ///
+    /// ```
+    /// use rope_search::{Error, Session};
+    ///
+    /// let mut session = Session::new()?;
+    /// session.set_text("🐸 one\r\ntwo")?;
+    /// session.edit_bytes(0..4, "frog")?;
+    /// assert_eq!(session.edit_bytes(9..10, ""), Err(Error::Range));
+    /// session.edit_bytes(8..10, " ")?;
+    /// assert_eq!(session.text(..)?, "frog one two");
+    /// # Ok::<(), Error>(())
+    /// ```
+    pub fn edit_bytes(
+        &mut self,
+        range: impl RangeBounds<usize>,
+        text: impl AsRef<[u8]>,
+    ) -> Result<()> {
+        let (from, to) = ends_of(&range, self.text_len()).ok_or(Error::Range)?;
+        self.handle.edit_bytes(from, to, text.as_ref())
+    }
+
     /// Goes one text back.
     ///
     /// # Errors
@@ -229,6 +258,25 @@ impl Session {
         debug_assert_eq!(done, Ok(()));
     }
 
+    /// Drops all undo steps but the last `steps`, and what could be redone. The text, the pattern, the report
+    /// and what [`Session::text_changes`] returns stay.
+    ///
+    /// ```
+    /// use rope_search::Session;
+    ///
+    /// let mut session = Session::new()?;
+    /// for text in ["a", "b", "c"] {
+    ///     session.edit((0, 0)..(0, 0), text)?;
+    /// }
+    /// session.keep(2);
+    /// assert_eq!(session.undo_steps(), 2);
+    /// # Ok::<(), rope_search::Error>(())
+    /// ```
+    pub fn keep(&mut self, steps: usize) {
+        let done = self.handle.keep(steps);
+        debug_assert_eq!(done, Ok(()));
+    }
+
     // ---- buffers, and the chosen one's history
 
     /// Returns the number of buffers.
@@ -249,6 +297,16 @@ impl Session {
     /// Returns whether there is a text to go forward to.
     pub fn can_redo(&self) -> bool {
         self.handle.can_redo()
+    }
+
+    /// Returns the number of texts to go back to.
+    pub fn undo_steps(&self) -> usize {
+        self.handle.undo_steps()
+    }
+
+    /// Returns the number of texts to go forward to.
+    pub fn redo_steps(&self) -> usize {
+        self.handle.redo_steps()
     }
 
     // ---- reading the chosen buffer
@@ -327,7 +385,7 @@ impl Session {
         self.handle.position_of(byte)
     }
 
-    /// Returns the column of a position in bytes or in characters.
+    /// Returns the column of a position in an encoding.
     ///
     /// # Errors
     ///
@@ -347,13 +405,90 @@ impl Session {
         self.handle.column_in(encoding.bits(), position.into())
     }
 
-    /// Returns the position of a line and a column in bytes or in characters.
+    /// Returns the position of a line and a column in an encoding.
     ///
     /// # Errors
     ///
     /// [`Error::Range`] if they are nowhere.
     pub fn position_in(&self, encoding: Encoding, line: usize, column: usize) -> Result<Position> {
         self.handle.position_in(encoding.bits(), line, column)
+    }
+
+    /// Returns the position nearest to a line and a column in an encoding, which may be nowhere: for a column
+    /// past the line's text its end, for one inside a character or a surrogate pair the start of that, and for
+    /// a line past the last one the text's end.
+    ///
+    /// ```
+    /// use rope_search::{Encoding, Position, Session};
+    ///
+    /// let mut session = Session::new()?;
+    /// session.set_text("🐸 frog\r\n")?;
+    /// assert_eq!(session.clamp(Encoding::Utf16, 0, 1), Position::new(0, 0));
+    /// assert_eq!(session.clamp(Encoding::Utf8, 0, 100), Position::new(0, 7));
+    /// assert_eq!(session.clamp(Encoding::Utf8, 100, 0), Position::new(1, 0));
+    /// # Ok::<(), rope_search::Error>(())
+    /// ```
+    pub fn clamp(&self, encoding: Encoding, line: usize, column: usize) -> Position {
+        let clamped = self.handle.clamp(encoding.bits(), line, column);
+        debug_assert!(clamped.is_ok());
+        clamped.unwrap_or_default()
+    }
+
+    /// Returns how long the text of a line is, its break left off.
+    ///
+    /// # Errors
+    ///
+    /// [`Error::Range`] if there is no such line.
+    ///
+    /// ```
+    /// use rope_search::{Encoding, Error, Session};
+    ///
+    /// let mut session = Session::new()?;
+    /// session.set_text("🐸 frog\r\ntoad")?;
+    /// assert_eq!(session.line_len(0, Encoding::Utf8)?, 9);
+    /// assert_eq!(session.line_len(2, Encoding::Utf8), Err(Error::Range));
+    /// assert_eq!(session.line_text(1)?, "toad");
+    /// # Ok::<(), Error>(())
+    /// ```
+    pub fn line_len(&self, line: usize, encoding: Encoding) -> Result<usize> {
+        self.handle.line_len(line, encoding.bits())
+    }
+
+    /// Returns the text of a line, its break left off.
+    ///
+    /// # Errors
+    ///
+    /// [`Error::Range`] if there is no such line.
+    pub fn line_text(&self, line: usize) -> Result<String> {
+        let mut bytes = vec![0; self.line_len(line, Encoding::Utf8)?];
+        if !self.handle.copy_line(line, &mut bytes) {
+            return Err(Error::Range);
+        }
+        String::from_utf8(bytes).map_err(|_| Error::Utf8)
+    }
+
+    /// Copies the matches in a range of rows to the front of `out`, with their columns in an encoding, as many
+    /// as fit, and returns how many there are. The rest of `out` is not changed.
+    ///
+    /// ```
+    /// use rope_search::{Encoding, Session, Span};
+    ///
+    /// let mut session = Session::new()?;
+    /// session.set_text("🐸 frog")?;
+    /// session.set_pattern("frog")?;
+    /// let mut out = [Span::default(); 2];
+    /// assert_eq!(session.copy_matches_in(Encoding::Utf8, .., &mut out), 1);
+    /// assert_eq!(out[0], Span { line: 0, start: 5, stop: 9 });
+    /// # Ok::<(), rope_search::Error>(())
+    /// ```
+    pub fn copy_matches_in(
+        &self,
+        encoding: Encoding,
+        rows: impl RangeBounds<usize>,
+        out: &mut [Span],
+    ) -> usize {
+        let (from, to) = rows_of(&rows);
+        self.handle.copy_matches_in(encoding.bits(), from, to, out)
     }
 
     /// Returns the number of rows of the report: one for each line of the text, or 0 without a pattern.
@@ -438,11 +573,63 @@ impl Session {
         self.handle.groups_at(line, number)
     }
 
+    /// Returns the first match of the report that starts at a position or after it. The position need not be
+    /// one of the text. Nothing is searched.
+    ///
+    /// ```
+    /// use rope_search::Session;
+    ///
+    /// let mut session = Session::new()?;
+    /// session.set_text("one two\none")?;
+    /// session.set_pattern("one")?;
+    /// let next = session.listed_from((0, 1)).unwrap();
+    /// assert_eq!((next.line, next.number), (1, 0));
+    /// assert_eq!(session.listed_before((1, 0)).unwrap().line, 0);
+    /// assert_eq!(session.list_index(next.line, next.number), Some((1, 2)));
+    /// # Ok::<(), rope_search::Error>(())
+    /// ```
+    pub fn listed_from(&self, position: impl Into<Position>) -> Option<Listed> {
+        self.handle.listed_from(position.into())
+    }
+
+    /// Returns the last match of the report that starts before a position.
+    pub fn listed_before(&self, position: impl Into<Position>) -> Option<Listed> {
+        self.handle.listed_before(position.into())
+    }
+
+    /// Returns how many matches the report lists before match `number`, from 0, of a row, and how many it lists
+    /// in all; `None` if there is no such match.
+    pub fn list_index(&self, line: usize, number: usize) -> Option<(usize, usize)> {
+        self.handle.list_index(line, number)
+    }
+
     /// Returns which rows of the report the last accepted command on the chosen buffer replaced, of those that
-    /// may: all but `next`, `fork`, `choose` and `forget`. What is painted is right again once these rows
+    /// may: all but `next`, `fork`, `choose`, `keep` and `forget`. What is painted is right again once these rows
     /// are, and those after them moved.
     pub fn changed(&self) -> Stretch {
         self.handle.changed()
+    }
+
+    /// Returns the ranges of bytes in which the last accepted call on the chosen buffer replaced its text, of
+    /// `set_text`, `edit`, `edit_all`, `undo`, `redo` and `replace`. They ascend, and are never merged. The old
+    /// text with each range replaced by the new text's range is the new text.
+    ///
+    /// ```
+    /// use rope_search::{Session, TextChange};
+    ///
+    /// let mut session = Session::new()?;
+    /// session.set_text("one two")?;
+    /// session.edit((0, 4)..(0, 7), "2")?;
+    /// session.undo()?;
+    /// let change = TextChange { old_start: 4, old_end: 5, new_start: 4, new_end: 7 };
+    /// assert_eq!(session.text_changes(), [change]);
+    /// # Ok::<(), rope_search::Error>(())
+    /// ```
+    pub fn text_changes(&self) -> Vec<TextChange> {
+        let count = self.handle.text_changes(&mut []);
+        let mut out = vec![TextChange::default(); count];
+        self.handle.text_changes(&mut out);
+        out
     }
 
     /// Returns what the session counted.
@@ -484,6 +671,16 @@ pub fn pattern_error(pattern: impl AsRef<[u8]>) -> Result<Option<PatternError>> 
         place,
         reason: Reason::of(number),
     }))
+}
+
+/// Returns the version of the library that is linked: 1,000,000 times its first number, 1,000 times its
+/// second, and its third.
+///
+/// ```
+/// assert_eq!(rope_search::version() / 1_000, 2);
+/// ```
+pub fn version() -> u32 {
+    raw::version()
 }
 
 /// The start and the end of a range in a text or a report of `len`; `None` if there is no such number.

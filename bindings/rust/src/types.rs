@@ -60,6 +60,20 @@ impl Match {
     }
 }
 
+/// A match of a report: its line, its number in the row of that line, and the columns where it starts and ends.
+#[repr(C)]
+#[derive(Clone, Copy, Debug, Default, PartialEq, Eq, PartialOrd, Ord, Hash)]
+pub struct Listed {
+    /// The line.
+    pub line: usize,
+    /// The number of the match in the row of that line, from 0.
+    pub number: usize,
+    /// The column where it starts.
+    pub start: usize,
+    /// The column where it ends.
+    pub stop: usize,
+}
+
 /// A match in a line, or a group of it: the columns where it starts and ends.
 #[repr(C)]
 #[derive(Clone, Copy, Debug, Default, PartialEq, Eq, PartialOrd, Ord, Hash)]
@@ -143,6 +157,32 @@ impl Stretch {
     }
 }
 
+/// A range of the old text and the range of the new text that took its place, in bytes. Either may be empty.
+#[repr(C)]
+#[derive(Clone, Copy, Debug, Default, PartialEq, Eq, Hash)]
+pub struct TextChange {
+    /// Where the old range starts, in the old text.
+    pub old_start: usize,
+    /// Where it ends.
+    pub old_end: usize,
+    /// Where the new range starts, in the new text.
+    pub new_start: usize,
+    /// Where it ends.
+    pub new_end: usize,
+}
+
+impl TextChange {
+    /// Returns the range of the old text that is gone.
+    pub fn old_range(&self) -> Range<usize> {
+        self.old_start..self.old_end
+    }
+
+    /// Returns the range of the new text in its place.
+    pub fn new_range(&self) -> Range<usize> {
+        self.new_start..self.new_end
+    }
+}
+
 /// What a session counted since it was opened.
 #[repr(C)]
 #[derive(Clone, Copy, Debug, Default, PartialEq, Eq, Hash)]
@@ -159,6 +199,8 @@ pub struct Counts {
 pub enum Encoding {
     /// Bytes of UTF-8.
     Utf8,
+    /// UTF-16 code units, which the columns of a [`Position`] count.
+    Utf16,
     /// Unicode scalar values.
     Utf32,
 }
@@ -168,6 +210,7 @@ impl Encoding {
     pub(crate) fn bits(self) -> u32 {
         match self {
             Encoding::Utf8 => 8,
+            Encoding::Utf16 => 16,
             Encoding::Utf32 => 32,
         }
     }

@@ -219,6 +219,17 @@ fn buffers_have_their_own_histories() {
     assert_eq!(spans(&session), [(0, 0, 1)]);
     session.redo().unwrap();
     assert_eq!(spans(&session), [(0, 0, 1), (0, 4, 5)]);
+    let changes = session.text_changes();
+    session.keep(1);
+    assert_eq!((session.undo_steps(), session.redo_steps()), (1, 0));
+    assert_eq!(session.text_changes(), changes);
+    session.undo().unwrap();
+    assert_eq!(session.redo_steps(), 1);
+    assert_eq!(
+        session.text_changes()[0].new_range(),
+        changes[0].old_range()
+    );
+    session.redo().unwrap();
     session.forget();
     assert_eq!(session.undo(), Err(Error::Nothing));
     session.off();

@@ -4,14 +4,17 @@ use Rattle.std.specs.Str.{IsCharBoundary, IsUtf8, all_scalars, chars}
 use Rattle.std.proofs.lemmas.List.{length-take-le}
 use Rattle.std.proofs.lemmas.List.Sums.{count_by-le-length}
 use Rattle.std.proofs.lemmas.Str.{chars-append, chars-encodes, encodes-chars, IsUtf8-take}
-use Rattle.std.specs.Prelude.{nat_le, encode_utf8_all}
+use Rattle.std.specs.Prelude.{nat_le, encode_utf8_all, Option, None, Some, MatchOption, IfSome}
 use Rattle.str_indices.specs.Laws.{LastEndIsBefore}
 use Rattle.str_indices.specs.Text.{byte_len, break_ends, char_ends, ends_up_to, end_place}
 use Rattle.ropey.specs.Chunks.{is_break}
-use Rattle.rope_search_reports.specs.Position.{IsAt, line_at, line_start, position, text_end}
-use Rattle.rope_search.specs.Encodings.{CharLaws, IsAtIn, before_place}
+use Rattle.rope_search_reports.specs.Position.{IsAt, IsNowhere, column_at, line_at, line_start, position, text_end}
+use Rattle.rope_search_reports.specs.Text.{IsText}
+use Rattle.rope_search_reports.proofs.SpotLemmas.{spot-one}
+use Rattle.rope_search_reports.proofs.TextPlaces.{places}
+use Rattle.rope_search.specs.Encodings.{CharLaws, IsAtIn, column_in}
 use Rattle.rope_search.specs.declared.encodings.Encoding.{Encoding}
-use Rattle.rope_search.specs.declared.encodings.Encoding.TheVariants.{Utf8, Utf32}
+use Rattle.rope_search.specs.declared.encodings.Encoding.TheVariants.{Utf8, Utf16, Utf32}
 
 -- how many characters end up to a place
 abbrev pub chars_up_to : List ℕ → ℕ → ℕ
@@ -68,14 +71,36 @@ char-starts law text place char scalars boundary is =
 
 -- ---- lines and columns
 
--- up to a place stand what stands before its line, and its column
-pub column-sum : CharLaws → LastEndIsBefore (break_ends is_break) → (encoding : Encoding) (text : List ℕ) (line column place : ℕ) → IsAtIn encoding text line column place
-    → before_place encoding text place ≡ before_place encoding text (line_start text line) + column
-column-sum law lines Utf8 text line column place at =
-    omega (arith, at.column_is, ap (line_start text) at.line_is, lines text place)
-column-sum law lines Utf32 text line column place at =
+-- a place with this column is so many bytes, or characters, behind where its line starts
+pub bytes-sum : LastEndIsBefore (break_ends is_break) → (text : List ℕ) (line column place : ℕ) → IsAtIn Utf8 text line column place
+    → place ≡ line_start text line + column
+bytes-sum lines text line column place at = omega (arith, at.column_is, ap (line_start text) at.line_is, lines text place)
+
+pub chars-sum : CharLaws → LastEndIsBefore (break_ends is_break) → (text : List ℕ) (line column place : ℕ) → IsAtIn Utf32 text line column place
+    → ends_up_to place (char_ends text) ≡ ends_up_to (line_start text line) (char_ends text) + column
+chars-sum law lines text line column place at =
     let low : line_start text (line_at text place) ≤ place = omega (arith, lines text place) in
     omega (arith, at.column_is, ap (λ l. ends_up_to (line_start text l) (char_ends text)) at.line_is, law.rise text (line_start text (line_at text place)) place low)
+
+-- ---- columns in code units are those of positions
+
+pub at-units : (text : List ℕ) (line column place : ℕ) → IsAtIn Utf16 text line column place → IsAt text (line, column) place
+at-units text line column place at = record {
+  boundary = at.boundary;
+  same = ap (λ n. (line, n)) at.column_is ∙ ap (λ l. (l, column_at text place)) at.line_is;
+  within = at.within;
+}
+
+pub units-column : (text : List ℕ) (line column : ℕ) (found : Option ℕ) → MatchOption found (IsNowhere text (line, column)) (λ place. IsAt text (line, column) place)
+    → IfSome found (λ place. line ≡ line_at text place → column ≡ column_in Utf16 text place)
+units-column text line column None at = tt
+units-column text line column (Some place) at = λ _. ap (λ (p : ℕ × ℕ). p.1) at.same
+
+pub units-only : (text : List ℕ) (line column : ℕ) (found : Option ℕ) → IsText text → MatchOption found (IsNowhere text (line, column)) (λ place. IsAt text (line, column) place)
+    → (place : ℕ) → IsAtIn Utf16 text line column place → found ≡ Some place
+units-only text line column None scalars nowhere place at = absurd (nowhere place (at-units text line column place at))
+units-only text line column (Some found) scalars there place at =
+    ap Some (spot-one places text scalars (line, column) found place there (at-units text line column place at))
 
 -- the position of such a place is at it
 pub position-at : (encoding : Encoding) (text : List ℕ) (line column place : ℕ) (spot : ℕ × ℕ) → IsAtIn encoding text line column place → spot ≡ position text place

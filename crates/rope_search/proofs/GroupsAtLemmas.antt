@@ -16,12 +16,13 @@ groups_told b p line number groups is tells = record { pattern = p; is_pattern =
 -- ---- a session whose chosen buffer is as it was is as it was
 
 pub session_kept : (items : List LimitedBuffer) (k : ℕ) (old new : LimitedBuffer) (s : LimitedSession) → Chosen items k (limit_in items k) old s → new ≡ old
-    → record { limit = limit_in (slice_set items k new) k; state = state_with items k new; changed = map (λ (b : LimitedBuffer). b.changed) (slice_set items k new) } ≡ s
+    → record { limit = limit_in (slice_set items k new) k; state = state_with items k new; changed = map (λ (b : LimitedBuffer). b.changed) (slice_set items k new); buffers = slice_set items k new } ≡ s
 session_kept items k old new s c same =
     let whole : slice_set items k new ≡ items = ap (slice_set items k) (same ∙ c.is) ∙ set-get_or items k old in
     let seen : List LimitedBuffer → LimitedSession = λ bs. record {
       limit = limit_in bs k;
       state = record { buffers = map (λ (b : LimitedBuffer). b.state) bs; chosen = k };
       changed = map (λ (b : LimitedBuffer). b.changed) bs;
+      buffers = bs;
     } in
     ap seen whole ∙ c.seen

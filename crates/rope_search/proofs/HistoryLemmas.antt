@@ -1,5 +1,6 @@
 -- A history with a further text, and the changes that lead to it.
 use Rattle.std.proofs.Common.{◌≡◌, ℕ, ◌+◌, ◌-◌, ◌<◌, ◌≤◌, inl, inr, List, [], ◌∷◌, ◌++◌, length, take, map, slice_index_or, ap, sym, subst, ◌∙◌, arith, length-append, length-take}
+use Rattle.std.specs.Prelude.{Result, Ok, Err, OnOk}
 use Rattle.std.proofs.lemmas.Bool.{cases_lt}
 use Rattle.std.proofs.lemmas.List.{take-map, map-append, get_or-take}
 use Rattle.std.proofs.Math.Seq.{get_or-append_right}
@@ -30,7 +31,7 @@ before-more xs x d n k within low =
     let long : length (take n xs) ≡ n = omega (arith, length-take n xs, within) in
     get_or-append (take n xs) (x ∷ []) d k (omega (arith, long, low)) ∙ get_or-take n xs k d low
 
-last-more : {A : Type 0} (xs : List A) (x d : A) (n k : ℕ) → n ≤ length xs → k ≡ n → slice_index_or (take n xs ++ x ∷ []) k d ≡ x
+pub last-more : {A : Type 0} (xs : List A) (x d : A) (n k : ℕ) → n ≤ length xs → k ≡ n → slice_index_or (take n xs ++ x ∷ []) k d ≡ x
 last-more xs x d n k within here =
     let long : length (take n xs) ≡ n = omega (arith, length-take n xs, within) in
     let first : k - length (take n xs) ≡ 0 = omega (arith, long, here) in
@@ -70,3 +71,8 @@ pub led-to : (texts : List (List ℕ)) (changes : List (List Change)) (current :
 led-to texts changes current led later inside =
     let some : current - 1 + 1 ≡ current = omega (arith, later) in
     subst (λ k. Lead (changes_at changes k) (text_at texts (current - 1)) (text_at texts k)) some (led (current - 1) (omega (arith, some, inside)))
+
+-- what holds in any case holds if a call is done
+pub on_ok : {T E : Type 0} (result : Result T E) {P : Type 0} → P → OnOk result P
+on_ok (Ok done) holds = holds
+on_ok (Err fault) holds = tt

@@ -1,14 +1,14 @@
 -- The buffers of a session hold texts and patterns, and have one limit, also where one of them is
 -- changed or comes to them.
-use Rattle.std.proofs.Common.{◌≡◌, ℕ, ◌<◌, List, [], ◌∷◌, ◌++◌, length, ap, sym, subst, ◌∙◌, All, slice_index_or, slice_set}
+use Rattle.std.proofs.Common.{◌≡◌, ℕ, ◌+◌, ◌<◌, List, [], ◌∷◌, ◌++◌, length, take, ap, sym, subst, ◌∙◌, All, slice_index_or, slice_set}
 use Rattle.std.specs.Prelude.{Some}
 use Rattle.std.proofs.lemmas.List.{get_or-set_same, get_or_append_left}
-use Rattle.std.proofs.lemmas.List.Elements.{All-set, All-push}
+use Rattle.std.proofs.lemmas.List.Elements.{All-set, All-push, All-take, All-drop}
 use Rattle.rope_search_reports.specs.Text.{IsText}
 use Rattle.rope_search_reports.specs.Pattern.{IsPattern}
-use Rattle.rope_search.specs.Session.{BufferState, LimitedBuffer, fresh, current_text, limit_in, with_text, with_pattern}
+use Rattle.rope_search.specs.Session.{BufferState, LimitedBuffer, fresh, current_text, limit_in, no_buffer, with_text, with_pattern}
 use Rattle.rope_search.specs.Laws.{HoldsTexts}
-use Rattle.rope_search.specs.Stretches.{none as no_rows}
+use Rattle.rope_search.specs.UndoSteps.{first_kept, with_steps}
 use Rattle.rope_search.proofs.HoldLaws.{one_text, holds_fresh, text_holds}
 
 -- what each buffer of a session has
@@ -16,14 +16,11 @@ pub record AllKept (items : List LimitedBuffer) (limit : ℕ) : Type 0 where
   pub limits : All (λ (b : LimitedBuffer). b.limit ≡ limit) items
   pub texts : All (λ (b : LimitedBuffer). HoldsTexts b.state) items
 
-abbrev none : LimitedBuffer
-none = record { limit = 0; state = fresh []; changes = []; changed = no_rows }
-
 -- another one in the chosen one's place
 pub kept_set : (items : List LimitedBuffer) (k : ℕ) (new : LimitedBuffer) → k < length items → new.limit ≡ limit_in items k
     → HoldsTexts new.state → AllKept items (limit_in items k) → AllKept (slice_set items k new) (limit_in (slice_set items k new) k)
 kept_set items k new inside same holds kept =
-    let at : limit_in (slice_set items k new) k ≡ limit_in items k = ap (λ (b : LimitedBuffer). b.limit) (get_or-set_same items k new none inside) ∙ same in
+    let at : limit_in (slice_set items k new) k ≡ limit_in items k = ap (λ (b : LimitedBuffer). b.limit) (get_or-set_same items k new no_buffer inside) ∙ same in
     record {
       limits = subst (λ l. All (λ (b : LimitedBuffer). b.limit ≡ l) (slice_set items k new)) (sym at)
           (All-set (λ (b : LimitedBuffer). b.limit ≡ limit_in items k) items k new same kept.limits);
@@ -34,7 +31,7 @@ kept_set items k new inside same holds kept =
 pub kept_push : (items : List LimitedBuffer) (k : ℕ) (new : LimitedBuffer) → k < length items → new.limit ≡ limit_in items k
     → HoldsTexts new.state → AllKept items (limit_in items k) → AllKept (items ++ new ∷ []) (limit_in (items ++ new ∷ []) k)
 kept_push items k new inside same holds kept =
-    let at : limit_in (items ++ new ∷ []) k ≡ limit_in items k = ap (λ (b : LimitedBuffer). b.limit) (get_or_append_left items (new ∷ []) none k inside) in
+    let at : limit_in (items ++ new ∷ []) k ≡ limit_in items k = ap (λ (b : LimitedBuffer). b.limit) (get_or_append_left items (new ∷ []) no_buffer k inside) in
     record {
       limits = subst (λ l. All (λ (b : LimitedBuffer). b.limit ≡ l) (items ++ new ∷ [])) (sym at)
           (All-push (λ (b : LimitedBuffer). b.limit ≡ limit_in items k) items new kept.limits same);
@@ -64,3 +61,10 @@ holds_forked old new holds told = subst HoldsTexts (sym told) (holds_fresh (curr
 
 pub holds_forgotten : (old new : BufferState) → HoldsTexts old → new ≡ with_text old (current_text old) → HoldsTexts new
 holds_forgotten old new holds told = holds_text old new (current_text old) holds (text_holds old holds) told
+
+-- the last of its texts
+pub holds_steps : (old new : BufferState) (steps : ℕ) → HoldsTexts old → new ≡ with_steps old steps → HoldsTexts new
+holds_steps old new steps holds told = subst HoldsTexts (sym told) (record {
+  texts = All-drop IsText (first_kept old.current steps) (take (old.current + 1) old.texts) (All-take IsText (old.current + 1) old.texts holds.texts);
+  pattern = holds.pattern;
+})

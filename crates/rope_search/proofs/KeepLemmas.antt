@@ -5,6 +5,7 @@ use Rattle.rope_search_changes.specs.declared.Change.{Change}
 use Rattle.rope_search_reports.specs.declared.positions.Position.{Position}
 use Rattle.rope_search.specs.declared.parts.Part.{Part}
 use Rattle.rope_search.specs.Session.{LimitedBuffer, current_text}
+use Rattle.rope_search.specs.TextChanges.{ranges_of}
 use Rattle.rope_search.specs.Places.{IsMarked, IsMarkedBetween}
 use Rattle.rope_search.specs.Histories.{with_changes, KeepsEdit}
 use Rattle.rope_search.proofs.PartLaws.{byte_len-append, take_between}
@@ -29,8 +30,8 @@ places_are text inserted part len marked long =
 
 pub keeps_edit : (old new : LimitedBuffer) (from to : Position) (text inserted : List ℕ) (part : Part) (change : Change) (len : ℕ) → text ≡ current_text old.state
     → IsMarkedBetween text from to part → change ≡ record { old_end = part.end.byte_idx; new_start = part.start.byte_idx; new_end = part.start.byte_idx + len }
-    → byte_len inserted ≡ len → new.changes ≡ with_changes old (change ∷ []) → KeepsEdit old from to inserted new
-keeps_edit old new from to text inserted part change len here marked is long kept =
+    → byte_len inserted ≡ len → new.changes ≡ with_changes old (change ∷ []) → new.text_changes ≡ ranges_of (change ∷ []) → KeepsEdit old from to inserted new
+keeps_edit old new from to text inserted part change len here marked is long kept ranges =
     let own : IsMarkedBetween (current_text old.state) from to part = subst (λ t. IsMarkedBetween t from to part) here marked in
     let t = current_text old.state in
     record {
@@ -39,4 +40,5 @@ keeps_edit old new from to text inserted part change len here marked is long kep
       behind = drop part.end.char_idx t;
       between = own.between;
       kept = kept ∙ ap (λ c. with_changes old (c ∷ [])) (is ∙ places_are t inserted part len own.marked long);
+      ranges = ranges ∙ ap (λ c. ranges_of (c ∷ [])) (is ∙ places_are t inserted part len own.marked long);
     }

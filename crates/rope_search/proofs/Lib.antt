@@ -2,9 +2,13 @@ pub mod AnswerLaws
 pub mod EditLemmas
 pub mod EditAllLemmas
 pub mod EncodingLemmas
+pub mod FrontLemmas
+pub mod ClampLemmas
+pub mod ByteEditLemmas
 pub mod ReplaceLemmas
 pub mod HeaderLemmas
 pub mod ListingLemmas
+pub mod ListedOrder
 pub mod HistoryLaws
 pub mod HistoryLemmas
 pub mod KeepLemmas
@@ -43,3 +47,6 @@ pub mod ExampleRuns
 pub mod Examples
 pub mod PrintLemmas
 pub mod ReplyLemmas
+pub mod TextChangeLemmas
+pub mod UndoStepLemmas
+pub mod KeptLemmas

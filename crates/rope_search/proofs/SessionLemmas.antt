@@ -50,7 +50,7 @@ pub record Chosen (items : List LimitedBuffer) (k limit : ℕ) (old : LimitedBuf
   pub inside : k < length items
   pub is : old ≡ slice_index_or items k old
   pub all : All (λ (b : LimitedBuffer). b.limit ≡ limit) items
-  pub seen : record { limit = limit; state = record { buffers = map (λ (b : LimitedBuffer). b.state) items; chosen = k }; changed = map (λ (b : LimitedBuffer). b.changed) items } ≡ s
+  pub seen : record { limit = limit; state = record { buffers = map (λ (b : LimitedBuffer). b.state) items; chosen = k }; changed = map (λ (b : LimitedBuffer). b.changed) items; buffers = items } ≡ s
 
 -- the state of the session's list, with another buffer in the chosen one's place
 abbrev pub state_with : List LimitedBuffer → ℕ → LimitedBuffer → State

@@ -13,6 +13,7 @@ use Rattle.rope_search.specs.declared.edits.Edit.{Edit}
 use Rattle.rope_search.specs.declared.stretches.Stretch.{Stretch}
 use Rattle.rope_search.specs.Session.{BufferState, State, LimitedBuffer, current_text, chosen_buffer, with_edit, with_chosen}
 use Rattle.rope_search.specs.Histories.{with_changes}
+use Rattle.rope_search.specs.TextChanges.{ranges_of}
 use Rattle.rope_search.specs.Changed.{Replaces}
 use Rattle.rope_search.specs.Stretches.{lines_spanned}
 
@@ -63,13 +64,14 @@ pub record AreEdits (old : BufferState) (edits : List FullEdit) (new : BufferSta
   pub make : MakeOf (current_text old) edits text changes
   pub changed : new ≡ with_edit old text
 
--- the changes are kept beside the text
+-- the changes are kept beside the text, and a range is told for each
 pub record KeepsEdits (old : LimitedBuffer) (edits : List FullEdit)
     (new : LimitedBuffer) : Type 0 where
   pub text : List ℕ
   pub changes : List Change
   pub make : MakeOf (current_text old.state) edits text changes
   pub kept : new.changes ≡ with_changes old changes
+  pub ranges : new.text_changes ≡ ranges_of changes
 
 -- no more rows come than lines stand from where the first of them starts to where the last ends
 pub record SpansEdits (old : BufferState) (edits : List FullEdit) (new : BufferState)

@@ -1,24 +1,21 @@
--- Columns in bytes and in characters, for those who count by them. A position's own column counts
--- UTF-16 code units.
+-- Columns in bytes, in UTF-16 code units and in characters. A position's own column counts UTF-16 code
+-- units.
 use Rattle.std.specs.Prelude.{◌≡◌, ℕ, ◌-◌, ◌≤◌, List, length}
 use Rattle.std.specs.Str.{IsCharBoundary}
 use Rattle.str_indices.specs.Laws.{AnyTexts, EndsAddUp, RisesWithPlace, NoMoreThanBytes, ComesBack, EndsAndPlacesAgree, LastEndIsBefore, CharsAndBoundariesAgree}
 use Rattle.str_indices.specs.Text.{char_ends, ends_up_to}
 use Rattle.rope_search_reports.specs.Text.{bytes_of}
-use Rattle.rope_search_reports.specs.Position.{line_at, line_start, text_end}
+use Rattle.rope_search_reports.specs.Position.{column_at, line_at, line_start, text_end}
 use Rattle.rope_search.specs.declared.encodings.Encoding.{Encoding}
-use Rattle.rope_search.specs.declared.encodings.Encoding.TheVariants.{Utf8, Utf32}
+use Rattle.rope_search.specs.declared.encodings.Encoding.TheVariants.{Utf8, Utf16, Utf32}
 
--- how many bytes, or characters, stand before a place
-abbrev pub before_place : Encoding → List ℕ → ℕ → ℕ
-before_place Utf8 text place = place
-before_place Utf32 text place = ends_up_to place (char_ends text)
-
--- how many stand from where the place's line starts up to the place
+-- how many bytes, code units or characters are from where the place's line starts up to the place
 abbrev pub column_in : Encoding → List ℕ → ℕ → ℕ
-column_in encoding text place =
-    before_place encoding text place
-    - before_place encoding text (line_start text (line_at text place))
+column_in Utf8 text place = place - line_start text (line_at text place)
+column_in Utf16 text place = column_at text place
+column_in Utf32 text place =
+    ends_up_to place (char_ends text)
+    - ends_up_to (line_start text (line_at text place)) (char_ends text)
 
 -- the line and the column are at this place: a boundary, in the line's text or at its end
 pub record IsAtIn (encoding : Encoding) (text : List ℕ) (line column place : ℕ) : Type 0 where

@@ -3,6 +3,7 @@ use Rattle.std.specs.Prelude.{◌≡◌, MatchOption, ℕ, ◌+◌, ◌-◌, Lis
 use Rattle.rope_search_reports.specs.Report.{IsReport}
 use Rattle.rope_search_changes.specs.declared.Change.{Change}
 use Rattle.rope_search.specs.declared.stretches.Stretch.{Stretch}
+use Rattle.rope_search.specs.declared.text_changes.TextChange.{TextChange}
 use Rattle.rope_search.specs.Stretches.{none}
 
 -- a history of texts with a current one, and perhaps a pattern. Texts and patterns are lists of
@@ -65,27 +66,56 @@ with_chosen session buffer =
     record session { buffers = slice_set session.buffers session.chosen buffer }
 
 -- a buffer, the most bytes that a text of it has, what it keeps of its history: the changes that led
--- to each of its texts from the one before, none to the first; and which rows of its report were
--- replaced last
+-- to each of its texts from the one before, none to the first; and which rows of its report, and
+-- which ranges of its text, were replaced last
 pub record LimitedBuffer : Type 0 where
   pub limit : ℕ
   pub state : BufferState
   pub changes : List (List Change)
   pub changed : Stretch
+  pub text_changes : List TextChange
 
--- a session, the most bytes that a text in it has, and of each buffer which rows of its report were
--- replaced last
+-- a buffer that there is not
+abbrev pub no_buffer : LimitedBuffer
+no_buffer = record {
+  limit = 0;
+  state = fresh [];
+  changes = [];
+  changed = none;
+  text_changes = [];
+}
+
+-- a buffer with one text and no pattern, under a limit, which tells of no call
+abbrev pub fresh_buffer : ℕ → List ℕ → LimitedBuffer
+fresh_buffer limit text = record {
+  limit = limit;
+  state = fresh text;
+  changes = [] ∷ [];
+  changed = none;
+  text_changes = [];
+}
+
+-- a session, the most bytes that a text in it has, of each buffer which rows of its report were
+-- replaced last, and the buffers with all that they keep
 pub record LimitedSession : Type 0 where
   pub limit : ℕ
   pub state : State
   pub changed : List Stretch
+  pub buffers : List LimitedBuffer
 
 -- the first session, under a limit
 abbrev pub opened_session : ℕ → LimitedSession
-opened_session limit = record { limit = limit; state = first_state; changed = none ∷ [] }
+opened_session limit = record {
+  limit = limit;
+  state = first_state;
+  changed = none ∷ [];
+  buffers = fresh_buffer limit [] ∷ [];
+}
+
+-- the chosen one of a session's buffers, with all that it keeps
+abbrev pub chosen_in : LimitedSession → LimitedBuffer
+chosen_in session = slice_index_or session.buffers session.state.chosen no_buffer
 
 -- the limit of the chosen one of these buffers
 abbrev pub limit_in : List LimitedBuffer → ℕ → ℕ
-limit_in buffers chosen =
-    (slice_index_or buffers chosen
-    (record { limit = 0; state = fresh []; changes = []; changed = none })).limit
+limit_in buffers chosen = (slice_index_or buffers chosen no_buffer).limit

@@ -1,10 +1,10 @@
 //! A buffer: a text with its history, and perhaps a pattern.
-ghost use Rattle.std.specs.Prelude.{◌≡◌, ℕ, ◌+◌, ◌^◌, ◌<◌, ◌≤◌, ◌↔◌, ◌⊎◌, [], ◌∷◌, length, map, chars, None, Some, Err, IsTrue, OnOk, OnErr, IfOk, IfErr, IfSome, MatchOption};
+ghost use Rattle.std.specs.Prelude.{◌≡◌, ℕ, ◌+◌, ◌^◌, ◌<◌, ◌≤◌, ◌↔◌, ◌⊎◌, [], ◌∷◌, ◌++◌, take, drop, length, map, chars, None, Some, Err, IsTrue, OnOk, OnErr, IfOk, IfErr, IfSome, MatchOption};
 ghost use Rattle.ropey.specs.Chunks.{text_of};
 ghost use Rattle.std.specs.Str.{IsCharBoundary};
 ghost use Rattle.rope_search_reports.specs.Text.{bytes_of, line_count};
 ghost use Rattle.rope_search_reports.specs.Report.{match_count};
-ghost use Rattle.rope_search.specs.Session.{current_text, fresh, with_text, undone, redone, with_pattern, IsReportIn};
+ghost use Rattle.rope_search.specs.Session.{current_text, fresh_buffer, with_text, undone, redone, with_pattern, IsReportIn};
 ghost use Rattle.rope_search.specs.Places.{HasNoneBetween, GetsTooLong, TellsRangeOr, IsEdit, IsMarkedBetween, with_replaced};
 ghost use Rattle.str_indices.specs.Text.{byte_len};
 ghost use Rattle.rope_search_reports.specs.Pattern.{IsPattern, IsTooHeavy, SpellsNone, pattern_limit};
@@ -16,9 +16,10 @@ ghost use Rattle.rope_search.specs.Replacing.{IsReplacement, GetsTooLongWith, Ro
 ghost use Rattle.rope_search.specs.Cost.{rows_anew};
 ghost use Rattle.rope_search.specs.Histories.{LeadOn, KeepsEdit, KeepsReplacement, changes_at, rows_back, rows_on};
 ghost use Rattle.rope_search.specs.Stretches.{lines_spanned};
-ghost use Rattle.rope_search.specs.Stretches as stretches;
 ghost use Rattle.rope_search.specs.Changed.{Replaces, SpansMatches};
 ghost use Rattle.rope_search_reports.specs.Turned.{turned_changes};
+ghost use Rattle.rope_search.specs.TextsKept.{TellsText, TellsAllText, TellsForward, TellsBack};
+ghost use Rattle.rope_search.specs.UndoSteps.{changes_with_steps, redo_count, undo_count, with_steps};
 ghost use Rattle.rope_search.specs.Edits.{AcceptsEdits, AreEdits, IsFirstAgainst, KeepsEdits, RefusesEdits, SpansEdits, in_full, rows_of_edits};
 
 use crate::edits::{Edit, edited};
@@ -27,6 +28,7 @@ use crate::limits::Limits;
 use crate::parts::Part;
 use crate::search::{Search, row_count};
 use crate::stretches::Stretch;
+use crate::text_changes::{TextChange, put_ranges};
 use rope_search_io::Fault;
 use rope_search_reports::{
     Changes, Finder, Groups, Lines, Position, Row, byte_of, position_of, report_of,
@@ -52,6 +54,7 @@ impl Model for Buffer {
     ghost use Rattle.std.specs.Prelude.{◌+◌, ◌^◌, ◌<◌, option_map, IfSome};
     ghost use Rattle.rope_search.specs.Session.{LimitedBuffer};
     ghost use Rattle.rope_search.specs.Histories.{text_at};
+    ghost use Rattle.rope_search.specs.TextChanges.{ranges_in};
     ghost use Rattle.rope_search_reports.specs.Report.{IsReport, match_count};
 
     ghost Value = { LimitedBuffer };
@@ -65,6 +68,7 @@ impl Model for Buffer {
       };
       changes = b.history.changes;
       changed = b.changed;
+      text_changes = ranges_in b.history.is_back b.history.last;
     } };
 
     ghost invariant = { λ b. IfSome b.search (λ s.
@@ -75,13 +79,7 @@ impl Model for Buffer {
 impl Buffer {
     /// Returns a buffer with an empty text and no pattern. Errors: `Fault::Memory`.
     pub fn new(alloc: Global, limits: Limits) -> Result<Buffer, Fault>
-        ensures ok { IfOk result (λ buffer. buffer ≡
-            record {
-              limit = limits.text;
-              state = fresh [];
-              changes = [] ∷ [];
-              changed = stretches.none;
-            }) }
+        ensures ok { IfOk result (λ buffer. buffer ≡ fresh_buffer limits.text []) }
         ensures err { IfErr result (λ fault. fault ≡ Fault.Memory) }
     {
         let history = History::new(alloc, Rope::new(alloc))?;
@@ -134,6 +132,8 @@ impl Buffer {
         ensures ok { OnOk result (self.new.state ≡ with_text self.old.state (chars text.now)) }
         ensures changes { OnOk result (self.new.changes ≡ [] ∷ []) }
         ensures changed { OnOk result (Replaces self.old.state self.new.state self.new.changed) }
+        ensures text_changes { OnOk result (TellsText self.old self.new) }
+        ensures whole { OnOk result (TellsAllText self.old self.new) }
         ensures limit { self.new.limit ≡ self.old.limit }
         ensures size { (result ≡ Err Fault.Size) ↔ (self.old.limit < length text.now) }
         ensures fault { IfErr result (λ fault. (fault ≡ Fault.Size) ⊎ (fault ≡ Fault.Memory)) }
@@ -153,7 +153,7 @@ impl Buffer {
         let Ok(text) = Rope::from_str(self.alloc, text) else {
             return Err(Fault::Memory);
         };
-        let history = History::new(self.alloc, text)?;
+        let history = History::replacing(self.alloc, self.history.current(), text)?;
         // A law, for the proof alone.
         rope_search_reports::laws::a_row_a_line();
         let removed = row_count(&self.search, self.history.current());
@@ -185,6 +185,7 @@ impl Buffer {
         ensures ok { OnOk result
             (IsEdit self.old.state from to (chars inserted.now) self.new.state) }
         ensures kept { OnOk result (KeepsEdit self.old from to (chars inserted.now) self.new) }
+        ensures text_changes { OnOk result (TellsText self.old self.new) }
         ensures changed { OnOk result (Replaces self.old.state self.new.state self.new.changed) }
         ensures added { OnOk result
             (self.new.changed.added ≤ rows_anew self.old.state (chars inserted.now)) }
@@ -243,6 +244,7 @@ impl Buffer {
         ensures accepted { OnOk result
             (AcceptsEdits self.old.limit (current_text self.old.state) (map in_full edits.now)) }
         ensures kept { OnOk result (KeepsEdits self.old (map in_full edits.now) self.new) }
+        ensures text_changes { OnOk result (TellsText self.old self.new) }
         ensures changed { OnOk result (Replaces self.old.state self.new.state self.new.changed) }
         ensures added { OnOk result (SpansEdits self.old.state (map in_full edits.now)
             self.new.state self.new.changed) }
@@ -329,6 +331,8 @@ impl Buffer {
             (turned_changes 0 0 (changes_at self.old.changes self.old.state.current))) }
         ensures limit { self.new.limit ≡ self.old.limit }
         ensures changes { self.new.changes ≡ self.old.changes }
+        ensures text_changes { OnOk result (TellsText self.old self.new) }
+        ensures back_ranges { OnOk result (TellsBack self.old self.new) }
         ensures nothing { (result ≡ Err Fault.Nothing) ↔ (self.old.state.current ≡ 0) }
         ensures memory { result ≡ Err Fault.Memory → self.old.state.pattern ≡ None → ⊥ }
         ensures fault { IfErr result (λ fault.
@@ -369,6 +373,8 @@ impl Buffer {
             (changes_at self.old.changes (self.old.state.current + 1))) }
         ensures limit { self.new.limit ≡ self.old.limit }
         ensures changes { self.new.changes ≡ self.old.changes }
+        ensures text_changes { OnOk result (TellsText self.old self.new) }
+        ensures forward { OnOk result (TellsForward self.old self.new) }
         ensures nothing { (result ≡ Err Fault.Nothing)
             ↔ (length self.old.state.texts ≤ self.old.state.current + 1) }
         ensures memory { result ≡ Err Fault.Memory → self.old.state.pattern ≡ None → ⊥ }
@@ -412,18 +418,65 @@ impl Buffer {
         self.history.next().is_some()
     }
 
-    /// Drops the history: all texts but the current one, with what changed from each to the next.
-    /// The current text, the pattern and its report stay. It is never refused: the list of texts
-    /// moves into less room if memory for that is granted, and else keeps its room. Linear in the
-    /// number of texts that are dropped.
+    /// Drops the history: all texts but the current one, with what changed from each to the next,
+    /// as `keep(0)` does. The current text, the pattern and its report stay.
     pub fn forget(&mut self)
         ensures state { self.new.state
             ≡ with_text self.old.state (current_text self.old.state) }
         ensures changes { self.new.changes ≡ [] ∷ [] }
         ensures changed { self.new.changed ≡ self.old.changed }
+        ensures text_changes { self.new.text_changes ≡ self.old.text_changes }
         ensures limit { self.new.limit ≡ self.old.limit }
     {
-        self.history.forget(self.alloc);
+        // The text's facts, for the proof alone.
+        let _ = self.text();
+        self.keep(0);
+    }
+
+    /// Drops all undo steps but the last ones, as many as told, and what could be redone. The
+    /// current text, the pattern, its report and what `text_changes` returns stay. It is never
+    /// refused: the list of texts moves into less room if memory for that is granted, and else
+    /// keeps its room. Linear in the number of texts.
+    pub fn keep(&mut self, steps: usize)
+        ensures state { self.new.state ≡ with_steps self.old.state steps }
+        ensures changes { self.new.changes
+            ≡ changes_with_steps self.old.changes self.old.state.current steps }
+        ensures changed { self.new.changed ≡ self.old.changed }
+        ensures text_changes { self.new.text_changes ≡ self.old.text_changes }
+        ensures limit { self.new.limit ≡ self.old.limit }
+    {
+        self.history.keep(self.alloc, steps);
+    }
+
+    /// Returns the number of texts to which `undo` can go back. `O(1)`.
+    pub fn undo_steps(&self) -> usize
+        ensures { result ≡ undo_count self.now.state }
+    {
+        self.history.undo_steps()
+    }
+
+    /// Returns the number of texts to which `redo` can go forward. `O(1)`.
+    pub fn redo_steps(&self) -> usize
+        ensures { result ≡ redo_count self.now.state }
+    {
+        self.history.redo_steps()
+    }
+
+    /// Returns the number of ranges in which the last accepted call of those that replace the text
+    /// did so, and copies the first of them to `out`, as many as fit: of `set_text`, `edit`,
+    /// `edit_all`, `undo`, `redo` and `replace`. The ranges are in bytes, ascending, of the text
+    /// before that call and of the current one; two may touch, and either side may be empty. The
+    /// old text with each range replaced by the new text's is the new text. An edit has one range,
+    /// a replacement one for each match, and a new buffer has none. Time is linear in the ranges
+    /// that are copied.
+    pub fn text_changes(&self, out: &mut [TextChange]) -> usize
+        ensures count { result ≡ length self.now.text_changes }
+        ensures copied { out.new ≡ take (length out.old) self.now.text_changes
+            ++ drop (length self.now.text_changes) out.old }
+    {
+        let changes = self.history.last();
+        put_ranges(changes, self.history.is_back(), out);
+        changes.len()
     }
 
     /// Returns the byte of the current text at which a position is. `O(log n)`.
@@ -473,6 +526,7 @@ impl Buffer {
             (self.new.state ≡ with_pattern self.old.state (Some (chars pattern.now))) }
         ensures limit { self.new.limit ≡ self.old.limit }
         ensures changes { self.new.changes ≡ self.old.changes }
+        ensures text_changes { self.new.text_changes ≡ self.old.text_changes }
         ensures changed { OnOk result (Replaces self.old.state self.new.state self.new.changed) }
         ensures too_long { pattern_limit < length pattern.now → result ≡ Err Fault.Limit }
         ensures is_pattern { OnOk result (IsPattern (chars pattern.now)) }
@@ -507,6 +561,7 @@ impl Buffer {
         ensures off { self.new.state ≡ with_pattern self.old.state None }
         ensures limit { self.new.limit ≡ self.old.limit }
         ensures changes { self.new.changes ≡ self.old.changes }
+        ensures text_changes { self.new.text_changes ≡ self.old.text_changes }
         ensures changed { Replaces self.old.state self.new.state self.new.changed }
     {
         // A law, for the proof alone.
@@ -603,6 +658,7 @@ impl Buffer {
         ensures ok { IfOk result (λ count.
             IsReplacement self.old.state (chars template.now) count self.new.state) }
         ensures kept { OnOk result (KeepsReplacement self.old (chars template.now) self.new) }
+        ensures text_changes { OnOk result (TellsText self.old self.new) }
         ensures changed { OnOk result (Replaces self.old.state self.new.state self.new.changed) }
         ensures added { OnOk result (SpansMatches self.old.state (chars template.now)
             self.new.state self.new.changed) }
@@ -660,12 +716,7 @@ impl Buffer {
     /// shared. Errors: `Fault::Memory`.
     pub fn fork(&self) -> Result<Buffer, Fault>
         ensures ok { IfOk result (λ buffer.
-            buffer ≡ record {
-              limit = self.now.limit;
-              state = fresh (current_text self.now.state);
-              changes = [] ∷ [];
-              changed = stretches.none;
-            }) }
+            buffer ≡ fresh_buffer self.now.limit (current_text self.now.state)) }
         ensures err { IfErr result (λ fault. fault ≡ Fault.Memory) }
     {
         let text = self.text().clone()?;

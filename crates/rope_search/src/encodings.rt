@@ -1,18 +1,16 @@
-//! Columns in bytes and in characters, for those who count by them: language servers that agree on
-//! `utf-8` or `utf-32` with their editor.
-ghost use Rattle.std.specs.Prelude.{◌≡◌, ℕ, ◌+◌, ◌<◌, ◌≤◌, Some, IfSome, IfOk, IfErr};
-ghost use Rattle.std.specs.Str.{IsCharBoundary};
-ghost use Rattle.str_indices.specs.Text.{byte_len};
+//! Columns in bytes, in UTF-16 code units and in characters: language servers agree on one of them
+//! with their editor.
+ghost use Rattle.std.specs.Prelude.{◌≡◌, ℕ, ◌<◌, Some, IfSome, IfOk, IfErr};
 ghost use Rattle.ropey.specs.Chunks.{text_of};
-ghost use Rattle.rope_search_reports.specs.Text.{bytes_of, line_count};
-ghost use Rattle.rope_search_reports.specs.Position.{IsAt, IsNowhere, line_at, line_start};
+ghost use Rattle.rope_search_reports.specs.Text.{line_count};
+ghost use Rattle.rope_search_reports.specs.Position.{IsAt, IsNowhere, line_at};
 ghost use Rattle.rope_search.specs.Session.{current_text};
-ghost use Rattle.rope_search.specs.Encodings.{CharLaws, IsAtIn, IsNowhereIn, before_place};
+ghost use Rattle.rope_search.specs.Encodings.{CharLaws, IsAtIn, IsNowhereIn};
 ghost use Rattle.rope_search.specs.Encodings as encodings;
 
 use crate::buffer::Buffer;
 use rope_search_io::Fault;
-use rope_search_reports::Position;
+use rope_search_reports::{Position, byte_of};
 use ropey::Rope;
 
 /// What columns count.
@@ -20,6 +18,8 @@ use ropey::Rope;
 pub enum Encoding {
     /// Bytes of UTF-8.
     Utf8,
+    /// UTF-16 code units, as the columns of a `Position`.
+    Utf16,
     /// Characters, as UTF-32 has them: Unicode scalar values.
     Utf32,
 }
@@ -37,35 +37,33 @@ fn char_laws()
     str_indices::laws::boundaries_and_indices_agree();
 }
 
-/// How much stands between where a line starts and a place in it.
-fn column_of(text: &Rope, encoding: Encoding, line: usize, place: usize) -> usize
-    requires line { line ≡ line_at (text_of text.now) place }
-    requires within { place ≤ byte_len (text_of text.now) }
+/// How much there is between where the line of a position starts and the place at which it is.
+fn column_of(text: &Rope, encoding: Encoding, position: Position, place: usize) -> usize
+    requires { IsAt (text_of text.now) (position.line, position.column) place }
     ensures { result ≡ encodings.column_in encoding (text_of text.now) place }
 {
     // Laws, and the text's facts, for the proof alone.
     char_laws();
     str_indices::laws::place_there_and_back();
-    let _ = text.len_lines();
+    let _ = text.len_bytes();
     match encoding {
-        Encoding::Utf8 => place - text.line_to_byte(line),
-        Encoding::Utf32 => text.byte_to_char(place) - text.line_to_char(line),
+        Encoding::Utf8 => place - text.line_to_byte(position.line),
+        Encoding::Utf16 => position.column,
+        Encoding::Utf32 => text.byte_to_char(place) - text.line_to_char(position.line),
     }
 }
 
-/// The place so far behind where a line starts: the one that has the column, if any has.
+/// The place so far after where a line starts: the one that has the column, if any has.
 fn place_behind(text: &Rope, encoding: Encoding, line: usize, column: usize) -> Option<usize>
     requires { line < line_count (text_of text.now) }
-    ensures within { IfSome result (λ place. place ≤ byte_len (text_of text.now)) }
-    ensures column { IfSome result (λ place. before_place encoding (text_of text.now) place
-        ≡ before_place encoding (text_of text.now) (line_start (text_of text.now) line) + column) }
-    ensures only { (place : ℕ) → IsCharBoundary (bytes_of (text_of text.now)) place
-        → before_place encoding (text_of text.now) place
-        ≡ before_place encoding (text_of text.now) (line_start (text_of text.now) line) + column
+    ensures column { IfSome result (λ place. line ≡ line_at (text_of text.now) place
+        → column ≡ encodings.column_in encoding (text_of text.now) place) }
+    ensures only { (place : ℕ) → IsAtIn encoding (text_of text.now) line column place
         → result ≡ Some place }
 {
     // Laws, and the text's facts, for the proof alone.
     char_laws();
+    str_indices::laws::place_there_and_back();
     let _ = text.len_bytes();
     match encoding {
         Encoding::Utf8 => {
@@ -75,6 +73,7 @@ fn place_behind(text: &Rope, encoding: Encoding, line: usize, column: usize) -> 
             }
             Some(place)
         }
+        Encoding::Utf16 => byte_of(text, Position { line, column }),
         Encoding::Utf32 => {
             let char_idx = text.line_to_char(line).checked_add(column)?;
             if text.len_chars() < char_idx {
@@ -86,10 +85,12 @@ fn place_behind(text: &Rope, encoding: Encoding, line: usize, column: usize) -> 
 }
 
 impl Buffer {
-    /// Returns the column of a position in bytes or in characters: how many stand between where its
-    /// line starts and the position, whose own column counts UTF-16 code units. `O(log n)`.
+    /// Returns the column of a position in an encoding: how much there is between where its line
+    /// starts and the position. In UTF-16 code units it is the position's own. `O(log n)`.
     ///
-    /// Errors: `Fault::Range` where it is nowhere in the text.
+    /// # Errors
+    ///
+    /// `Fault::Range` if the position is nowhere in the text.
     pub fn column_in(&self, encoding: Encoding, position: Position) -> Result<usize, Fault>
         ensures column { IfOk result (λ column. (place : ℕ)
             × IsAt (current_text self.now.state) (position.line, position.column) place
@@ -99,14 +100,15 @@ impl Buffer {
         ensures fault { IfErr result (λ fault. fault ≡ Fault.Range) }
     {
         let place = self.byte_of(position)?;
-        Ok(column_of(self.text(), encoding, position.line, place))
+        Ok(column_of(self.text(), encoding, position, place))
     }
 
-    /// Returns the position of a line and a column in it that counts bytes or characters.
-    /// `O(log n)`.
+    /// Returns the position of a line and a column in an encoding. `O(log n)`.
     ///
-    /// Errors: `Fault::Range` where they are nowhere in the text: inside a character or a break,
-    /// behind the line's text, or past the last line.
+    /// # Errors
+    ///
+    /// `Fault::Range` if they are nowhere in the text: inside a character or a break, after the
+    /// line's text, or past the last line.
     pub fn position_in(
         &self,
         encoding: Encoding,

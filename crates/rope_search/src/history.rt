@@ -1,14 +1,19 @@
 //! The texts of a buffer: those that an edit left, and those that can be redone.
-ghost use Rattle.std.specs.Prelude.{◌≡◌, ◌+◌, ◌-◌, ◌<◌, ◌≤◌, ◌↔◌, [], ◌∷◌, ◌++◌, length, take, vec_len, None, IfOk, IfErr, IfSome, OnOk, OnErr};
+ghost use Rattle.std.specs.Prelude.{◌≡◌, ◌+◌, ◌-◌, ◌<◌, ◌≤◌, ◌↔◌, List, ℕ, [], ◌∷◌, ◌++◌, length, take, drop, slice_index_or, vec_len, MatchOption, None, Some, true, false, IfOk, IfErr, IfSome, OnOk, OnErr};
+ghost use Rattle.str_indices.specs.Text.{byte_len};
 ghost use Rattle.ropey.specs.Chunks.{text_of};
+ghost use Rattle.rope_search_reports.specs.Text.{IsText};
 ghost use Rattle.rope_search_reports.specs.Turned.{Lead, listed};
 ghost use Rattle.rope_search.specs.Histories.{LeadOn, text_at, changes_at};
+ghost use Rattle.rope_search.specs.TextChanges.{AreTextChanges, ranges_in, whole_change};
+ghost use Rattle.rope_search.specs.UndoSteps.{changes_with_steps, first_kept};
 
 use rope_search_io::Fault;
-use rope_search_reports::Changes;
+use rope_search_reports::{Change, Changes};
 use ropey::Rope;
 use std::alloc::{AllocError, Global};
 use std::marker::Model;
+use std::mem;
 
 /// A text of a history.
 #[derive(Drop)]
@@ -21,19 +26,23 @@ pub struct Version {
 
 /// One or more texts, from the oldest on, of which one is current, and what changed from each to
 /// the next. The texts share the memory of what they have in common; of a change its places alone
-/// are kept.
+/// are kept. The changes that were made or undone last are known also if their text is dropped.
 #[derive(Drop)]
 pub struct History {
     versions: Vec<Version>,
     current: usize,
+    // Whether the current text was last reached by an undo.
+    is_back: bool,
+    // The changes that were made or undone last, if no text of the list has them.
+    apart: Option<Changes>,
 }
 
 impl Model for History {
-    ghost use Rattle.std.specs.Prelude.{◌<◌, map, vec_len};
+    ghost use Rattle.std.specs.Prelude.{◌<◌, map, option_map, vec_len};
     ghost use Rattle.ropey.specs.Chunks.{text_of};
     ghost use Rattle.rope_search_reports.specs.Turned.{listed};
     ghost use Rattle.rope_search.specs.declared.history.Version.{Version};
-    ghost use Rattle.rope_search.specs.Histories.{Texts, LeadOn};
+    ghost use Rattle.rope_search.specs.Histories.{Texts, LeadOn, LeadSomewhere, changes_last};
 
     ghost Value = { Texts };
 
@@ -41,11 +50,16 @@ impl Model for History {
       texts = map (λ (v : Version). text_of v.text) h.versions.items;
       changes = map (λ (v : Version). listed v.changes) h.versions.items;
       current = h.current;
+      is_back = h.is_back;
+      last = changes_last (option_map listed h.apart) h.is_back
+          (map (λ (v : Version). listed v.changes) h.versions.items) h.current;
     } };
 
     ghost invariant = { λ h. (h.current < vec_len h.versions)
         × LeadOn (map (λ (v : Version). text_of v.text) h.versions.items)
-        (map (λ (v : Version). listed v.changes) h.versions.items) };
+        (map (λ (v : Version). listed v.changes) h.versions.items)
+        × LeadSomewhere (changes_last (option_map listed h.apart) h.is_back
+        (map (λ (v : Version). listed v.changes) h.versions.items) h.current) };
 }
 
 /// Puts a version behind the first ones, as many as told, in place of all that stand there.
@@ -64,11 +78,74 @@ fn push_at(versions: &mut Vec<Version>, len: usize, version: Version) -> Result<
     Ok(())
 }
 
+/// Drops the versions behind the first ones, as many as told, and returns the changes that led to
+/// the first that is dropped.
+fn cut_off(versions: &mut Vec<Version>, len: usize) -> Option<Changes>
+    requires { len ≤ vec_len versions.old }
+    ensures items { versions.new.items ≡ take len versions.old.items }
+    ensures changes { MatchOption result (vec_len versions.old ≤ len) (λ changes.
+        (len < vec_len versions.old)
+        × ((d : Version) → changes ≡ (slice_index_or versions.old.items len d).changes)) }
+{
+    if versions.len() == len {
+        return None;
+    }
+    versions.truncate(len + 1);
+    match versions.pop() {
+        Some(Version { changes, .. }) => Some(changes),
+        None => None,
+    }
+}
+
+/// Drops the first versions of a list, as many as told. `O(n)`.
+fn drop_first(versions: &mut Vec<Version>, count: usize)
+    requires { count ≤ vec_len versions.old }
+    ensures { versions.new.items ≡ drop count versions.old.items }
+{
+    let left = versions.len() - count;
+    versions.reverse();
+    versions.truncate(left);
+    versions.reverse();
+}
+
+/// The changes that are kept apart once versions are dropped: those that were, else what was
+/// undone, else what led to the current version, where none before it is left.
+fn apart_of(
+    apart: Option<Changes>,
+    is_back: bool,
+    undone: Option<Changes>,
+    led: Changes,
+    is_later: bool,
+) -> Option<Changes>
+    ensures kept { (apart ≡ None → ⊥) → result ≡ apart }
+    ensures undone { apart ≡ None → is_back ≡ true → result ≡ undone }
+    ensures later { apart ≡ None → is_back ≡ false → is_later ≡ true → result ≡ None }
+    ensures first { apart ≡ None → is_back ≡ false → is_later ≡ false → result ≡ Some led }
+{
+    if apart.is_some() {
+        return apart;
+    }
+    if is_back {
+        return undone;
+    }
+    if is_later {
+        return None;
+    }
+    Some(led)
+}
+
 impl History {
-    /// A history of one text. It may be refused with `Fault::Memory` alone.
-    pub fn new(alloc: Global, text: Rope) -> Result<History, Fault>
-        ensures ok { IfOk result (λ history. history ≡
-            record { texts = text_of text ∷ []; changes = [] ∷ []; current = 0 }) }
+    /// A history of one text, which the changes made of one that isn't kept. It may be refused with
+    /// `Fault::Memory` alone.
+    fn of_changes(alloc: Global, text: Rope, changes: Changes) -> Result<History, Fault>
+        requires { (old : List ℕ) × Lead (listed changes) old (text_of text) }
+        ensures ok { IfOk result (λ history. history ≡ record {
+          texts = text_of text ∷ [];
+          changes = [] ∷ [];
+          current = 0;
+          is_back = false;
+          last = listed changes;
+        }) }
         ensures fault { IfErr result (λ fault. fault ≡ Fault.Memory) }
     {
         let mut versions = Vec::new(alloc);
@@ -79,7 +156,58 @@ impl History {
         Ok(History {
             versions,
             current: 0,
+            is_back: false,
+            apart: Some(changes),
         })
+    }
+
+    /// A history of one text. It may be refused with `Fault::Memory` alone.
+    pub fn new(alloc: Global, text: Rope) -> Result<History, Fault>
+        ensures ok { IfOk result (λ history. history ≡ record {
+          texts = text_of text ∷ [];
+          changes = [] ∷ [];
+          current = 0;
+          is_back = false;
+          last = [];
+        }) }
+        ensures fault { IfErr result (λ fault. fault ≡ Fault.Memory) }
+    {
+        History::of_changes(alloc, text, Changes::Many(Vec::new(alloc)))
+    }
+
+    /// A history of one text that takes the place of another one. It may be refused with
+    /// `Fault::Memory` alone.
+    pub fn replacing(alloc: Global, old: &Rope, text: Rope) -> Result<History, Fault>
+        ensures ok { IfOk result (λ history. history ≡ record {
+          texts = text_of text ∷ [];
+          changes = [] ∷ [];
+          current = 0;
+          is_back = false;
+          last = whole_change (byte_len (text_of old.now)) (byte_len (text_of text)) ∷ [];
+        }) }
+        ensures ranges { OnOk result (AreTextChanges (text_of old.now) (text_of text)
+            (ranges_in false
+            (whole_change (byte_len (text_of old.now)) (byte_len (text_of text)) ∷ []))) }
+        ensures fault { IfErr result (λ fault. fault ≡ Fault.Memory) }
+    {
+        let change = Change {
+            old_end: old.len_bytes(),
+            new_start: 0,
+            new_end: text.len_bytes(),
+        };
+        History::of_changes(alloc, text, Changes::One(change))
+    }
+
+    /// A text by its number, from the oldest on.
+    fn text(&self, number: usize) -> &Rope
+        requires { number < length self.now.texts }
+        ensures text { text_of result.now ≡ text_at self.now.texts number }
+        ensures scalars { IsText (text_at self.now.texts number) }
+    {
+        let text = &self.versions[number].text;
+        // The text's facts, for the proof alone.
+        let _ = text.len_bytes();
+        text
     }
 
     /// The current text.
@@ -121,36 +249,107 @@ impl History {
         self.versions.get(self.current + 1)
     }
 
-    /// Drops all texts but the current one, and what changed. It is never refused: if there is no
-    /// memory for a shorter list, the list keeps its room.
-    pub fn forget(&mut self, alloc: Global)
-        ensures { self.new ≡ record {
-          texts = text_at self.old.texts self.old.current ∷ [];
-          changes = [] ∷ [];
-          current = 0;
+    /// How many texts are before the current one.
+    pub fn undo_steps(&self) -> usize
+        ensures { result ≡ self.now.current }
+    {
+        self.current
+    }
+
+    /// How many texts are behind the current one.
+    pub fn redo_steps(&self) -> usize
+        ensures { result ≡ length self.now.texts - (self.now.current + 1) }
+    {
+        self.versions.len() - (self.current + 1)
+    }
+
+    /// Whether the current text was last reached by an undo.
+    pub fn is_back(&self) -> bool
+        ensures { result ≡ self.now.is_back }
+    {
+        self.is_back
+    }
+
+    /// The changes that were made or undone last.
+    pub fn last(&self) -> &[Change]
+        ensures changes { result.now ≡ self.now.last }
+        ensures led { (old : List ℕ) × (new : List ℕ) × Lead self.now.last old new }
+    {
+        if let Some(changes) = &self.apart {
+            return changes.as_slice();
+        }
+        let number = if self.is_back {
+            self.current + 1
+        } else {
+            self.current
+        };
+        match self.versions.get(number) {
+            Some(version) => version.changes.as_slice(),
+            None => &[],
+        }
+    }
+
+    /// Drops all texts but the current one and so many before it, as far as there are such, and
+    /// what changed. It is never refused: if there is no memory for a shorter list, the list keeps
+    /// its room.
+    pub fn keep(&mut self, alloc: Global, steps: usize)
+        ensures { self.new ≡ record self.old {
+          texts = drop (first_kept self.old.current steps)
+              (take (self.old.current + 1) self.old.texts);
+          changes = changes_with_steps self.old.changes self.old.current steps;
+          current = self.old.current - first_kept self.old.current steps;
         } }
     {
-        self.versions.swap(0, self.current);
-        self.versions.truncate(1);
+        let first = self.current.saturating_sub(steps);
+        let undone = cut_off(&mut self.versions, self.current + 1);
+        drop_first(&mut self.versions, first);
         self.versions.shrink_to_fit();
-        self.versions[0].changes = Changes::Many(Vec::new(alloc));
-        self.current = 0;
+        // The first text keeps no changes.
+        let none = Changes::Many(Vec::new(alloc));
+        let led = mem::replace(&mut self.versions[0].changes, none);
+        let apart = mem::replace(&mut self.apart, None);
+        self.apart = apart_of(apart, self.is_back, undone, led, first < self.current);
+        self.current -= first;
     }
 
     /// Makes the text before the current one current.
     pub fn step_back(&mut self)
         requires { 0 < self.old.current }
-        ensures { self.new ≡ record self.old { current = self.old.current - 1 } }
+        ensures texts { self.new ≡ record self.old {
+          current = self.old.current - 1;
+          is_back = true;
+          last = changes_at self.old.changes self.old.current;
+        } }
+        ensures ranges { AreTextChanges (text_at self.old.texts self.old.current)
+            (text_at self.old.texts (self.old.current - 1))
+            (ranges_in self.new.is_back self.new.last) }
     {
+        // The texts' facts, for the proof alone.
+        let _ = self.text(self.current);
+        let _ = self.text(self.current - 1);
         self.current -= 1;
+        self.is_back = true;
+        self.apart = None;
     }
 
     /// Makes the text behind the current one current.
     pub fn step_forward(&mut self)
         requires { self.old.current + 1 < length self.old.texts }
-        ensures { self.new ≡ record self.old { current = self.old.current + 1 } }
+        ensures texts { self.new ≡ record self.old {
+          current = self.old.current + 1;
+          is_back = false;
+          last = changes_at self.old.changes (self.old.current + 1);
+        } }
+        ensures ranges { AreTextChanges (text_at self.old.texts self.old.current)
+            (text_at self.old.texts (self.old.current + 1))
+            (ranges_in self.new.is_back self.new.last) }
     {
+        // The texts' facts, for the proof alone.
+        let _ = self.text(self.current);
+        let _ = self.text(self.current + 1);
         self.current += 1;
+        self.is_back = false;
+        self.apart = None;
     }
 
     /// Adds a text behind the current one, in place of all that stand there, and makes it current.
@@ -162,15 +361,24 @@ impl History {
           texts = take (self.old.current + 1) self.old.texts ++ text_of text ∷ [];
           changes = take (self.old.current + 1) self.old.changes ++ listed changes ∷ [];
           current = self.old.current + 1;
+          is_back = false;
+          last = listed changes;
         }) }
         ensures current { OnOk result
             (text_at self.new.texts self.new.current ≡ text_of text) }
+        ensures ranges { OnOk result (AreTextChanges (text_at self.old.texts self.old.current)
+            (text_of text) (ranges_in false (listed changes))) }
         ensures fault { IfErr result (λ fault. fault ≡ Fault.Memory) }
         ensures err { OnErr result (self.new ≡ self.old) }
     {
+        // The texts' facts, for the proof alone.
+        let _ = self.text(self.current);
+        let _ = text.len_bytes();
         let next = self.current + 1;
         push_at(&mut self.versions, next, Version { text, changes })?;
         self.current = next;
+        self.is_back = false;
+        self.apart = None;
         Ok(())
     }
 }

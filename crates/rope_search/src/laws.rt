@@ -6,8 +6,18 @@ ghost use Rattle.rope_search.specs.Order.{Order, PrintText, ListMatches};
 ghost use Rattle.rope_search.specs.Session.{State};
 ghost use Rattle.rope_search.specs.declared.commands.CommandOf.{CommandOf};
 ghost use Rattle.rope_search.specs.declared.commands.Payload.{Payload};
+ghost use Rattle.rope_search.specs.TextChanges.{TextChangesMakeText};
 ghost use Rattle.rope_search.specs.Laws.{AllHoldTexts, Known, StepsHoldTexts, HasOneReading, HasOneStep, HasOneCost, EndsAtBadLine, HasAnswer, HasOneShow, StandsForSome, UndoUndoesEdit, UndoUndoesReplace, ReplaceKeepsTheRest, RedoRedoesUndo, RepliesAlike, FindsAlike, FindsBoundaries, EditsHavePlaces, KeptIsAnew, PatternsAreTaken, OthersStay, ListsBoundaries, NoneIsNowhereOrTurned};
+ghost use Rattle.rope_search.specs.LineColumns.{ReportsHaveColumns};
 ghost use Rattle.rope_search.specs.Step.{Answer};
+
+/// The columns of a report's rows are columns of their lines' texts, so they have others in bytes and
+/// in characters.
+pub fn reports_have_columns()
+    ensures { ReportsHaveColumns }
+{
+    rope_search_reports::laws::matches_at_boundaries();
+}
 
 /// Each input has exactly one reading: a list of commands, and how it ends.
 pub fn one_reading()
@@ -174,3 +184,9 @@ pub(crate) fn known()
     rope_search_reports::laws::has_groups();
     rope_search_reports::laws::replaced_is_text();
 }
+
+/// The old text with each range of `Buffer::text_changes` replaced by the new text's range is the
+/// new text.
+pub fn text_changes_make_text()
+    ensures { TextChangesMakeText }
+{}

@@ -3,6 +3,7 @@
 #![tactic(auto)]
 
 mod buffer;
+mod byte_edits;
 mod command_lines;
 mod commands;
 mod edits;
@@ -12,6 +13,8 @@ mod headers;
 mod history;
 pub mod laws;
 mod limits;
+mod line_columns;
+mod listed;
 mod listings;
 mod parts;
 mod pattern_errors;
@@ -22,6 +25,7 @@ mod runs;
 mod search;
 mod session;
 mod stretches;
+mod text_changes;
 mod texts;
 
 pub use buffer::Buffer;
@@ -30,14 +34,17 @@ pub use edits::Edit;
 pub use encodings::Encoding;
 pub use endings::Ended;
 pub use limits::Limits;
+pub use line_columns::column_for;
+pub use listed::{ListIndex, ListedMatch};
 pub use pattern_errors::pattern_error;
 pub use rope_search_io::{Broken, Device, Failed, Fault, MemorySink, MemorySource, Sink, Source};
 pub use rope_search_reports::explaining::{Mistake, Reason, Refusal};
 pub use rope_search_reports::{
-    Finder, Groups, Lines, Position, Row, byte_of, find_all, find_from, groups_at, position_of,
-    search_line,
+    CallerInC, Finder, Groups, Lines, Position, Row, byte_of, find_all, find_from, groups_at,
+    line_text, position_of, search_line,
 };
 pub use ropey::Rope;
 pub use runs::{run, run_limited};
 pub use session::Session;
 pub use stretches::Stretch;
+pub use text_changes::TextChange;

@@ -1,7 +1,7 @@
 //! A session: buffers, of which one is chosen.
-ghost use Rattle.std.specs.Prelude.{◌≡◌, ◌+◌, ◌<◌, ◌≤◌, ◌↔◌, [], ◌∷◌, ◌++◌, List, ℕ, length, map, slice_index_or, Bool, Err, OnOk, OnErr, IfOk, IfErr, IsOk, None, Some};
+ghost use Rattle.std.specs.Prelude.{◌≡◌, ◌+◌, ◌<◌, ◌≤◌, ◌↔◌, [], ◌∷◌, ◌++◌, List, ℕ, length, take, drop, map, slice_index_or, Bool, Err, OnOk, OnErr, IfOk, IfErr, IsOk, None, Some};
 ghost use Rattle.rope_search.specs.Order.{SetText, EditText, UndoEdit, RedoEdit, SetPattern, DropPattern, ListMatches, FindNext, ReplaceAll};
-ghost use Rattle.rope_search.specs.Session.{opened_session, fresh, current_text, chosen_buffer, with_text, with_pattern, with_chosen};
+ghost use Rattle.rope_search.specs.Session.{opened_session, chosen_in, fresh, fresh_buffer, current_text, chosen_buffer, with_text, with_pattern, with_chosen};
 ghost use Rattle.rope_search_reports.specs.Pattern.{pattern_limit};
 ghost use Rattle.rope_search.specs.Laws.{HasCurrent, AllHoldTexts};
 ghost use Rattle.rope_search.specs.Step.{Step};
@@ -12,6 +12,8 @@ ghost use Rattle.rope_search.specs.Finding as finding;
 ghost use Rattle.rope_search.specs.GroupsAt.{AnswersGroups, SearchesRow};
 ghost use Rattle.rope_search.specs.Stretches as stretches;
 ghost use Rattle.rope_search.specs.Changed.{TellsRows, TellsAfter};
+ghost use Rattle.rope_search.specs.TextsKept.{ChangesChosen, KeepsAfter, KeepsEditsOf, KeepsOf, KeepsSteps, MakesFew};
+ghost use Rattle.rope_search.specs.UndoSteps.{with_steps};
 ghost use Rattle.rope_search.specs.Edits.{RefusesEdits, StepByEdits, TellsEdits, in_full, rows_of_edits};
 
 use crate::buffer::Buffer;
@@ -19,6 +21,7 @@ use crate::commands::{Command, Payload, Reply};
 use crate::edits::Edit;
 use crate::limits::Limits;
 use crate::stretches::Stretch;
+use crate::text_changes::TextChange;
 use rope_search_io::Fault;
 use rope_search_reports::{Groups, Lines, Position};
 use simdutf8::compat::from_utf8;
@@ -55,6 +58,7 @@ impl Model for Session {
         chosen = s.chosen;
       };
       changed = map (λ (b : LimitedBuffer). b.changed) s.buffers.items;
+      buffers = s.buffers.items;
     } };
 
     ghost invariant = { λ s. (s.chosen < vec_len s.buffers)
@@ -82,6 +86,7 @@ impl Session {
     pub fn buffer(&self) -> &Buffer
         ensures state { result.now.state ≡ chosen_buffer self.now.state }
         ensures limit { result.now.limit ≡ self.now.limit }
+        ensures kept { result.now ≡ chosen_in self.now }
         ensures current { HasCurrent self.now.state }
         ensures texts { AllHoldTexts self.now.state }
     {
@@ -117,18 +122,43 @@ impl Session {
         self.buffers[self.chosen].changed()
     }
 
-    /// Drops the chosen buffer's history: its current text stays, and so do its pattern and its
-    /// report. No other buffer changes. It is never refused: the list of texts moves into less room
-    /// if memory for that is granted, and else keeps its room. Linear in the number of texts that
-    /// are dropped.
+    /// Drops the chosen buffer's history, as `keep(0)` does: its current text stays, and so do its
+    /// pattern and its report. No other buffer changes.
     pub fn forget(&mut self)
         ensures state { self.new.state ≡ with_chosen self.old.state
             (with_text (chosen_buffer self.old.state)
             (current_text (chosen_buffer self.old.state))) }
         ensures limit { self.new.limit ≡ self.old.limit }
         ensures changed { self.new.changed ≡ self.old.changed }
+        ensures kept { ChangesChosen (KeepsSteps 0) self.old self.new }
     {
         self.buffers[self.chosen].forget();
+    }
+
+    /// Drops all undo steps of the chosen buffer but the last ones, as many as told, and what could
+    /// be redone. Its current text, its pattern, its report and what `text_changes` returns stay.
+    /// No other buffer changes. It is never refused: the list of texts moves into less room if
+    /// memory for that is granted, and else keeps its room. Linear in the number of texts.
+    pub fn keep(&mut self, steps: usize)
+        ensures state { self.new.state ≡ with_chosen self.old.state
+            (with_steps (chosen_buffer self.old.state) steps) }
+        ensures limit { self.new.limit ≡ self.old.limit }
+        ensures changed { self.new.changed ≡ self.old.changed }
+        ensures kept { ChangesChosen (KeepsSteps steps) self.old self.new }
+    {
+        self.buffers[self.chosen].keep(steps);
+    }
+
+    /// Returns the number of ranges in which the last accepted call on the chosen buffer of those
+    /// that replace the text did so, and copies the first of them to `out`, as many as fit, as
+    /// `Buffer::text_changes` does. Time is linear in the ranges that are copied.
+    pub fn text_changes(&self, out: &mut [TextChange]) -> usize
+        ensures state { (chosen_in self.now).state ≡ chosen_buffer self.now.state }
+        ensures count { result ≡ length (chosen_in self.now).text_changes }
+        ensures copied { out.new ≡ take (length out.old) (chosen_in self.now).text_changes
+            ++ drop (length (chosen_in self.now).text_changes) out.old }
+    {
+        self.buffer().text_changes(out)
     }
 
     /// The allocator that the session was made with.
@@ -148,10 +178,9 @@ impl Session {
     /// Errors: `Fault::Nothing` where there is no such buffer; the session is then as it was.
     pub fn choose(&mut self, number: u64) -> Result<(), Fault>
         ensures found { IsOk result ↔ (number < length self.old.state.buffers) }
-        ensures ok { OnOk result (self.new ≡ record {
+        ensures ok { OnOk result (self.new ≡ record self.old {
           limit = self.old.limit;
           state = record self.old.state { chosen = number };
-          changed = self.old.changed;
         }) }
         ensures fault { IfErr result (λ fault. fault ≡ Fault.Nothing) }
         ensures err { OnErr result (self.new ≡ self.old) }
@@ -177,6 +206,8 @@ impl Session {
                 ++ fresh (current_text (chosen_buffer self.old.state)) ∷ [];
           };
           changed = self.old.changed ++ stretches.none ∷ [];
+          buffers = self.old.buffers ++ fresh_buffer (chosen_in self.old).limit
+              (current_text (chosen_in self.old).state) ∷ [];
         }) }
         ensures fault { IfErr result (λ fault. fault ≡ Fault.Memory) }
         ensures err { OnErr result (self.new ≡ self.old) }
@@ -227,6 +258,14 @@ impl Session {
         ensures changed { ForOrders self.old.limit command.entry (λ order.
             TellsAfter self.old.state order result self.new.state
             self.old.changed self.new.changed) }
+
+        // It keeps what led to its text, and tells in which ranges that was replaced.
+        ensures kept { ForOrders self.old.limit command.entry (λ order.
+            KeepsAfter self.old order result self.new) }
+
+        // Going back and forward searches no more lines than come back.
+        ensures few { ForOrders self.old.limit command.entry (λ order.
+            MakesFew (chosen_in self.old) order tick.old tick.new) }
     {
         match command {
             Command::Text(payload) => self.set_text(tick, payload),
@@ -262,6 +301,9 @@ impl Session {
         ensures changed { OnOk result (TellsEdits self.old.state (map in_full edits.now)
             self.new.state self.old.changed self.new.changed) }
         ensures kept { OnErr result (self.new.changed ≡ self.old.changed) }
+        ensures texts { OnOk result
+            (ChangesChosen (KeepsEditsOf (map in_full edits.now)) self.old self.new) }
+        ensures still { OnErr result (self.new.buffers ≡ self.old.buffers) }
 
         // It searches no more lines than the edits have, and none where they are refused.
         ensures unsearched { (fault : Fault) → RefusesEdits self.old.limit
@@ -313,6 +355,10 @@ impl Session {
             → TellsRows self.old.state (SetText bytes) self.new.state
             self.old.changed self.new.changed) }
         ensures kept { OnErr result (self.new.changed ≡ self.old.changed) }
+        ensures texts { OnOk result ((bytes : List ℕ)
+            → StandsFor self.old.limit payload.entry bytes
+            → ChangesChosen (KeepsOf (SetText bytes)) self.old self.new) }
+        ensures still { OnErr result (self.new.buffers ≡ self.old.buffers) }
     {
         match payload {
             Payload::Kept(bytes) => match from_utf8(bytes) {
@@ -353,6 +399,10 @@ impl Session {
             → TellsRows self.old.state (EditText from to bytes) self.new.state
             self.old.changed self.new.changed) }
         ensures kept { OnErr result (self.new.changed ≡ self.old.changed) }
+        ensures texts { OnOk result ((bytes : List ℕ)
+            → StandsFor self.old.limit payload.entry bytes
+            → ChangesChosen (KeepsOf (EditText from to bytes)) self.old self.new) }
+        ensures still { OnErr result (self.new.buffers ≡ self.old.buffers) }
     {
         match payload {
             Payload::Kept(bytes) => match from_utf8(bytes) {
@@ -379,6 +429,9 @@ impl Session {
         ensures changed { OnOk result (TellsRows self.old.state UndoEdit self.new.state
             self.old.changed self.new.changed) }
         ensures kept { OnErr result (self.new.changed ≡ self.old.changed) }
+        ensures texts { OnOk result (ChangesChosen (KeepsOf UndoEdit) self.old self.new) }
+        ensures few { MakesFew (chosen_in self.old) UndoEdit tick.old tick.new }
+        ensures still { OnErr result (self.new.buffers ≡ self.old.buffers) }
     {
         self.buffers[self.chosen].undo(tick)?;
         Ok(Reply::Done)
@@ -395,6 +448,9 @@ impl Session {
         ensures changed { OnOk result (TellsRows self.old.state RedoEdit self.new.state
             self.old.changed self.new.changed) }
         ensures kept { OnErr result (self.new.changed ≡ self.old.changed) }
+        ensures texts { OnOk result (ChangesChosen (KeepsOf RedoEdit) self.old self.new) }
+        ensures few { MakesFew (chosen_in self.old) RedoEdit tick.old tick.new }
+        ensures still { OnErr result (self.new.buffers ≡ self.old.buffers) }
     {
         self.buffers[self.chosen].redo(tick)?;
         Ok(Reply::Done)
@@ -418,6 +474,10 @@ impl Session {
             → TellsRows self.old.state (SetPattern bytes) self.new.state
             self.old.changed self.new.changed) }
         ensures kept { OnErr result (self.new.changed ≡ self.old.changed) }
+        ensures texts { OnOk result ((bytes : List ℕ)
+            → StandsFor pattern_limit payload.entry bytes
+            → ChangesChosen (KeepsOf (SetPattern bytes)) self.old self.new) }
+        ensures still { OnErr result (self.new.buffers ≡ self.old.buffers) }
     {
         // A law, for the proof alone.
         rope_search_reports::laws::one_of_three();
@@ -443,6 +503,7 @@ impl Session {
         ensures limit { self.new.limit ≡ self.old.limit }
         ensures changed { TellsRows self.old.state DropPattern self.new.state
             self.old.changed self.new.changed }
+        ensures texts { ChangesChosen (KeepsOf DropPattern) self.old self.new }
     {
         self.buffers[self.chosen].off();
         Reply::Done
@@ -464,6 +525,7 @@ impl Session {
         ensures limit { self.new.limit ≡ self.old.limit }
         ensures searches { SearchesOneWhole tick.old tick.new }
         ensures kept { self.new.changed ≡ self.old.changed }
+        ensures still { self.new.buffers ≡ self.old.buffers }
     {
         let found = self.buffers[self.chosen].next_from(tick, from)?;
         Ok(reply_for(found))
@@ -487,6 +549,10 @@ impl Session {
             → TellsRows self.old.state (ReplaceAll bytes) self.new.state
             self.old.changed self.new.changed) }
         ensures kept { OnErr result (self.new.changed ≡ self.old.changed) }
+        ensures texts { OnOk result ((bytes : List ℕ)
+            → StandsFor self.old.limit payload.entry bytes
+            → ChangesChosen (KeepsOf (ReplaceAll bytes)) self.old self.new) }
+        ensures still { OnErr result (self.new.buffers ≡ self.old.buffers) }
     {
         // A law, for the proof alone.
         rope_search_reports::laws::replaced_is_text();

@@ -36,6 +36,8 @@ refused-edits old edits bytes fault status (inr memory) apart told = record {
         unsearched = λ why refuses. refl;
         changed = tt;
         kept = refl;
+        texts = tt;
+        still = refl;
       });
   unfit = λ no. (inr (told ∙ ap rank_of memory), refl);
 }

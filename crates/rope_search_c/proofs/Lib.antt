@@ -6,3 +6,4 @@ pub mod CopyLemmas
 pub mod PatternErrorLemmas
 pub mod TextLemmas
 pub mod EditLemmas
+pub mod LineLemmas

@@ -4,10 +4,11 @@ use Rattle.rope_search_io.specs.Faults.{rank_of}
 use Rattle.rope_search_io.specs.declared.faults.Fault.{Fault}
 use Rattle.rope_search.specs.declared.commands.Reply.TheVariants.{Number, Found}
 use Rattle.rope_search.specs.Order.{Order}
-use Rattle.rope_search.specs.Session.{current_text, chosen_buffer, with_text, with_chosen}
+use Rattle.rope_search.specs.Session.{current_text, chosen_buffer, chosen_in, with_text, with_chosen}
 use Rattle.rope_search.specs.Step.{Answer, Step}
 use Rattle.rope_search.specs.Changed.{TellsAfter}
 use Rattle.rope_search.specs.Cost.{SearchesFor}
+use Rattle.rope_search.specs.TextsKept.{ChangesChosen, KeepsAfter, KeepsSteps, MakesFew}
 use Rattle.rope_search_c.specs.declared.counting.CountingSession.{CountingSession}
 use Rattle.rope_search_c.specs.declared.matches.Match.{Match}
 
@@ -28,8 +29,9 @@ TellsFound (Ok (Found start end)) told = (told.found ≡ true) × (told.start �
 TellsFound answer told = told.found ≡ false
 
 -- the command leads from one session to another by a step, which is answered so, and makes no more
--- rows, and searches no more whole texts, than it costs; the limit stays, and the buffers tell which
--- rows were replaced
+-- rows, and searches no more whole texts, than it costs; going back and forward makes no more than
+-- what comes back has lines; the limit stays, and the buffers tell which rows, and which ranges of
+-- their texts, were replaced
 pub record Carries (old : CountingSession) (order : Order) (answer : Answer)
     (new : CountingSession) : Type 0 where
   pub step : Step old.session.limit old.session.state order answer new.session.state
@@ -37,6 +39,8 @@ pub record Carries (old : CountingSession) (order : Order) (answer : Answer)
   pub searches : SearchesFor old.session.limit old.session.state order old.lines new.lines
   pub changed : TellsAfter old.session.state order answer new.session.state
       old.session.changed new.session.changed
+  pub kept : KeepsAfter old.session order answer new.session
+  pub few : MakesFew (chosen_in old.session) order old.lines new.lines
 
 -- it does, and the status is that of the answer
 pub record DoesOrder (old : CountingSession) (order : Order) (status : ℕ)
@@ -75,5 +79,6 @@ pub record Forgets (old : CountingSession) (status : ℕ) (new : CountingSession
       (with_text (chosen_buffer old.session.state) (current_text (chosen_buffer old.session.state)))
   pub limit : new.session.limit ≡ old.session.limit
   pub changed : new.session.changed ≡ old.session.changed
+  pub kept : ChangesChosen (KeepsSteps 0) old.session new.session
   pub lines : new.lines ≡ old.lines
   pub told : status ≡ 0

@@ -4,6 +4,7 @@ use Rattle.rope_search_io.specs.declared.faults.Fault.{Fault}
 use Rattle.rope_search_reports.specs.Ticks.{MakesAtMost}
 use Rattle.rope_search.specs.Session.{chosen_buffer, current_text}
 use Rattle.rope_search.specs.Edits.{FullEdit, RefusesEdits, StepByEdits, TellsEdits, rows_of_edits}
+use Rattle.rope_search.specs.TextsKept.{ChangesChosen, KeepsEditsOf}
 use Rattle.rope_search_c.specs.Calls.{status_of}
 use Rattle.rope_search_c.specs.declared.counting.CountingSession.{CountingSession}
 use Rattle.rope_search_c.specs.declared.edits.TextEdit.{TextEdit}
@@ -35,6 +36,8 @@ pub record CarriesEdits (old : CountingSession) (edits : List FullEdit)
   pub changed : OnOk answer (TellsEdits old.session.state edits new.session.state
       old.session.changed new.session.changed)
   pub kept : OnErr answer (new.session.changed ≡ old.session.changed)
+  pub texts : OnOk answer (ChangesChosen (KeepsEditsOf edits) old.session new.session)
+  pub still : OnErr answer (new.session.buffers ≡ old.session.buffers)
 
 -- They do, where there are as many bytes as they say; and else they are refused as those are that
 -- lie nowhere, with 2, or for want of memory, with 7. The status is that of the answer.

@@ -8,7 +8,7 @@ use Rattle.rope_search_reports.specs.Position.{IsAt, IsNowhere, position}
 use Rattle.rope_search_reports.specs.declared.positions.Position.{Position}
 use Rattle.rope_search.specs.Encodings.{IsAtIn, IsNowhereIn}
 use Rattle.rope_search.specs.declared.encodings.Encoding.{Encoding}
-use Rattle.rope_search.specs.declared.encodings.Encoding.TheVariants.{Utf8, Utf32}
+use Rattle.rope_search.specs.declared.encodings.Encoding.TheVariants.{Utf8, Utf16, Utf32}
 use Rattle.rope_search.specs.Session.{IsReportIn, chosen_buffer, current_text}
 use Rattle.rope_search.specs.Stretches.{none}
 use Rattle.rope_search.specs.declared.stretches.Stretch.{Stretch}
@@ -65,11 +65,12 @@ TellsPosition session byte status old new =
     × ((new.line, new.column) ≡ position (text_in session) byte))
     ⊎ ((status ≡ 2) × (IsCharBoundary (text_bytes_in session) byte → ⊥) × (new ≡ old))
 
--- ---- columns in bytes and in characters
+-- ---- columns in bytes, in code units and in characters
 
 -- how C names what columns count
 abbrev pub bits_of : Encoding → ℕ
 bits_of Utf8 = 8
+bits_of Utf16 = 16
 bits_of Utf32 = 32
 
 -- the column of a position, with status 0; or it is nowhere, or what is to be counted has no such

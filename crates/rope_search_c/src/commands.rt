@@ -9,28 +9,29 @@ use crate::counting::CountingSession;
 use crate::edits::TextEdit;
 use crate::handles::{CLOSED, Handle};
 use crate::matches::Match;
-use rope_search::{Lines, Position};
+use rope_search::{CallerInC, Position};
 use std::alloc::Global;
 
 /// Opens a handle: its session has one buffer, with an empty text and no pattern, and texts of at
-/// most `limit` bytes; it counts from `lines` on. A session that the handle holds is ended.
+/// most `limit` bytes; its counts begin at 0. A session that the handle holds is ended.
 ///
 /// Returns 0; 6 for a limit above `isize::MAX`, or 7 where memory is refused, and the handle holds
 /// then what it held.
 #[unsafe(no_mangle)]
 pub extern "C" fn rope_search_open(
     alloc: Global,
+    caller: CallerInC,
     limit: usize,
-    lines: Lines,
     handle: &mut Handle,
 ) -> u32
     ensures ok { result ≡ 0 → MatchOption handle.new.held ⊥ (λ new.
-        (new.session ≡ opened_session limit) × (new.lines ≡ lines)) }
+        (new.session ≡ opened_session limit)
+        × (new.lines.count ≡ 0) × (new.lines.wholes ≡ 0)) }
     ensures size { (result ≡ 6) ↔ (2 ^ 63 ≤ limit) }
     ensures status { (result ≡ 0) ⊎ ((result ≡ 6) ⊎ (result ≡ 7)) }
     ensures refused { (result ≡ 0 → ⊥) → handle.new.held ≡ handle.old.held }
 {
-    match CountingSession::new(alloc, limit, lines) {
+    match CountingSession::new(alloc, caller, limit) {
         Ok(session) => {
             *handle = Handle::of(session);
             0

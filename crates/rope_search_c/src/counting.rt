@@ -9,7 +9,7 @@ ghost use Rattle.rope_search_c.specs.Edits.{MakesEdits};
 
 use crate::edits::{TextEdit, edits_of};
 use crate::matches::Match;
-use rope_search::{Command, Fault, Limits, Lines, Payload, Position, Reply, Session};
+use rope_search::{CallerInC, Command, Fault, Limits, Lines, Payload, Position, Reply, Session};
 use std::alloc::Global;
 
 /// A session, and the counts of its searches.
@@ -20,7 +20,7 @@ pub struct CountingSession {
 }
 
 /// 0 where what is asked is done, else the rank of what refuses it.
-fn status_of<T: Drop>(answer: Result<T, Fault>) -> u32
+pub(crate) fn status_of<T: Drop>(answer: Result<T, Fault>) -> u32
     ensures { result ≡ calls.status_of answer }
 {
     match answer {
@@ -62,15 +62,16 @@ fn match_of(answer: Result<Reply, Fault>) -> Match
 
 impl CountingSession {
     /// A session of one buffer, with an empty text and no pattern, whose texts have at most `limit`
-    /// bytes; it counts from `lines` on. It is refused with `Fault::Size` for a limit above
+    /// bytes; its counts begin at 0. It is refused with `Fault::Size` for a limit above
     /// `isize::MAX`, and perhaps with `Fault::Memory`.
     pub(crate) fn new(
         alloc: Global,
+        caller: CallerInC,
         limit: usize,
-        lines: Lines,
     ) -> Result<Box<CountingSession>, Fault>
         ensures session { IfOk result (λ new. new.value.session ≡ opened_session limit) }
-        ensures lines { IfOk result (λ new. new.value.lines ≡ lines) }
+        ensures rows { IfOk result (λ new. new.value.lines.count ≡ 0) }
+        ensures wholes { IfOk result (λ new. new.value.lines.wholes ≡ 0) }
         ensures size { (result ≡ Err Fault.Size) ↔ (2 ^ 63 ≤ limit) }
         ensures fault { IfErr result (λ fault. (fault ≡ Fault.Size) ⊎ (fault ≡ Fault.Memory)) }
     {
@@ -78,6 +79,7 @@ impl CountingSession {
             return Err(Fault::Size);
         }
         let session = Session::new(alloc, Limits { text: limit })?;
+        let lines = Lines::for_caller_in_c(caller);
         let Ok(counting) = Box::new(alloc, CountingSession { session, lines }) else {
             return Err(Fault::Memory);
         };

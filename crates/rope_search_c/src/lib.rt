@@ -10,10 +10,16 @@ mod counting;
 mod edits;
 mod groups;
 mod handles;
+mod line_calls;
+mod lines;
+mod listed;
+mod listed_calls;
 mod look_ups;
 mod matches;
 mod pattern_errors;
 mod reading;
+mod text_changes;
+mod version;
 
 pub use commands::{
     rope_search_choose, rope_search_close, rope_search_edit, rope_search_edit_all,
@@ -24,6 +30,14 @@ pub use commands::{
 pub use counting::CountingSession;
 pub use edits::TextEdit;
 pub use handles::Handle;
+pub use line_calls::{
+    rope_search_clamp, rope_search_copy_line, rope_search_copy_matches_in, rope_search_edit_bytes,
+    rope_search_line_len,
+};
+pub use listed::Listed;
+pub use listed_calls::{
+    rope_search_list_index, rope_search_listed_before, rope_search_listed_from,
+};
 pub use look_ups::{
     Counted, rope_search_buffers, rope_search_byte_of, rope_search_can_redo, rope_search_can_undo,
     rope_search_changed, rope_search_chosen, rope_search_column_in, rope_search_copy_matches,
@@ -33,3 +47,7 @@ pub use look_ups::{
 };
 pub use matches::{Group, Match, Span};
 pub use pattern_errors::{PatternReason, rope_search_pattern_error};
+pub use text_changes::{
+    rope_search_keep, rope_search_redo_steps, rope_search_text_changes, rope_search_undo_steps,
+};
+pub use version::rope_search_version;

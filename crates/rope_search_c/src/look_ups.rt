@@ -307,9 +307,9 @@ pub extern "C" fn rope_search_position_of(
     status
 }
 
-/// Tells the column of a position of the chosen buffer's text in bytes, for `bits` of 8, or in
-/// characters, for 32, and returns 0; 2 where it is nowhere or `bits` is another number, or 8 on a
-/// closed handle, and `column` is then as it was.
+/// Tells the column of a position of the chosen buffer's text in bytes, for `bits` of 8, in UTF-16
+/// code units, for 16, or in characters, for 32, and returns 0; 2 if it is nowhere or `bits` is
+/// another number, or 8 on a closed handle, and `column` is then as it was.
 #[unsafe(no_mangle)]
 pub extern "C" fn rope_search_column_in(
     alloc: Global,
@@ -332,8 +332,8 @@ pub extern "C" fn rope_search_column_in(
 }
 
 /// Tells the position of a line and a column of the chosen buffer's text in bytes, for `bits` of 8,
-/// or in characters, for 32, and returns 0; 2 where they are nowhere or `bits` is another number,
-/// or 8 on a closed handle, and `position` is then as it was.
+/// in UTF-16 code units, for 16, or in characters, for 32, and returns 0; 2 if they are nowhere or
+/// `bits` is another number, or 8 on a closed handle, and `position` is then as it was.
 #[unsafe(no_mangle)]
 pub extern "C" fn rope_search_position_in(
     alloc: Global,

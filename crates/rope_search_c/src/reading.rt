@@ -14,22 +14,23 @@ use rope_search::{Encoding, Position, Rope, Row};
 use ropey::RopeSlice;
 
 /// What is answered for a place that is nowhere: the rank of `Fault::Range`.
-const NOWHERE: u32 = 2;
+pub(crate) const NOWHERE: u32 = 2;
 
 /// What columns count, by how C names it, or none.
-fn encoding_of(bits: u32) -> Option<Encoding>
+pub(crate) fn encoding_of(bits: u32) -> Option<Encoding>
     ensures { MatchOption result ((encoding : Encoding) → bits ≡ bits_of encoding → ⊥)
         (λ encoding. bits ≡ bits_of encoding) }
 {
     match bits {
         8 => Some(Encoding::Utf8),
+        16 => Some(Encoding::Utf16),
         32 => Some(Encoding::Utf32),
         _ => None,
     }
 }
 
 /// Rows `from` up to `to`, as far as there are such.
-fn rows_between(rows: &[Row], from: usize, to: usize) -> &[Row]
+pub(crate) fn rows_between(rows: &[Row], from: usize, to: usize) -> &[Row]
     ensures { result.now ≡ reading.rows_between from to rows.now }
 {
     let end = to.min(rows.len());
@@ -88,7 +89,7 @@ fn put_rows(rows: &[Row], from: usize, out: &mut [Span]) -> usize
 }
 
 /// Puts a slice's bytes at the front of a buffer that has room for them.
-fn put_text(slice: RopeSlice<'_>, out: &mut [u8])
+pub(crate) fn put_text(slice: RopeSlice<'_>, out: &mut [u8])
     requires { length (slice_bytes slice) ≤ length out.old }
     ensures { out.new ≡ with_front (slice_bytes slice.entry) out.old }
 {
@@ -176,8 +177,8 @@ impl CountingSession {
         }
     }
 
-    /// The column of a position in bytes or in characters: 0, or 2 where it is nowhere or `bits` is
-    /// neither 8 nor 32, which leaves `column`.
+    /// The column of a position in what `bits` names: 0, or 2 if it is nowhere or `bits` is none of
+    /// 8, 16 and 32, which leaves `column`.
     pub(crate) fn column_in(&self, bits: u32, position: Position, column: &mut usize) -> u32
         ensures { TellsColumn self.now bits position result column.old column.new }
     {
@@ -191,8 +192,8 @@ impl CountingSession {
         0
     }
 
-    /// The position of a line and a column in bytes or in characters: 0, or 2 where they are
-    /// nowhere or `bits` is neither 8 nor 32, which leaves `position`.
+    /// The position of a line and a column in what `bits` names: 0, or 2 if they are nowhere or
+    /// `bits` is none of 8, 16 and 32, which leaves `position`.
     pub(crate) fn position_in(
         &self,
         bits: u32,

@@ -9,6 +9,7 @@ pub mod laws;
 mod line;
 mod line_start;
 mod line_teller;
+mod line_texts;
 mod patches;
 mod pattern_text;
 mod positions;
@@ -18,11 +19,13 @@ mod rows;
 mod walk;
 
 pub use changes::{Changes, patches_of};
+pub use line_texts::line_text;
 pub use patches::{Patch, growth, put_in_place, put_patches, shift_once};
 pub use positions::{Place, Position, byte_of, place_of, places_of, position_of};
 pub use replacing::replace_rows;
 pub use reports::{report_of, rows_of_lines};
 pub use rope_search_changes::{Change, Groups};
 pub use rows::{
-    Finder, Lines, PATTERN_LEN, Row, find_all, find_from, find_spans, groups_at, search_line,
+    CallerInC, Finder, Lines, PATTERN_LEN, Row, find_all, find_from, find_spans, groups_at,
+    search_line,
 };

@@ -78,10 +78,13 @@ function M.matches(buffer, first_row, last_row)
   end
   local first = session:position_of(byte_of_row(buffer, first_row))
   local last = session:position_of(byte_of_row(buffer, last_row + 1))
-  local found = {}
-  for i, match in ipairs(session:matches(first.line, last.line)) do
-    local row, column = place_of(buffer, session:byte_of({ match.line, match.start }), first_row)
-    local to_row, to_column = place_of(buffer, session:byte_of({ match.line, match.stop }), row)
+  local found, line, start = {}, nil, 0
+  for i, match in ipairs(session:matches(first.line, last.line, "utf-8")) do
+    if match.line ~= line then
+      line, start = match.line, session:byte_of({ match.line, 0 })
+    end
+    local row, column = place_of(buffer, start + match.start, first_row)
+    local to_row, to_column = place_of(buffer, start + match.stop, row)
     found[i] = { row = row, column = column, to_row = to_row, to_column = to_column }
   end
   return found
@@ -165,14 +168,13 @@ local function inserted(buffer, row, column, rows, columns)
   return done and table.concat(lines, "\n") or nil
 end
 
--- Has the session follow an edit of the buffer. Where its places are nowhere in the session's
--- text, as between a CR and an LF, or the buffer has gone on before its edits are told, as in
--- `:move`, the whole text is given anew once it is asked for.
+-- Has the session follow an edit of the buffer. Where one of its bytes is between a CR and an LF, or
+-- the buffer has gone on before its edits are told, as in `:move`, the whole text is given anew once
+-- it is asked for.
 local function follow(buffer, row, column, byte, old_len, rows, columns, new_len)
   local session = sessions[buffer]
   local text = inserted(buffer, row, column, rows, columns)
-  local start, stop = session:position_of(byte), session:position_of(byte + old_len)
-  local done = text and #text == new_len and start and stop and session:edit(start, stop, text)
+  local done = text and #text == new_len and session:edit_bytes(byte, byte + old_len, text)
   stale[buffer] = not done or session:text_len() ~= length_of(buffer) or nil
   note_replaced(buffer)
   -- Neovim keeps the history.

@@ -11,8 +11,10 @@ use Rattle.rope_search_reports.specs.Text.{line_count, IsText}
 use Rattle.rope_search.specs.Cost.{rows_anew}
 use Rattle.rope_search.specs.Places.{IsMarked}
 use Rattle.rope_search.specs.Histories.{Texts, with_changes}
+use Rattle.rope_search.specs.TextChanges.{ranges_in}
 use Rattle.rope_search.proofs.KeepLemmas.{keeps_edit}
 use Rattle.rope_search.proofs.ChangedLemmas.{replaces-told}
+use Rattle.rope_search.proofs.TextChangeLemmas.{tells-ranges}
 use Rattle.rope_search.proofs.PartLaws.{cutting_scalars}
 use Rattle.rope_search.proofs.buffer.Buffer.edit.Goals as goal
 
@@ -79,6 +81,7 @@ returns-in_default-clause-kept c =
     let bytes : byte_len (chars c.args.inserted.now) ≡ len = ap length (encodes-chars c.args.inserted.now c.utf8.inserted) in
     keeps_edit c.args.self.now _ c.args.from c.args.to (current_text c.args.self.now.state) (chars c.args.inserted.now) c.in_ok-part.part c.change-change.result len refl
     c.in_ok-part.ensures.part c.change-change.ensures.places bytes (ap (λ (t : Texts). t.changes) c.in_ok-add.ensures.ok ∙ ap (λ (b : LimitedBuffer). with_changes b (c.change-change.result ∷ [])) c.self.view_is)
+    (ap (λ (t : Texts). ranges_in t.is_back t.last) c.in_ok-add.ensures.ok)
 
 pub returns-clause-kept : goal.returns-clause-kept
 returns-clause-kept c =
@@ -86,6 +89,7 @@ returns-clause-kept c =
     let bytes : byte_len (chars c.args.inserted.now) ≡ len = ap length (encodes-chars c.args.inserted.now c.utf8.inserted) in
     keeps_edit c.args.self.now _ c.args.from c.args.to (current_text c.args.self.now.state) (chars c.args.inserted.now) c.in_ok-part.part c.change-change.result len refl
     c.in_ok-part.ensures.part c.change-change.ensures.places bytes (ap (λ (t : Texts). t.changes) c.in_ok-add-2.ensures.ok ∙ ap (λ (b : LimitedBuffer). with_changes b (c.change-change.result ∷ [])) c.self.view_is)
+    (ap (λ (t : Texts). ranges_in t.is_back t.last) c.in_ok-add-2.ensures.ok)
 
 pub returns-clause-changed : goal.returns-clause-changed
 returns-clause-changed c =
@@ -122,3 +126,13 @@ returns-clause-added c =
     let is_text : IsText (text_of c.in_ok-new.new) = cutting_scalars c.in_ok-new.new c.len_bytes.ensures.cut.cut in
     let lines = c.changes_put_lines.ensures (c.change-change.result ∷ []) old (text_of c.in_ok-new.new) (line_count inserted) is_text changed in
     omega (arith, c.in_ok-patches.ensures.added, lines, rows)
+
+pub returns-in_default-clause-text_changes : goal.returns-in_default-clause-text_changes
+returns-in_default-clause-text_changes c =
+    tells-ranges _ _ _ _ _ _ (ap (λ (v : LimitedBuffer). current_text v.state) c.self.view_is) (sym c.in_ok-add.ensures.current)
+    (sym (ap (λ (t : Texts). ranges_in t.is_back t.last) c.in_ok-add.ensures.ok)) c.in_ok-add.ensures.ranges
+
+pub returns-clause-text_changes : goal.returns-clause-text_changes
+returns-clause-text_changes c =
+    tells-ranges _ _ _ _ _ _ (ap (λ (v : LimitedBuffer). current_text v.state) c.self.view_is) (sym c.in_ok-add-2.ensures.current)
+    (sym (ap (λ (t : Texts). ranges_in t.is_back t.last) c.in_ok-add-2.ensures.ok)) c.in_ok-add-2.ensures.ranges

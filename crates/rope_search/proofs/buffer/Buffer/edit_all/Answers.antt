@@ -5,7 +5,9 @@ use Rattle.rope_search.specs.declared.search.Search.{Search}
 use Rattle.rope_search.specs.Session.{BufferState, LimitedBuffer, current_text, with_edit}
 use Rattle.rope_search.specs.Histories.{Texts, with_changes}
 use Rattle.rope_search.specs.Edits.{MakeOf, in_full}
+use Rattle.rope_search.specs.TextChanges.{ranges_in}
 use Rattle.rope_search.proofs.ChangedLemmas.{replaces-told}
+use Rattle.rope_search.proofs.TextChangeLemmas.{tells-ranges}
 use Rattle.rope_search.proofs.buffer.Buffer.edit_all.Goals as goal
 
 pub returns-in_default-clause-ok : goal.returns-in_default-clause-ok
@@ -32,6 +34,7 @@ returns-in_default-clause-kept c =
       make = subst (λ t. MakeOf t (map in_full c.args.edits.now) new changes)
           (c.current-old.ensures.text ∙ ap (λ (v : LimitedBuffer). current_text v.state) c.self.view_is) c.in_ok-text.ensures.made;
       kept = ap (λ (t : Texts). t.changes) c.in_ok-add.ensures.ok ∙ ap (λ (v : LimitedBuffer). with_changes v changes) c.self.view_is;
+      ranges = ap (λ (t : Texts). ranges_in t.is_back t.last) c.in_ok-add.ensures.ok;
     }
 
 pub returns-clause-ok : goal.returns-clause-ok
@@ -66,6 +69,7 @@ returns-clause-kept c =
       make = subst (λ t. MakeOf t (map in_full c.args.edits.now) new changes)
           (c.current-old.ensures.text ∙ ap (λ (v : LimitedBuffer). current_text v.state) c.self.view_is) c.in_ok-text.ensures.made;
       kept = ap (λ (t : Texts). t.changes) c.in_ok-add-2.ensures.ok ∙ ap (λ (v : LimitedBuffer). with_changes v changes) c.self.view_is;
+      ranges = ap (λ (t : Texts). ranges_in t.is_back t.last) c.in_ok-add-2.ensures.ok;
     }
 
 pub returns-clause-changed : goal.returns-clause-changed
@@ -82,3 +86,13 @@ returns-clause-changed c =
     let after : BufferState = record { texts = c.add-2.new.self.texts; current = c.add-2.new.self.current; pattern = Some c.apply.new.self.finder } in
     replaces-told c.args.self.now.state after finder (text_of c.current-old.result.now) (text_of c.in_ok-text.field-0.text) c.in_ok-patches.patches.changed
     is (ap Some (c.apply.ensures.finder ∙ c.patches.ensures.finder)) here (sym c.in_ok-add-2.ensures.current) c.in_ok-patches.ensures.changed
+
+pub returns-in_default-clause-text_changes : goal.returns-in_default-clause-text_changes
+returns-in_default-clause-text_changes c =
+    tells-ranges _ _ _ _ _ _ (ap (λ (v : LimitedBuffer). current_text v.state) c.self.view_is) (sym c.in_ok-add.ensures.current)
+    (sym (ap (λ (t : Texts). ranges_in t.is_back t.last) c.in_ok-add.ensures.ok)) c.in_ok-add.ensures.ranges
+
+pub returns-clause-text_changes : goal.returns-clause-text_changes
+returns-clause-text_changes c =
+    tells-ranges _ _ _ _ _ _ (ap (λ (v : LimitedBuffer). current_text v.state) c.self.view_is) (sym c.in_ok-add-2.ensures.current)
+    (sym (ap (λ (t : Texts). ranges_in t.is_back t.last) c.in_ok-add-2.ensures.ok)) c.in_ok-add-2.ensures.ranges

@@ -1,13 +1,13 @@
-use Rattle.std.proofs.Common.{◌≡◌, ℕ, Err, sym, ap, subst, ◌∙◌}
+use Rattle.std.proofs.Common.{◌≡◌, ℕ, ◌≤◌, Err, sym, ap, subst, ◌∙◌}
 use Rattle.std.proofs.lemmas.Result.{err_from_is_err_and}
 use Rattle.std.specs.Str.{IsCharBoundary}
-use Rattle.ropey.specs.Chunks.{text_of, is_break}
-use Rattle.rope_search_reports.specs.Position.{position}
+use Rattle.ropey.specs.Chunks.{text_of}
+use Rattle.rope_search_reports.specs.Position.{IsAt, line_at, position, text_end}
 use Rattle.rope_search_reports.specs.Text.{IsText, bytes_of}
-use Rattle.rope_search.specs.Encodings.{IsAtIn}
+use Rattle.rope_search.specs.Encodings.{IsAtIn, column_in}
 use Rattle.rope_search.specs.Session.{current_text}
 use Rattle.rope_search.proofs.PartLaws.{cutting_scalars}
-use Rattle.rope_search.proofs.EncodingLemmas.{column-sum, position-at}
+use Rattle.rope_search.proofs.EncodingLemmas.{position-at}
 use Rattle.rope_search.proofs.buffer.Buffer.position_in.Goals as goal
 
 pub returns-in_default-clause-range : goal.returns-in_default-clause-range
@@ -15,8 +15,7 @@ returns-in_default-clause-range c = λ place at.
     let text = text_of c.text-text.result.now in
     let there : IsAtIn c.args.encoding text c.args.line c.args.column place =
     subst (λ t. IsAtIn c.args.encoding t c.args.line c.args.column place) (sym c.text-text.ensures.text) at in
-    let sum = column-sum c.char_laws.ensures (c.place_there_and_back.ensures.lines is_break) c.args.encoding text c.args.line c.args.column place there in
-    let found = c.place_behind.ensures.only place there.boundary sum in
+    let found = c.place_behind.ensures.only place there in
     c.in_default.not-Some place found
 
 pub returns-in_err-position-clause-range : goal.returns-in_err-position-clause-range
@@ -26,8 +25,7 @@ returns-in_err-position-clause-range c =
     let text = text_of c.text-text.result.now in
     let there : IsAtIn c.args.encoding text c.args.line c.args.column place =
     subst (λ t. IsAtIn c.args.encoding t c.args.line c.args.column place) (sym c.text-text.ensures.text) at in
-    let sum = column-sum c.char_laws.ensures (c.place_there_and_back.ensures.lines is_break) c.args.encoding text c.args.line c.args.column place there in
-    let found = c.place_behind.ensures.only place there.boundary sum in
+    let found = c.place_behind.ensures.only place there in
     let same : c.in-Some.place ≡ place = let is = c.in-Some.is in cc in
     c.in_err-position.ensures.range.0 (ap Err c.in_err-position.ensures.fault)
     (subst (IsCharBoundary (bytes_of (current_text c.args.self.now.state))) (sym same) at.boundary))
@@ -39,8 +37,7 @@ returns-in_err-byte_of-clause-range c =
     let text = text_of c.text-text.result.now in
     let there : IsAtIn c.args.encoding text c.args.line c.args.column place =
     subst (λ t. IsAtIn c.args.encoding t c.args.line c.args.column place) (sym c.text-text.ensures.text) at in
-    let sum = column-sum c.char_laws.ensures (c.place_there_and_back.ensures.lines is_break) c.args.encoding text c.args.line c.args.column place there in
-    let found = c.place_behind.ensures.only place there.boundary sum in
+    let found = c.place_behind.ensures.only place there in
     let same : c.in-Some.place ≡ place = let is = c.in-Some.is in cc in
     let told = c.in_ok-position.position in
     let spot : (told.line, told.column) ≡ position (current_text c.args.self.now.state) place =
@@ -52,8 +49,7 @@ returns-then-position-line-clause-range c = λ place at.
     let text = text_of c.text-text.result.now in
     let there : IsAtIn c.args.encoding text c.args.line c.args.column place =
     subst (λ t. IsAtIn c.args.encoding t c.args.line c.args.column place) (sym c.text-text.ensures.text) at in
-    let sum = column-sum c.char_laws.ensures (c.place_there_and_back.ensures.lines is_break) c.args.encoding text c.args.line c.args.column place there in
-    let found = c.place_behind.ensures.only place there.boundary sum in
+    let found = c.place_behind.ensures.only place there in
     let same : c.in-Some.place ≡ place = let is = c.in-Some.is in cc in
     let told = c.in_ok-position.position in
     let spot : (told.line, told.column) ≡ position (current_text c.args.self.now.state) place =
@@ -65,8 +61,7 @@ returns-then-branch-place-clause-range c = λ place at.
     let text = text_of c.text-text.result.now in
     let there : IsAtIn c.args.encoding text c.args.line c.args.column place =
     subst (λ t. IsAtIn c.args.encoding t c.args.line c.args.column place) (sym c.text-text.ensures.text) at in
-    let sum = column-sum c.char_laws.ensures (c.place_there_and_back.ensures.lines is_break) c.args.encoding text c.args.line c.args.column place there in
-    let found = c.place_behind.ensures.only place there.boundary sum in
+    let found = c.place_behind.ensures.only place there in
     let same : c.in-Some.place ≡ place = let is = c.in-Some.is in cc in
     let told = c.in_ok-position.position in
     let here = current_text c.args.self.now.state in
@@ -75,3 +70,23 @@ returns-then-branch-place-clause-range c = λ place at.
     let one = c.one_place.ensures here (told.line, told.column) c.in_ok-byte_of.field-0 place is_text c.in_ok-byte_of.ensures.at
     (position-at c.args.encoding here c.args.line c.args.column place (told.line, told.column) at spot) in
     c.if-branch-place.true (one ∙ sym same)
+
+pub returns-clause-position : goal.returns-clause-position
+returns-clause-position c =
+    let text = current_text c.args.self.now.state in
+    let e = c.args.encoding in
+    let place = c.in-Some.place in
+    let told = c.in_ok-position.position in
+    let line_is : c.args.line ≡ line_at text place = sym c.if-position-line.false ∙ ap (λ (p : ℕ × ℕ). p.0) c.in_ok-position.ensures.position in
+    let there : IsAt text (told.line, told.column) place = subst (IsAt text (told.line, told.column)) c.if-branch-place.false c.in_ok-byte_of.ensures.at in
+    let column : c.args.line ≡ line_at text place → c.args.column ≡ column_in e text place =
+    subst (λ t. c.args.line ≡ line_at t place → c.args.column ≡ column_in e t place) c.text-text.ensures.text c.in-Some.ensures.column in (
+      place,
+      record {
+        boundary = there.boundary;
+        line_is = line_is;
+        column_is = column line_is;
+        within = subst (λ l. place ≤ text_end text l) c.if-position-line.false there.within;
+      },
+      there,
+    )

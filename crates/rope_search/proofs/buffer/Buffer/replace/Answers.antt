@@ -7,6 +7,13 @@ use Rattle.rope_search.specs.Session.{BufferState, LimitedBuffer, current_text}
 use Rattle.rope_search.proofs.MatchLemmas.{rows_of, long_with}
 use Rattle.rope_search.specs.Replacing.{GetsTooLongWith}
 use Rattle.rope_search.proofs.ChangedLemmas.{replaces-told}
+use Rattle.rope_search.specs.Histories.{Texts, with_changes}
+use Rattle.rope_search.specs.TextChanges.{ranges_in, ranges_of}
+use Rattle.rope_search_reports.specs.Text.{bytes_of}
+use Rattle.rope_search_reports.specs.Matches.{AreGroups}
+use Rattle.rope_search_reports.specs.Replacement.{changes_of}
+use Rattle.rope_search_reports.specs.Turned.{listed}
+use Rattle.rope_search.proofs.TextChangeLemmas.{tells-ranges}
 use Rattle.rope_search.proofs.buffer.Buffer.replace.Goals as goal
 
 pub returns-in_err-replaced-clause-rows : goal.returns-in_err-replaced-clause-rows
@@ -78,3 +85,31 @@ returns-clause-unmade c = λ over.
     let template = chars c.args.template.now in
     c.in_ok-replaced.ensures.unmade ((long_with c.self.inside.limits.text c.args.self.now.state finder (text_of c.current-old.result.now) template is here).1
     (subst (λ n. GetsTooLongWith n c.args.self.now.state template) (sym limit) over))
+
+pub returns-clause-text_changes : goal.returns-clause-text_changes
+returns-clause-text_changes c =
+    tells-ranges _ _ _ _ _ _ (ap (λ (v : LimitedBuffer). current_text v.state) c.self.view_is) (sym c.in_ok-add.ensures.current)
+    (sym (ap (λ (t : Texts). ranges_in t.is_back t.last) c.in_ok-add.ensures.ok)) c.in_ok-add.ensures.ranges
+
+pub returns-clause-kept : goal.returns-clause-kept
+returns-clause-kept c =
+    let history = c.self.inside.history in
+    let finder = c.in-Some.search.finder in
+    let state : BufferState = record { texts = history.texts; current = history.current; pattern = Some finder } in
+    let one : c.self.inside.search ≡ Some c.in-Some.search = c.in-Some.is in
+    let same : state ≡ c.args.self.now.state =
+    ap (λ (o : Option Search). record { texts = history.texts; current = history.current; pattern = option_map (λ (s : Search). s.finder) o }) (sym one)
+    ∙ ap (λ (v : LimitedBuffer). v.state) c.self.view_is in
+    let is : c.args.self.now.state.pattern ≡ Some finder = ap (λ (b : BufferState). b.pattern) (sym same) in
+    let here : text_of c.current-old.result.now ≡ current_text c.args.self.now.state = c.current-old.ensures.text ∙ ap current_text same in
+    let template = chars c.args.template.now in
+    let told = c.in_ok-replaced.ensures.changes in
+    let changes : listed c.in_ok-replaced.replaced.changes ≡ changes_of (bytes_of (current_text c.args.self.now.state)) template 0 0 told.matches =
+    told.told ∙ ap (λ t. changes_of (bytes_of t) template 0 0 told.matches) here in
+    record {
+      matches = told.matches;
+      are = record { pattern = finder; is_pattern = is; are = subst (λ t. AreGroups finder (bytes_of t) told.matches) here told.are };
+      kept = ap (λ (t : Texts). t.changes) c.in_ok-add.ensures.ok ∙ ap (λ (v : LimitedBuffer). with_changes v (listed c.in_ok-replaced.replaced.changes)) c.self.view_is
+          ∙ ap (with_changes c.args.self.now) changes;
+      ranges = ap (λ (t : Texts). ranges_in t.is_back t.last) c.in_ok-add.ensures.ok ∙ ap ranges_of changes;
+    }

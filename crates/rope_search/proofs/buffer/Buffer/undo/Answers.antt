@@ -49,6 +49,6 @@ returns-clause-changed c =
     let is : c.args.self.now.state.pattern ≡ Some finder = ap (λ (b : BufferState). b.pattern) (sym same) in
     let here : text_of c.current-current.result.now ≡ current_text c.args.self.now.state = c.current-current.ensures.text ∙ ap current_text same in
     let after : BufferState = record { texts = c.step_back-2.new.self.texts; current = c.step_back-2.new.self.current; pattern = Some c.follow.new.self.finder } in
-    let there : text_of c.in-Some.text.now ≡ current_text after = c.in-Some.ensures.text ∙ sym (ap (λ (t : Texts). text_at t.texts t.current) c.step_back-2.ensures) in
+    let there : text_of c.in-Some.text.now ≡ current_text after = c.in-Some.ensures.text ∙ sym (ap (λ (t : Texts). text_at t.texts t.current) c.step_back-2.ensures.texts) in
     replaces-told c.args.self.now.state after finder (text_of c.current-current.result.now) (text_of c.in-Some.text.now) c.in_ok-self-inside.field-0
     is (ap Some c.follow.ensures.finder) here there c.in_ok-self-inside.ensures.changed

@@ -1,4 +1,4 @@
-use Rattle.std.proofs.Common.{◌≡◌, ◌+◌, ◌<◌, ◌≤◌, true, IsUtf8, Err, length, sym, ap, ◌∙◌, subst, arith}
+use Rattle.std.proofs.Common.{◌≡◌, ◌+◌, ◌<◌, ◌≤◌, true, IsUtf8, Err, length, refl, sym, ap, ◌∙◌, subst, arith}
 use Rattle.std.specs.Str.{chars}
 use Rattle.std.proofs.lemmas.Result.{err_from_is_err_and}
 use Rattle.rope_search_io.specs.declared.faults.Fault.TheVariants.{Size}
@@ -15,6 +15,9 @@ use Rattle.rope_search.proofs.TextLemmas.{Encodes-chars}
 use Rattle.rope_search.proofs.TextLaws.{holds_edit}
 use Rattle.rope_search.proofs.HoldLemmas.{AllKept, kept_set, kept_limit, kept_holds}
 use Rattle.rope_search.proofs.ChangedLemmas.{tells-edit}
+use Rattle.rope_search.specs.TextsKept.{KeepsOf}
+use Rattle.rope_search.proofs.KeptLemmas.{keeps}
+use Rattle.rope_search.specs.Histories.{KeepsEdit}
 use Rattle.rope_search.proofs.session.Session.edit.Goals as goal
 
 pub returns-in_err-edit-in-Ok-clause-step : goal.returns-in_err-edit-in-Ok-clause-step
@@ -146,3 +149,16 @@ returns-in_ok-edit-in-Ok-clause-changed c = λ bytes stands.
     let told = c.in_ok-edit-in-Ok.ensures in
     tells-edit c.args.from c.args.to bytes inside.buffers.items inside.chosen limit old c.edit.new.self c.args.self.now chosen told.changed
     (omega (arith, told.added, ap (λ t. rows_anew old.state (chars t)) same))
+
+pub returns-in_ok-edit-in-Ok-clause-texts : goal.returns-in_ok-edit-in-Ok-clause-texts
+returns-in_ok-edit-in-Ok-clause-texts c = λ bytes stands.
+    let inside = c.self.inside in
+    let old = c.index_mut.result.now in
+    let limit = limit_in inside.buffers.items inside.chosen in
+    let chosen : Chosen inside.buffers.items inside.chosen limit old c.args.self.now =
+    record { inside = omega (arith, inside.buffers.ok.0); is = c.index_mut.ensures.value; all = c.self.invariant.1.0; seen = c.self.view_is } in
+    let given : bytes ≡ c.in-Kept.bytes.now = rw c.in-Kept.is at stands in
+    let same : c.in-Ok.text.now ≡ bytes = c.in-Ok.ensures.cases.0 ∙ sym given in
+    let told = c.in_ok-edit-in-Ok.ensures in
+    keeps (KeepsOf (EditText c.args.from c.args.to bytes)) inside.buffers.items inside.chosen limit old c.edit.new.self c.args.self.now _ chosen refl refl refl
+    (subst (λ t. KeepsEdit old c.args.from c.args.to (chars t) c.edit.new.self) same told.kept, told.text_changes)

@@ -1,9 +1,10 @@
-use Rattle.std.proofs.Common.{◌<◌, length, map, ◌∙◌, arith}
+use Rattle.std.proofs.Common.{◌<◌, length, map, refl, ◌∙◌, arith}
 use Rattle.rope_search.specs.Edits.{in_full}
 use Rattle.rope_search.specs.Session.{limit_in}
 use Rattle.rope_search.proofs.SessionLemmas.{Chosen}
 use Rattle.rope_search.proofs.HoldLemmas.{AllKept, kept_set, kept_limit, kept_holds}
 use Rattle.rope_search.proofs.EditAllLemmas.{holds_told, refuses_there, step_told, tells_told}
+use Rattle.rope_search.proofs.KeptLemmas.{texts_told, still_told}
 use Rattle.rope_search.proofs.session.Session.edit_all.Goals as goal
 
 pub invariant_of-self : goal.invariant_of-self
@@ -47,3 +48,21 @@ returns-clause-unsearched c = λ fault why.
     let chosen : Chosen inside.buffers.items inside.chosen limit old c.args.self.now =
     record { inside = omega (arith, inside.buffers.ok.0); is = c.index_mut.ensures.value; all = c.self.invariant.1.0; seen = c.self.view_is } in
     c.edit_all.ensures.unsearched fault (refuses_there inside.buffers.items inside.chosen limit old c.edit_all.new.self c.args.self.now chosen (map in_full c.args.edits.now) fault why)
+
+pub returns-clause-texts : goal.returns-clause-texts
+returns-clause-texts c =
+    let inside = c.self.inside in
+    let old = c.index_mut.result.now in
+    let limit = limit_in inside.buffers.items inside.chosen in
+    let chosen : Chosen inside.buffers.items inside.chosen limit old c.args.self.now =
+    record { inside = omega (arith, inside.buffers.ok.0); is = c.index_mut.ensures.value; all = c.self.invariant.1.0; seen = c.self.view_is } in
+    texts_told inside.buffers.items inside.chosen limit old c.edit_all.new.self c.args.self.now _ chosen (map in_full c.args.edits.now) c.edit_all.result refl refl refl c.edit_all.ensures.kept c.edit_all.ensures.text_changes
+
+pub returns-clause-still : goal.returns-clause-still
+returns-clause-still c =
+    let inside = c.self.inside in
+    let old = c.index_mut.result.now in
+    let limit = limit_in inside.buffers.items inside.chosen in
+    let chosen : Chosen inside.buffers.items inside.chosen limit old c.args.self.now =
+    record { inside = omega (arith, inside.buffers.ok.0); is = c.index_mut.ensures.value; all = c.self.invariant.1.0; seen = c.self.view_is } in
+    still_told inside.buffers.items inside.chosen limit old c.edit_all.new.self c.args.self.now chosen c.edit_all.result c.edit_all.ensures.err

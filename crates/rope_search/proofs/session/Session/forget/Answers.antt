@@ -1,8 +1,11 @@
-use Rattle.std.proofs.Common.{◌<◌, length, ◌∙◌, arith}
+use Rattle.std.proofs.Common.{◌<◌, length, refl, sym, ◌∙◌, arith}
 use Rattle.rope_search.specs.Session.{current_text, with_text, limit_in}
 use Rattle.rope_search.proofs.SessionLemmas.{Chosen-set, Chosen}
 use Rattle.rope_search.proofs.HoldLemmas.{AllKept, kept_set, kept_limit, kept_holds, holds_forgotten}
 use Rattle.rope_search.proofs.ChangedLemmas.{told-kept}
+use Rattle.rope_search.proofs.KeptLemmas.{keeps}
+use Rattle.rope_search.specs.TextsKept.{KeepsSteps}
+use Rattle.rope_search.proofs.UndoStepLemmas.{changes_with_none}
 use Rattle.rope_search.proofs.session.Session.forget.Goals as goal
 
 pub returns-clause-state : goal.returns-clause-state
@@ -31,3 +34,13 @@ returns-clause-changed c =
     let chosen : Chosen inside.buffers.items inside.chosen limit old c.args.self.now =
     record { inside = omega (arith, inside.buffers.ok.0); is = c.index_mut.ensures.value; all = c.self.invariant.1.0; seen = c.self.view_is } in
     told-kept inside.buffers.items inside.chosen limit old c.forget.new.self c.args.self.now chosen c.forget.ensures.changed
+
+pub returns-clause-kept : goal.returns-clause-kept
+returns-clause-kept c =
+    let inside = c.self.inside in
+    let old = c.index_mut.result.now in
+    let limit = limit_in inside.buffers.items inside.chosen in
+    let chosen : Chosen inside.buffers.items inside.chosen limit old c.args.self.now =
+    record { inside = omega (arith, inside.buffers.ok.0); is = c.index_mut.ensures.value; all = c.self.invariant.1.0; seen = c.self.view_is } in
+    let told = c.forget.ensures in
+    keeps (KeepsSteps 0) inside.buffers.items inside.chosen limit old c.forget.new.self c.args.self.now _ chosen refl refl refl (told.changes ∙ sym (changes_with_none old.changes old.state.current), told.text_changes)

@@ -1,4 +1,4 @@
-use Rattle.std.proofs.Common.{ap, ◌+◌, ◌<◌, ◌≤◌, length, inl, inr, arith}
+use Rattle.std.proofs.Common.{ap, ◌+◌, ◌<◌, ◌≤◌, length, inl, inr, refl, arith}
 use Rattle.std.proofs.lemmas.Bool.{cases_lt}
 use Rattle.rope_search_reports.specs.Ticks.{Ticks}
 use Rattle.rope_search.specs.Session.{limit_in}
@@ -6,6 +6,9 @@ use Rattle.rope_search.proofs.SessionLemmas.{Chosen}
 use Rattle.rope_search.proofs.EditLemmas.{Step-redone, rows_redone}
 use Rattle.rope_search.proofs.ChangedLemmas.{tells}
 use Rattle.rope_search.specs.Order.{RedoEdit}
+use Rattle.rope_search.specs.TextsKept.{KeepsOf}
+use Rattle.rope_search.proofs.KeptLemmas.{keeps, chosen-there}
+use Rattle.rope_search.specs.Histories.{rows_on}
 use Rattle.rope_search.proofs.session.Session.redo.Goals as goal
 
 pub returns-clause-step : goal.returns-clause-step
@@ -48,3 +51,31 @@ returns-clause-changed c =
     let chosen : Chosen inside.buffers.items inside.chosen limit old c.args.self.now =
     record { inside = omega (arith, inside.buffers.ok.0); is = c.index_mut.ensures.value; all = c.self.invariant.1.0; seen = c.self.view_is } in
     tells RedoEdit inside.buffers.items inside.chosen limit old c.redo.new.self c.args.self.now chosen c.in_ok-redo.ensures.changed tt
+
+pub returns-clause-texts : goal.returns-clause-texts
+returns-clause-texts c =
+    let inside = c.self.inside in
+    let old = c.index_mut.result.now in
+    let limit = limit_in inside.buffers.items inside.chosen in
+    let chosen : Chosen inside.buffers.items inside.chosen limit old c.args.self.now =
+    record { inside = omega (arith, inside.buffers.ok.0); is = c.index_mut.ensures.value; all = c.self.invariant.1.0; seen = c.self.view_is } in
+    let told = c.in_ok-redo.ensures in
+    keeps (KeepsOf RedoEdit) inside.buffers.items inside.chosen limit old c.redo.new.self c.args.self.now _ chosen refl refl refl (told.changes, told.text_changes, told.forward, told.added)
+
+pub returns-in_err-redo-clause-few : goal.returns-in_err-redo-clause-few
+returns-in_err-redo-clause-few c =
+    let inside = c.self.inside in
+    let old = c.index_mut.result.now in
+    let limit = limit_in inside.buffers.items inside.chosen in
+    let chosen : Chosen inside.buffers.items inside.chosen limit old c.args.self.now =
+    record { inside = omega (arith, inside.buffers.ok.0); is = c.index_mut.ensures.value; all = c.self.invariant.1.0; seen = c.self.view_is } in
+    omega (arith, c.redo.ensures.on, ap rows_on (chosen-there inside.buffers.items inside.chosen limit old c.args.self.now chosen))
+
+pub returns-clause-few : goal.returns-clause-few
+returns-clause-few c =
+    let inside = c.self.inside in
+    let old = c.index_mut.result.now in
+    let limit = limit_in inside.buffers.items inside.chosen in
+    let chosen : Chosen inside.buffers.items inside.chosen limit old c.args.self.now =
+    record { inside = omega (arith, inside.buffers.ok.0); is = c.index_mut.ensures.value; all = c.self.invariant.1.0; seen = c.self.view_is } in
+    omega (arith, c.redo.ensures.on, ap rows_on (chosen-there inside.buffers.items inside.chosen limit old c.args.self.now chosen))

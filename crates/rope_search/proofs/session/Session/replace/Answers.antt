@@ -1,4 +1,4 @@
-use Rattle.std.proofs.Common.{◌≡◌, ◌≢◌, ◌<◌, ◌≤◌, ◌⊎◌, inl, inr, true, IsUtf8, Err, length, sym, ap, ◌∙◌, subst, arith}
+use Rattle.std.proofs.Common.{◌≡◌, ◌≢◌, ◌<◌, ◌≤◌, ◌⊎◌, inl, inr, true, IsUtf8, Err, length, refl, sym, ap, ◌∙◌, subst, arith}
 use Rattle.std.proofs.lemmas.Bool.{cases_lt}
 use Rattle.std.specs.Prelude.{None}
 use Rattle.std.specs.Str.{chars}
@@ -15,6 +15,10 @@ use Rattle.rope_search.proofs.TextLaws.{holds_replaced}
 use Rattle.rope_search.proofs.HoldLemmas.{AllKept, kept_set, kept_limit, kept_holds}
 use Rattle.rope_search.proofs.ChangedLemmas.{tells-replace}
 use Rattle.rope_search.specs.Changed.{SpansMatches}
+use Rattle.rope_search.specs.TextsKept.{KeepsOf}
+use Rattle.rope_search.proofs.KeptLemmas.{keeps}
+use Rattle.rope_search.specs.Histories.{KeepsReplacement}
+use Rattle.rope_search.specs.Order.{ReplaceAll}
 use Rattle.rope_search.proofs.session.Session.replace.Goals as goal
 
 pub returns-in_err-number-in-Ok-clause-step : goal.returns-in_err-number-in-Ok-clause-step
@@ -137,3 +141,16 @@ returns-in_ok-number-in-Ok-clause-changed c = λ bytes stands.
     let told = c.in_ok-number-in-Ok.ensures in
     tells-replace bytes inside.buffers.items inside.chosen limit old c.replace.new.self c.args.self.now chosen told.changed
     (subst (λ t. SpansMatches old.state (chars t) c.replace.new.self.state c.replace.new.self.changed) same told.added)
+
+pub returns-in_ok-number-in-Ok-clause-texts : goal.returns-in_ok-number-in-Ok-clause-texts
+returns-in_ok-number-in-Ok-clause-texts c = λ bytes stands.
+    let inside = c.self.inside in
+    let old = c.index_mut.result.now in
+    let limit = limit_in inside.buffers.items inside.chosen in
+    let chosen : Chosen inside.buffers.items inside.chosen limit old c.args.self.now =
+    record { inside = omega (arith, inside.buffers.ok.0); is = c.index_mut.ensures.value; all = c.self.invariant.1.0; seen = c.self.view_is } in
+    let given : bytes ≡ c.in-Kept.bytes.now = rw c.in-Kept.is at stands in
+    let same : c.in-Ok.template.now ≡ bytes = c.in-Ok.ensures.cases.0 ∙ sym given in
+    let told = c.in_ok-number-in-Ok.ensures in
+    keeps (KeepsOf (ReplaceAll bytes)) inside.buffers.items inside.chosen limit old c.replace.new.self c.args.self.now _ chosen refl refl refl
+    (subst (λ t. KeepsReplacement old (chars t) c.replace.new.self) same told.kept, told.text_changes)

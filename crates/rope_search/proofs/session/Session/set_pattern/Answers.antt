@@ -1,4 +1,4 @@
-use Rattle.std.proofs.Common.{◌≡◌, ◌<◌, ◌≤◌, ◌⊎◌, Some, Err, IsUtf8, length, sym, ap, ◌∙◌, subst, arith}
+use Rattle.std.proofs.Common.{◌≡◌, ◌<◌, ◌≤◌, ◌⊎◌, Some, Err, IsUtf8, length, refl, sym, ap, ◌∙◌, subst, arith}
 use Rattle.std.specs.Str.{chars}
 use Rattle.rope_search.specs.Session.{with_pattern, limit_in}
 use Rattle.rope_search_reports.specs.Pattern.{IsPattern, pattern_limit}
@@ -12,6 +12,8 @@ use Rattle.rope_search.proofs.SessionLemmas.{Chosen, Chosen-kept, Step-take_patt
 use Rattle.rope_search.proofs.TextLemmas.{Encodes-chars}
 use Rattle.rope_search.proofs.HoldLemmas.{AllKept, kept_set, kept_limit, kept_holds, holds_pattern}
 use Rattle.rope_search.proofs.ChangedLemmas.{tells}
+use Rattle.rope_search.specs.TextsKept.{KeepsOf}
+use Rattle.rope_search.proofs.KeptLemmas.{keeps}
 use Rattle.rope_search.proofs.session.Session.set_pattern.Goals as goal
 
 pub returns-in_ok-set_pattern-in-Ok-clause-step : goal.returns-in_ok-set_pattern-in-Ok-clause-step
@@ -104,3 +106,13 @@ returns-in_ok-set_pattern-in-Ok-clause-changed c = λ bytes stands.
     let chosen : Chosen inside.buffers.items inside.chosen limit old c.args.self.now =
     record { inside = omega (arith, inside.buffers.ok.0); is = c.index_mut.ensures.value; all = c.self.invariant.1.0; seen = c.self.view_is } in
     tells (SetPattern bytes) inside.buffers.items inside.chosen limit old c.set_pattern.new.self c.args.self.now chosen c.in_ok-set_pattern-in-Ok.ensures.changed tt
+
+pub returns-in_ok-set_pattern-in-Ok-clause-texts : goal.returns-in_ok-set_pattern-in-Ok-clause-texts
+returns-in_ok-set_pattern-in-Ok-clause-texts c = λ bytes stands.
+    let inside = c.self.inside in
+    let old = c.index_mut.result.now in
+    let limit = limit_in inside.buffers.items inside.chosen in
+    let chosen : Chosen inside.buffers.items inside.chosen limit old c.args.self.now =
+    record { inside = omega (arith, inside.buffers.ok.0); is = c.index_mut.ensures.value; all = c.self.invariant.1.0; seen = c.self.view_is } in
+    let told = c.in_ok-set_pattern-in-Ok.ensures in
+    keeps (KeepsOf (SetPattern bytes)) inside.buffers.items inside.chosen limit old c.set_pattern.new.self c.args.self.now _ chosen refl refl refl (told.changes, told.text_changes)

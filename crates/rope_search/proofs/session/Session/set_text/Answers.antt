@@ -1,4 +1,4 @@
-use Rattle.std.proofs.Common.{◌≡◌, ◌+◌, ◌<◌, ◌≤◌, IsUtf8, length, sym, ap, ◌∙◌, subst, arith}
+use Rattle.std.proofs.Common.{◌≡◌, ◌+◌, ◌<◌, ◌≤◌, IsUtf8, length, refl, sym, ap, ◌∙◌, subst, arith}
 use Rattle.std.specs.Str.{chars}
 use Rattle.rope_search_reports.specs.Ticks.{Ticks}
 use Rattle.rope_search_reports.specs.Text.{IsText}
@@ -9,6 +9,8 @@ use Rattle.rope_search.proofs.TextLemmas.{Encodes-chars}
 use Rattle.rope_search.proofs.HoldLemmas.{AllKept, kept_set, kept_limit, kept_holds, holds_text}
 use Rattle.rope_search.proofs.ChangedLemmas.{tells}
 use Rattle.rope_search.specs.Order.{SetText}
+use Rattle.rope_search.specs.TextsKept.{KeepsOf}
+use Rattle.rope_search.proofs.KeptLemmas.{keeps}
 use Rattle.rope_search.proofs.session.Session.set_text.Goals as goal
 
 pub returns-in_ok-set_text-in-Ok-clause-step : goal.returns-in_ok-set_text-in-Ok-clause-step
@@ -78,3 +80,13 @@ returns-in_ok-set_text-in-Ok-clause-changed c = λ bytes stands.
     let chosen : Chosen inside.buffers.items inside.chosen limit old c.args.self.now =
     record { inside = omega (arith, inside.buffers.ok.0); is = c.index_mut.ensures.value; all = c.self.invariant.1.0; seen = c.self.view_is } in
     tells (SetText bytes) inside.buffers.items inside.chosen limit old c.set_text.new.self c.args.self.now chosen c.in_ok-set_text-in-Ok.ensures.changed tt
+
+pub returns-in_ok-set_text-in-Ok-clause-texts : goal.returns-in_ok-set_text-in-Ok-clause-texts
+returns-in_ok-set_text-in-Ok-clause-texts c = λ bytes stands.
+    let inside = c.self.inside in
+    let old = c.index_mut.result.now in
+    let limit = limit_in inside.buffers.items inside.chosen in
+    let chosen : Chosen inside.buffers.items inside.chosen limit old c.args.self.now =
+    record { inside = omega (arith, inside.buffers.ok.0); is = c.index_mut.ensures.value; all = c.self.invariant.1.0; seen = c.self.view_is } in
+    let told = c.in_ok-set_text-in-Ok.ensures in
+    keeps (KeepsOf (SetText bytes)) inside.buffers.items inside.chosen limit old c.set_text.new.self c.args.self.now _ chosen refl refl refl (told.changes, told.text_changes, told.whole)

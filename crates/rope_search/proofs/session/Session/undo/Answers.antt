@@ -1,10 +1,13 @@
-use Rattle.std.proofs.Common.{ap, arith}
+use Rattle.std.proofs.Common.{ap, refl, arith}
 use Rattle.rope_search_reports.specs.Ticks.{Ticks}
 use Rattle.rope_search.specs.Session.{limit_in}
 use Rattle.rope_search.proofs.SessionLemmas.{Chosen}
 use Rattle.rope_search.proofs.EditLemmas.{Step-undone, rows_undone}
 use Rattle.rope_search.proofs.ChangedLemmas.{tells}
 use Rattle.rope_search.specs.Order.{UndoEdit}
+use Rattle.rope_search.specs.TextsKept.{KeepsOf}
+use Rattle.rope_search.proofs.KeptLemmas.{keeps, chosen-there}
+use Rattle.rope_search.specs.Histories.{rows_back}
 use Rattle.rope_search.proofs.session.Session.undo.Goals as goal
 
 pub returns-clause-step : goal.returns-clause-step
@@ -44,3 +47,31 @@ returns-clause-changed c =
     let chosen : Chosen inside.buffers.items inside.chosen limit old c.args.self.now =
     record { inside = omega (arith, inside.buffers.ok.0); is = c.index_mut.ensures.value; all = c.self.invariant.1.0; seen = c.self.view_is } in
     tells UndoEdit inside.buffers.items inside.chosen limit old c.undo.new.self c.args.self.now chosen c.in_ok-undo.ensures.changed tt
+
+pub returns-clause-texts : goal.returns-clause-texts
+returns-clause-texts c =
+    let inside = c.self.inside in
+    let old = c.index_mut.result.now in
+    let limit = limit_in inside.buffers.items inside.chosen in
+    let chosen : Chosen inside.buffers.items inside.chosen limit old c.args.self.now =
+    record { inside = omega (arith, inside.buffers.ok.0); is = c.index_mut.ensures.value; all = c.self.invariant.1.0; seen = c.self.view_is } in
+    let told = c.in_ok-undo.ensures in
+    keeps (KeepsOf UndoEdit) inside.buffers.items inside.chosen limit old c.undo.new.self c.args.self.now _ chosen refl refl refl (told.changes, told.text_changes, told.back_ranges, told.added)
+
+pub returns-in_err-undo-clause-few : goal.returns-in_err-undo-clause-few
+returns-in_err-undo-clause-few c =
+    let inside = c.self.inside in
+    let old = c.index_mut.result.now in
+    let limit = limit_in inside.buffers.items inside.chosen in
+    let chosen : Chosen inside.buffers.items inside.chosen limit old c.args.self.now =
+    record { inside = omega (arith, inside.buffers.ok.0); is = c.index_mut.ensures.value; all = c.self.invariant.1.0; seen = c.self.view_is } in
+    omega (arith, c.undo.ensures.back, ap rows_back (chosen-there inside.buffers.items inside.chosen limit old c.args.self.now chosen))
+
+pub returns-clause-few : goal.returns-clause-few
+returns-clause-few c =
+    let inside = c.self.inside in
+    let old = c.index_mut.result.now in
+    let limit = limit_in inside.buffers.items inside.chosen in
+    let chosen : Chosen inside.buffers.items inside.chosen limit old c.args.self.now =
+    record { inside = omega (arith, inside.buffers.ok.0); is = c.index_mut.ensures.value; all = c.self.invariant.1.0; seen = c.self.view_is } in
+    omega (arith, c.undo.ensures.back, ap rows_back (chosen-there inside.buffers.items inside.chosen limit old c.args.self.now chosen))

@@ -1,0 +1,46 @@
+use Rattle.std.proofs.Common.{◌<◌, length, refl, ◌∙◌, arith}
+use Rattle.rope_search.specs.Session.{limit_in}
+use Rattle.rope_search.specs.UndoSteps.{with_steps}
+use Rattle.rope_search.proofs.SessionLemmas.{Chosen-set, Chosen}
+use Rattle.rope_search.proofs.HoldLemmas.{AllKept, kept_set, kept_limit, kept_holds, holds_steps}
+use Rattle.rope_search.proofs.ChangedLemmas.{told-kept}
+use Rattle.rope_search.proofs.KeptLemmas.{keeps}
+use Rattle.rope_search.specs.TextsKept.{KeepsSteps}
+use Rattle.rope_search.proofs.session.Session.keep.Goals as goal
+
+pub returns-clause-state : goal.returns-clause-state
+returns-clause-state c =
+    let inside = c.self.inside in
+    Chosen-set inside.buffers.items inside.chosen (limit_in inside.buffers.items inside.chosen) c.index_mut.result.now c.keep.new.self c.args.self.now (λ b. with_steps b c.args.steps)
+    (record { inside = omega (arith, inside.buffers.ok.0); is = c.index_mut.ensures.value; all = c.self.invariant.1.0; seen = c.self.view_is }) c.keep.ensures.state
+
+pub invariant_of-self : goal.invariant_of-self
+invariant_of-self c =
+    let items = c.self.inside.buffers.items in
+    let k = c.self.inside.chosen in
+    let old = c.index_mut.result.now in
+    let new = c.keep.new.self in
+    let inside : k < length items = omega (arith, c.self.inside.buffers.ok.0) in
+    let kept : AllKept items (limit_in items k) = record { limits = c.self.invariant.1.0; texts = c.self.invariant.1.1 } in
+    let holds = holds_steps old.state new.state c.args.steps (kept_holds items k old inside c.index_mut.ensures.value kept) c.keep.ensures.state in
+    let all = kept_set items k new inside (c.keep.ensures.limit ∙ kept_limit items k old inside c.index_mut.ensures.value kept) holds kept in
+    (c.self.invariant.0, (all.limits, all.texts))
+
+pub returns-clause-changed : goal.returns-clause-changed
+returns-clause-changed c =
+    let inside = c.self.inside in
+    let old = c.index_mut.result.now in
+    let limit = limit_in inside.buffers.items inside.chosen in
+    let chosen : Chosen inside.buffers.items inside.chosen limit old c.args.self.now =
+    record { inside = omega (arith, inside.buffers.ok.0); is = c.index_mut.ensures.value; all = c.self.invariant.1.0; seen = c.self.view_is } in
+    told-kept inside.buffers.items inside.chosen limit old c.keep.new.self c.args.self.now chosen c.keep.ensures.changed
+
+pub returns-clause-kept : goal.returns-clause-kept
+returns-clause-kept c =
+    let inside = c.self.inside in
+    let old = c.index_mut.result.now in
+    let limit = limit_in inside.buffers.items inside.chosen in
+    let chosen : Chosen inside.buffers.items inside.chosen limit old c.args.self.now =
+    record { inside = omega (arith, inside.buffers.ok.0); is = c.index_mut.ensures.value; all = c.self.invariant.1.0; seen = c.self.view_is } in
+    let told = c.keep.ensures in
+    keeps (KeepsSteps c.args.steps) inside.buffers.items inside.chosen limit old c.keep.new.self c.args.self.now _ chosen refl refl refl (told.changes, told.text_changes)

@@ -1,0 +1,13 @@
+-- The matches so far stand behind what stood at the front.
+use Rattle.std.proofs.Common.{◌≡◌, ◌+◌, ◌++◌, List, length, take, map}
+use Rattle.ropey.specs.Slices.{slice_text}
+use Rattle.rope_search.specs.LineColumns.{columns_as}
+use Rattle.rope_search_c.specs.Reading.{span_in, with_front}
+use Rattle.rope_search_c.specs.declared.matches.Span.{Span}
+use Rattle.rope_search_c.proofs.lines.put_row_as.Given as goal
+
+abbrev pub invariant-loop-columns : goal.invariant-loop-columns
+invariant-loop-columns l =
+    (l.next ≡ l.at + l.columns-index)
+    × ((done first : List Span) → l.fn.out ≡ with_front done first → l.at ≡ length done
+    → l.out ≡ with_front (done ++ map (span_in l.line) (take l.columns-index (map (columns_as l.encoding (slice_text l.own)) l.row))) first)
