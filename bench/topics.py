@@ -148,8 +148,8 @@ TOPICS = {
     ),
     "instructions": Topic(
         "instructions, as valgrind's callgrind counts them, of the report of a pattern in 20,000 lines of source text, "
-        "of `replace` in them, and of `edit` of a letter; the plain Rust program's number is the aim of other reports "
-        "and replacements",
+        "of `replace` in them, and of `edit` of a letter; of many scripts are lines of which three in five end in a word "
+        "that is not ASCII; the plain Rust program's number is the aim of other reports and replacements",
         [sessions.count_instructions],
         in_the_way="of a line with a `TODO` the looks through the four lines before it; of a letter the copy "
         "of the path to it, with 13 requests for memory, and counts of short leaves",

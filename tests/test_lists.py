@@ -46,6 +46,17 @@ VECTORS = [
     (["a"], "aa", "", ((0, 9), (3, 9), ANYWHERE)),
     (["a"], "aa", "", ((0, 9), (1, 0), ANYWHERE)),
     (["\\bé", "e\\b"], "é e", "0 2 0 2 - -,1 4 - - 3 4"),
+    # One literal: no match begins inside the one before, in each slice and span, and across pieces.
+    (["aa"], "aaaaa", "0 2 0 2,0 4 2 4"),
+    (["a"], "banana", "0 2 1 2,0 4 3 4,0 6 5 6"),
+    (["é"], "éxé", "0 2 0 2,0 5 3 5"),
+    (["abcab"], "abcabcabcab", "0 5 0 5,0 11 6 11"),
+    (["abcabcabx"], "abcabcabcabx", "0 12 3 12"),
+    (["ab"], "ababab", "0 4 2 4", ((1, 5), (1, 5), ANYWHERE)),
+    (["ab"], "ababab", "0 4 2 4", ((2, 9), (0, 4), ANYWHERE)),
+    (["ab"], "ababab", "0 2 0 2", ((0, 3), (0, 9), ANYWHERE)),
+    (["ab"], "abab", "0 2 0 2,0 4 2 4", ((0, 9), (0, 9), AT_START)),
+    (["ab"], "xab", "", ((0, 9), (0, 9), AT_START)),
 ]
 
 # Of these letters each is a match, and each find but the last ones reads to the end.

@@ -1,5 +1,5 @@
 """Needles of prefilters in contents that lie in pieces, on bin/search-driver, against a plain model; which literals the
-matches of a pattern begin with, or are; and what the engines find of such patterns, against Python's regular expressions."""
+matches of a pattern begin with, contain, or are; and what the engines find of such patterns, against Python's regular expressions."""
 import itertools
 import random
 import re
@@ -130,6 +130,67 @@ WHOLES = [
     ("🐸" * 17, []),
 ]
 
+# Patterns, and the literal that each of their matches contains, if one is read: the longest that is read in every match,
+# and the first of those, of at most 16 characters; a byte that is common in texts is none. Not in a branch, in what may be
+# missing, or in a look.
+REQUIRED = [
+    ("\\w+\\s*=>\\s*\\w+", ["=>"]),
+    (".*;", [";"]),
+    (".*x", ["x"]),
+    (".*e", []),
+    (".*ex", ["ex"]),
+    (".*(ab|cd)", []),
+    (".*(?:xb|xd)", []),
+    (".*(?:bx|dx)", []),
+    (".*(?:ax)?y", ["y"]),
+    (".*(?:ax){0}y", ["y"]),
+    (".*x|y", []),
+    (".*x*", []),
+    (".*x+", ["x"]),
+    (".*(xy)+z", ["xy"]),
+    (".*(xy)+zab", ["zab"]),
+    ("\\d+xy?\\d+z", ["x"]),
+    ("\\d+x\\d+yz", ["yz"]),
+    ("\\d+xy\\d+zb", ["xy"]),
+    ("\\d+xy\\d+abc\\d+zb", ["abc"]),
+    ("\\d+[x]\\b[y]", ["x"]),
+    ("\\w+(x)(y)", ["x"]),
+    ("\\w+\\bx$", ["x"]),
+    ("\\w+(?i)1", ["1"]),
+    ("\\w+(?i)x", []),
+    ("\\w+é", ["é"]),
+    ("\\w+🐸é", ["🐸é"]),
+    ("\\w+" + "xy" * 20, ["xy" * 8]),
+    ("\\w+" + "🐸" * 20, ["🐸" * 16]),
+    ("(?:a|b)x(?:c|d)", ["x"]),
+    ("(?:a*x)*", []),
+    ("(?:a*x){2}", ["x"]),
+    ("a?", []),
+    ("", []),
+    ("\\w", []),
+    ("let", ["let"]),
+    ("[^\\s\\S]x", ["x"]),
+    ("(?:1y\\d|2y\\d)x", ["x"]),
+    ("(?:" + "|".join(f"{n}y\\d" for n in range(10, 30)) + ")x", ["x"]),
+    ("\\d{300}x", []),
+]
+
+# Patterns, and needles of which each match begins with one or contains one, if such are known.
+BETWEEN = [
+    (["\\w+\\s*=>\\s*\\w+"], ["=>"]),
+    ([".*;$"], [";"]),
+    (["^.*;"], [";"]),
+    (["foo|ba[rz]"], ["foo", "bar", "baz"]),
+    (["foo.*xyz"], ["foo"]),
+    (["\\w+abcde"], ["abcde"]),
+    ([".*abcde", "\\d+abcde"], None),
+    (["abcde", "abcdf"], ["abcde", "abcdf"]),
+    (["\\d+x", "\\d+y"], None),
+    (["\\d+x"], ["x"]),
+    ([".*"], None),
+    (["x*"], None),
+]
+
 
 MOST = 2**64 - 1  # where a span ends that has no end
 
@@ -211,6 +272,22 @@ def read_from(word, patterns):
             yield Case(name, line_of(word, *fields, haystack.hex(), 0, len(haystack)), answer)
 
 
+def between():
+    """Up to where nothing matches: the first of the needles in the span, wherever the haystack is cut."""
+    for patterns, told in BETWEEN:
+        needles = [needle.encode() for needle in told or ["=>"]]
+        first, last = needles[0], needles[-1]
+        haystacks = [b"", first, first[:-1], b"ab" + first, b"a1 " + last + b" " + first + b"b", first[:-1] * 3 + last, b"a\n" * 3 + first]
+        for haystack, cut in itertools.product(haystacks, CUTS):
+            for start, end in [(0, len(haystack)), (1, len(haystack)), (0, max(len(haystack) - 1, 0)), (0, MOST), (2, MOST)]:
+                if start > end + 1:
+                    continue
+                found = model(needles, haystack, start, end).split()[0]
+                answer = "none" if told is None else str(end if found == "-" else found.split("-")[0])
+                fields = [".".join(map(written, patterns)), cut, haystack.hex(), start, end]
+                yield Case(f"{patterns} in {short(haystack)}, cut by {cut}, from {start} to {end}", line_of("between", *fields), answer)
+
+
 def searches_at_random():
     """Searches whose matches perhaps begin with one of few literals, in pieces."""
     chance = random.Random(39)
@@ -231,6 +308,8 @@ def test_all():
         ("lists that are no needles, or are", refused()),
         ("patterns with what they begin with", read_from("beginning", BEGINNINGS)),
         ("patterns with the literal that they are", read_from("whole", WHOLES)),
+        ("patterns with a literal that they contain", read_from("required", REQUIRED)),
+        ("offsets before which nothing matches", between()),
     ]
     for name, cases in parts:
         cases = list(cases)
@@ -242,3 +321,4 @@ def test_all():
     for pattern in ("let", "(?i)xb", "foo|bar|baz"):
         check_memory(next(case for case in read_from("beginning", BEGINNINGS) if repr(pattern) in case.name), NO_MEMORY)
     check_memory(next(read_from("whole", WHOLES)), NO_MEMORY)
+    check_memory(next(read_from("required", REQUIRED)), NO_MEMORY)

@@ -42,10 +42,13 @@ def that_name(form, files):
 
 
 def test_counters():
-    """Rows and searches are counted by what a caller hands in: no library makes a counter of its own."""
+    """Rows and searches are counted by what a caller hands in: no library makes a counter of its own, but where a program
+    in C opens a session."""
     above = [(path, text) for path, text in sources() if path.startswith("rope_search")]
     wrong = [f"{path} makes one" for path in that_name(r"\bLines\s*::\s*new\b", above)]
-    home = that_name(r"\bLines\s*\{", above)
+    wrong += [f"{path} makes one" for path in that_name(r"\bLines\s*::\s*for_caller_in_c\b", above)
+              if path != "rope_search_c/src/counting.rt"]
+    home = that_name(r"\b(Lines|CallerInC)\s*\{", above)
     test("no library makes a counter of rows", wrong + ([] if len(home) == 1 else [f"it is made in {home}"]))
 
 
@@ -115,6 +118,15 @@ def test_words():
     wrong = [f"{word} is in {', '.join(sorted(homes[word]))}" for word in sorted(twice - SHARED)]
     wrong += [f"{word} is not in two crates" for word in sorted(SHARED - twice)]
     test(f"{len(homes)} words of definitions are in one crate each, but for {len(SHARED)}", wrong)
+
+
+def test_meaning():
+    """docs/meaning.md has the definitions that the main theorem rests on, each with its sentence, and no others, and
+    docs/definitions.md has a line for each word."""
+    command = [sys.executable, "-B", os.path.join(TOP, "tools", "meaning"), "--check"]
+    checked = subprocess.run(command, stdout=subprocess.PIPE, stderr=subprocess.STDOUT)
+    wrong = checked.stdout.decode().splitlines() or ["tools/meaning --check fails"] * (checked.returncode != 0)
+    test("docs/meaning.md and docs/definitions.md are what tools/meaning writes, with all sentences", wrong)
 
 
 def test_messages():
@@ -187,9 +199,11 @@ def test_links():
 
 
 def test_length():
-    """The pages can be read: that of results has 3,000 words at most, all together have 28,000."""
+    """The pages can be read: that of results has 3,000 words at most, all together have 28,000, but for what tools/meaning
+    writes."""
     pages = [os.path.join(TOP, name) for name in ("README.md", "CONTRIBUTING.md", "bench/RESULTS.md")]
-    counts = [len(read(path).split()) for path in (*pages, *glob.glob(os.path.join(TOP, "docs", "*.md")))]
+    written = {os.path.join(TOP, "docs", name) for name in ("meaning.md", "definitions.md")}
+    counts = [len(read(path).split()) for path in (*pages, *set(glob.glob(os.path.join(TOP, "docs", "*.md"))) - written)]
     test("bench/RESULTS.md has 3,000 words at most", [] if counts[2] <= 3_000 else [f"it has {counts[2]}"])
     test("the pages have 28,000 words at most", [] if sum(counts) <= 28_000 else [f"they have {sum(counts)}"])
 
@@ -202,6 +216,7 @@ def test_all():
     test_length()
     test_laws()
     test_words()
+    test_meaning()
     test_messages()
     test_positions()
     test_counters()
