@@ -1,5 +1,5 @@
 -- The slots of a pattern's groups are those in which its code notes them.
-use Rattle.std.proofs.Common.{◌≡◌, ℕ, zero, suc, ◌+◌, ◌-◌, ◌*◌, ◌<◌, List, [], ◌∷◌, ◌++◌, length, take, Option, Some, None, slice_get, refl, sym, ap, subst, ◌∙◌, arith}
+use Rattle.std.proofs.Common.{◌≡◌, ℕ, zero, suc, ◌+◌, ◌-◌, ◌*◌, ◌<◌, List, [], ◌∷◌, ◌++◌, length, take, Option, Some, slice_get, refl, sym, ap, subst, ◌∙◌, arith}
 use Rattle.std.proofs.lemmas.List.{append-nil}
 use Rattle.std.proofs.lemmas.List.Sums.{sum_by-cons}
 use Rattle.std.proofs.lemmas.Option.{none-some, same_Some, slice_get_within}
@@ -7,12 +7,13 @@ use Rattle.rx_grammar.specs.Trees.{Tree, Name, group, numbers_of}
 use Rattle.rx_grammar.specs.Weights.{size_of}
 use Rattle.rx_util.specs.Groups.{GroupNames, further_groups, group_len, slot_place}
 use Rattle.rx_walks.specs.Programs.{pass, note}
-use Rattle.rx_program.specs.Code.{Code, code_of, pattern_code, patterns_code, pattern_starts, program_of}
+use Rattle.rx_program.specs.Code.{Code, code_of, pattern_code, patterns_code, pattern_starts}
 use Rattle.rx_program.proofs.ClosedLaws.{pattern_length}
 use Rattle.rx_program.proofs.GroupLaws.{stands_left, stands_right}
 use Rattle.rx_engine.specs.Engines.{AreGroupNamesOf}
 use Rattle.rx_engine.proofs.GroupLaws.{group_count}
 use Rattle.rx_chunk.specs.Owned.{GroupsHaveTheirSlots, NotesItsGroups, StandsAmong}
+use Rattle.rx_chunk.proofs.PartNoteLaws.{notes_of_part}
 
 -- ---- where the code of a pattern stands
 
@@ -64,6 +65,7 @@ noted nodes trees groups slots k q tree count known counted stands = record {
   stands = stands;
   whole = refl;
   further = each;
+  parts = notes_of_part slots;
 }
   where
     each : (number : ℕ) (name : Option Name) (inner : Tree) (at next : ℕ) → 0 < number → number < group_len groups k

@@ -9,4 +9,5 @@ pub mod WholeLaws
 pub mod OwnLaws
 pub mod OtherLaws
 pub mod OrderLaws
+pub mod PartNoteLaws
 pub mod GroupSlotLaws

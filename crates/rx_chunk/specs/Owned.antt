@@ -1,12 +1,14 @@
 -- Which slots are those of a pattern's groups, by which notes they are filled, and what stands in
 -- those of the others.
-use Rattle.std.specs.Prelude.{◌≡◌, ◌⊎◌, ℕ, ◌+◌, ◌<◌, List, [], ◌∷◌, ◌++◌, length, Option, Some, None, slice_get}
-use Rattle.rx_grammar.specs.Trees.{Tree, Name, group}
+use Rattle.std.specs.Prelude.{◌≡◌, ◌⊎◌, ℕ, ◌+◌, ◌*◌, ◌<◌, List, [], ◌∷◌, ◌++◌, length, All, Contains, Option, Some, None, slice_get}
+use Rattle.rx_sets.specs.Sets.{Range}
+use Rattle.rx_grammar.specs.Trees.{Tree, Name, group, numbers_of}
 use Rattle.rx_grammar.specs.Weights.{size_of}
 use Rattle.rx_util.specs.Captured.{place_in}
 use Rattle.rx_util.specs.Groups.{GroupNames, first_slot, group_len, slot_place}
 use Rattle.rx_walks.specs.Finds.{Search}
-use Rattle.rx_walks.specs.Programs.{note, match}
+use Rattle.rx_walks.specs.Looks as walks
+use Rattle.rx_walks.specs.Programs.{Node, match, pass, note, look, set}
 use Rattle.rx_program.specs.Code.{Code, code_of, pattern_code, program_of}
 use Rattle.rx_chunk.specs.Engines.{AreGroupNamesOf, Engine, EngineFinds, IsAnswer, IsEngine}
 
@@ -28,6 +30,21 @@ abbrev pub StandsAmong : Code → ℕ → Code → Type 0
 StandsAmong nodes at code = (c : ℕ) → c < length code
     → slice_get nodes (at + c) ≡ slice_get code c
 
+-- it is one of the two slots of a group with one of these numbers, where those of group k are
+-- `slots` + 2 k and the next
+pub record IsSlotAmong (slots : ℕ) (numbers : List ℕ) (slot : ℕ) : Type 0 where
+  pub number : ℕ
+  pub one_of_them : Contains numbers number
+  pub one_of_two : (slot ≡ slots + 2 * number) ⊎ (slot ≡ slots + 2 * number + 1)
+
+-- a node that fills no slot but of such groups
+abbrev pub NotesAmong : ℕ → List ℕ → Node walks.Look (List Range) → Type 0
+NotesAmong slots numbers (match pattern) = Unit {0}
+NotesAmong slots numbers (pass nodes) = Unit {0}
+NotesAmong slots numbers (note slot next) = IsSlotAmong slots numbers slot
+NotesAmong slots numbers (look asked next) = Unit {0}
+NotesAmong slots numbers (set ranges next) = Unit {0}
+
 -- the code of a pattern, which stands from its start node on, notes its groups in the slots that
 -- are told of them
 pub record NotesItsGroups (nodes : Code) (groups : GroupNames) (pattern start : ℕ) (tree : Tree)
@@ -47,6 +64,10 @@ pub record NotesItsGroups (nodes : Code) (groups : GroupNames) (pattern start : 
       ≡ note (slot_place groups pattern number) (at + 1)
       ∷ (code_of slots inner (at + 1) (at + 1 + size_of inner)
       ++ note (slot_place groups pattern number + 1) next ∷ [])
+  -- the code of each part of the pattern, however often it is laid out, fills the slots of the
+  -- groups in that part alone
+  pub parts : (part : Tree) (at next : ℕ)
+      → All (NotesAmong slots (numbers_of part)) (code_of slots part at next)
 
 -- so does the program of patterns, where these are the names of their groups
 abbrev pub GroupsHaveTheirSlots : Type 0

@@ -16,7 +16,8 @@ pub fn slots_of_other_patterns_hold_none()
 
 /// The slots that are told of a pattern's groups, as by `get_group`, are those in which the
 /// pattern's part of the program notes them: the whole match in those of group 0, each further
-/// group in its own two.
+/// group in its own two. The code of a part of the pattern fills the slots of the groups in that
+/// part alone, however often it is laid out.
 pub fn groups_have_their_slots()
     ensures { GroupsHaveTheirSlots }
 {}
