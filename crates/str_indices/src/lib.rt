@@ -1,5 +1,5 @@
-//! Counts over text and conversions between indices of bytes, characters, UTF-16 code units and
-//! lines, as the Rust crate `str_indices` has them.
+//! Counts over text, and conversions between indices of bytes, characters, UTF-16 code units and
+//! lines, like the Rust crate `str_indices`.
 #![tactic(auto)]
 
 mod breaks;
