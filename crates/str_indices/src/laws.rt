@@ -38,8 +38,8 @@ pub fn units_are_chars_and_pairs()
     ensures { UnitsAreCharsAndPairs }
 {}
 
-/// Each LF break is an LF or CR break, and each of those is a Unicode break: the counts are in this
-/// order.
+/// A text has at most as many breaks by LF as by LF and CR, and at most as many of those as Unicode
+/// breaks.
 pub fn schemes_of_breaks()
     ensures lf { FewerBreaks is_lf_break is_crlf_break }
     ensures crlf { FewerBreaks is_crlf_break is_line_break }
