@@ -33,6 +33,20 @@ pub trait Source {
 }
 
 /// A source of bytes in memory.
+///
+/// # Examples
+///
+/// ```rust
+/// let mut source = MemorySource::new(b"rope", 3, Some(2));
+/// let mut buf = [0; 8];
+/// assert!(rt; source.read(&mut buf) == Ok(3));
+/// assert!(rt; buf.starts_with(b"rop"));
+/// // The failed call loses nothing.
+/// assert!(rt; source.read(&mut buf) == Err(Failed));
+/// assert!(rt; source.read(&mut buf) == Ok(1));
+/// assert!(rt; buf.starts_with(b"e"));
+/// assert!(rt; source.read(&mut buf) == Ok(0), "the end");
+/// ```
 #[derive(Drop)]
 pub struct MemorySource<'a> {
     bytes: &'a [u8],

@@ -31,6 +31,28 @@ pub(crate) const MAX_TEXT_BYTES: usize = 0x7FFF_FFFF_FFFF_FFFF;
 ///
 /// A rope keeps its allocator and uses it for later allocations. Cloning takes `O(1)` time and
 /// memory: a clone shares all nodes, and neither rope changes the other.
+///
+/// # Examples
+///
+/// ```rust
+/// let rope = Rope::from_str(rt.alloc(), "one\r\ntwo🐸")?;
+/// assert_eq!(rt; rope.len_bytes(), 12);
+/// assert_eq!(rt; rope.len_chars(), 9);
+/// assert_eq!(rt; rope.len_utf16_cu(), 10);
+/// assert_eq!(rt; rope.len_lines(), 2);
+/// assert!(rt; rope.try_line_to_byte(1) == Ok(5));
+/// assert!(rt; rope.try_char_to_byte(9) == Ok(12));
+/// ```
+///
+/// ```rust
+/// let mut rope = Rope::from_str(rt.alloc(), "ab\r\ncd")?;
+/// rope.try_insert(3, "x")?;
+/// assert!(rt; rope.eq_str("ab\rx\ncd"));
+/// rope.try_remove(3..4)?;
+/// assert!(rt; rope.eq_str("ab\r\ncd"));
+/// rope.try_replace(2..4, "é")?;
+/// assert!(rt; rope.eq_str("abécd"));
+/// ```
 #[derive(Drop)]
 pub struct Rope {
     pub(crate) alloc: Global,

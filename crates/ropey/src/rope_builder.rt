@@ -18,6 +18,15 @@ use std::mem;
 ///
 /// The builder keeps its allocator. The text is already in leaves, except for a last part that
 /// fills none.
+///
+/// # Examples
+///
+/// ```rust
+/// let mut builder = RopeBuilder::new(alloc);
+/// builder.append("one\r")?;
+/// builder.append("\ntwo")?;
+/// builder.finish()
+/// ```
 #[derive(Drop)]
 pub struct RopeBuilder {
     text: Cutter,

@@ -1,4 +1,6 @@
 //! The engine that follows all paths through a program at once.
+//!
+//! Each search requires a cache for its engine, and `Memory` is its only error.
 
 ghost use Rattle.std.specs.Prelude.{◌≡◌, ℕ, ◌+◌, ◌*◌, ◌<◌, ◌≤◌, ◌^◌, map, IfOk, IfErr, IsTrue, OnOk, OnErr, None, Some, length, option_map, true, false};
 ghost use Rattle.std.specs.Option.{ForSome};
@@ -60,11 +62,7 @@ impl Builder {
         }
     }
 
-    /// Returns a copy.
-    ///
-    /// # Errors
-    ///
-    /// `Memory`.
+    /// Returns a copy. The only error is `Memory`.
     pub fn clone(&self) -> Result<Builder, MatchError>
         ensures same { IfOk result (λ builder. builder ≡ self.now) }
         ensures refused { IfErr result (λ error. error ≡ MatchError.Memory) }
@@ -95,7 +93,8 @@ impl Builder {
         self
     }
 
-    /// Builds the engine of a pattern.
+    /// Builds the engine of a pattern, in time and memory proportional to its weight and to the
+    /// automata of its sets.
     ///
     /// # Errors
     ///
@@ -105,10 +104,6 @@ impl Builder {
     /// - `Size` for a pattern that exceeds the size limit, or, without one, a weight of
     ///   2,147,483,646
     /// - `Memory`, which may replace any result
-    ///
-    /// # Complexity
-    ///
-    /// Time and memory proportional to the pattern's weight and to the automata of its sets.
     pub fn build(&self, alloc: Global, pattern: &str) -> Result<PikeVM, BuildError>
         ensures built { IfOk result (λ vm. IsBuiltOf pattern.now self.now vm) }
         ensures refused { IfErr result (λ error. IsRefused pattern.now self.now error) }
@@ -118,18 +113,14 @@ impl Builder {
         })
     }
 
-    /// Builds the engine of patterns that are searched for together. If matches of several start at
-    /// the same offset, the earliest pattern is preferred. Without a pattern there is never a
-    /// match.
+    /// Builds the engine of patterns that are searched for together, in time and memory as for all
+    /// of them. If matches of several start at the same offset, the earliest pattern is preferred.
+    /// Without a pattern there is never a match.
     ///
     /// # Errors
     ///
     /// Those of [`build`](Self::build), for the first pattern that is refused; then `Size` if the
     /// patterns together, plus 1 unless there is exactly one, weigh too much.
-    ///
-    /// # Complexity
-    ///
-    /// As for `build`, over all patterns.
     pub fn build_many(&self, alloc: Global, patterns: &[&str]) -> Result<PikeVM, BuildError>
         ensures built { IfOk result
             (λ vm. IsBuiltOfAll (map (λ text. text.now) patterns.now) self.now vm) }
@@ -161,6 +152,18 @@ impl Builder {
 
 /// An engine that searches for a pattern, or for several. Contracts see their program, which match
 /// it reports, the groups that it captures, and whether it skips empty matches inside a character.
+///
+/// # Examples
+///
+/// ```rust
+/// let vm = PikeVM::new(rt.alloc(), r"(?<name>\w+)@(\w+)")?;
+/// let mut cache = vm.create_cache()?;
+/// let mut caps = vm.create_captures()?;
+/// let pieces: [&[u8]; 3] = [b"a frog@pond, ", b"to", b"ad@road"];
+/// let mut input = Input::new(ChunkCursor::new(&pieces));
+/// pikevm::search(&vm, &mut cache, &mut input, &mut caps)?;
+/// assert_eq!(rt; caps.get_group(0), Some(Span { start: 2, end: 11 }));
+/// ```
 #[derive(Debug)]
 pub struct PikeVM {
     compiled: Compiled,
@@ -184,11 +187,8 @@ impl Model for PikeVM {
 }
 
 impl PikeVM {
-    /// Builds the engine of a pattern with default settings.
-    ///
-    /// # Errors
-    ///
-    /// Those of [`Builder::build`].
+    /// Builds the engine of a pattern with default settings. Errors are those of
+    /// [`Builder::build`].
     pub fn new(alloc: Global, pattern: &str) -> Result<PikeVM, BuildError>
         ensures built { IfOk result (λ vm. IsBuiltOf pattern.now by_default vm) }
         ensures refused { IfErr result (λ error. IsRefused pattern.now by_default error) }
@@ -196,11 +196,8 @@ impl PikeVM {
         Builder::new().build(alloc, pattern)
     }
 
-    /// Builds the engine of patterns that are searched for together, with default settings.
-    ///
-    /// # Errors
-    ///
-    /// Those of [`Builder::build_many`].
+    /// Builds the engine of patterns that are searched for together, with default settings. Errors
+    /// are those of [`Builder::build_many`].
     pub fn new_many(alloc: Global, patterns: &[&str]) -> Result<PikeVM, BuildError>
         ensures built { IfOk result
             (λ vm. IsBuiltOfAll (map (λ text. text.now) patterns.now) by_default vm) }
@@ -210,11 +207,7 @@ impl PikeVM {
         Builder::new().build_many(alloc, patterns)
     }
 
-    /// Returns a copy that shares program and groups. `O(1)`.
-    ///
-    /// # Errors
-    ///
-    /// `Memory`.
+    /// Returns a copy that shares program and groups. `O(1)`. The only error is `Memory`.
     pub fn clone(&self) -> Result<PikeVM, MatchError>
         ensures same { IfOk result (λ vm. vm ≡ self.now) }
         ensures refused { IfErr result (λ error. error ≡ MatchError.Memory) }
@@ -225,11 +218,7 @@ impl PikeVM {
     }
 
     /// Returns a cache for searches with this engine. Its memory is proportional to the program's
-    /// states and those of their automata.
-    ///
-    /// # Errors
-    ///
-    /// `Memory`.
+    /// states and those of their automata. The only error is `Memory`.
     pub fn create_cache(&self) -> Result<Cache, MatchError>
         ensures made { IfOk result (λ cache. IsCacheOf self.now.program cache) }
         ensures refused { IfErr result (λ error. error ≡ MatchError.Memory) }
@@ -237,11 +226,8 @@ impl PikeVM {
         Cache::new(self.program().allocator(), self)
     }
 
-    /// Returns captures of no match, with slots for all groups. `O(n)` in the number of groups.
-    ///
-    /// # Errors
-    ///
-    /// `Memory`.
+    /// Returns captures of no match, with slots for all groups. `O(n)` in the number of groups. The
+    /// only error is `Memory`.
     pub fn create_captures(&self) -> Result<Captures, MatchError>
         ensures made { IfOk result (λ caps. caps
             ≡ nothing_noted self.now.groups (slot_len self.now.groups)) }
@@ -341,10 +327,7 @@ impl Cache {
         Ok(Cache { room, places })
     }
 
-    /// Returns a copy for the same engine, with what this one has cached.
-    ///
-    /// # Errors
-    ///
+    /// Returns a copy for the same engine, with what this one has cached. The only error is
     /// `Memory`.
     pub fn clone(&self) -> Result<Cache, MatchError>
         ensures same { IfOk result (λ cache. cache ≡ record self.now { followed = 0 }) }
@@ -355,11 +338,8 @@ impl Cache {
         Ok(Cache { room, places })
     }
 
-    /// Makes this a cache for searches with another engine.
-    ///
-    /// # Errors
-    ///
-    /// `Memory`, which leaves the cache unchanged.
+    /// Makes this a cache for searches with another engine. The only error is `Memory`, which
+    /// leaves the cache unchanged.
     pub fn reset(&mut self, vm: &PikeVM) -> Result<(), MatchError>
         ensures made { OnOk result (IsCacheOf vm.now.program self.new) }
         ensures kept { OnErr result (self.new ≡ self.old) }
@@ -542,15 +522,8 @@ fn note<C: Cursor>(
 }
 
 /// Returns whether there is a match. Stops at the first end of one, and takes time at most
-/// proportional to the program times the haystack.
-///
-/// # Requires
-///
-/// The cache is for this engine.
-///
-/// # Errors
-///
-/// `Memory`.
+/// proportional to the program times the haystack. Requires a cache for this engine. The only error
+/// is `Memory`.
 pub fn is_match<C: Cursor>(
     vm: &PikeVM,
     cache: &mut Cache,
@@ -605,11 +578,7 @@ fn whole_places(pattern: PatternID, slots: &[Option<NonMaxUsize>]) -> (Option<us
 }
 
 /// Returns the match of a pattern, given the slots of its group 0, or `None` if one of them is
-/// empty.
-///
-/// # Requires
-///
-/// The match doesn't end before it starts, as after a search.
+/// empty. Requires a match that doesn't end before it starts, as after a search.
 pub fn match_in(pattern: PatternID, slots: &[Option<NonMaxUsize>]) -> Option<Match>
     requires ordered { ForSome (whole_span pattern slots.now) (λ span. span.start ≤ span.end) }
     ensures { result ≡ option_map (λ span. record { pattern = pattern; span = span })
@@ -621,15 +590,8 @@ pub fn match_in(pattern: PatternID, slots: &[Option<NonMaxUsize>]) -> Option<Mat
     }
 }
 
-/// Searches for a match and returns it. It ends in the span.
-///
-/// # Requires
-///
-/// The cache is for this engine.
-///
-/// # Errors
-///
-/// `Memory`.
+/// Searches for a match and returns it. It ends in the span. Requires a cache for this engine. The
+/// only error is `Memory`.
 pub fn find<C: Cursor>(
     vm: &PikeVM,
     cache: &mut Cache,
@@ -754,15 +716,8 @@ fn next_in<C: Cursor>(
     seek(vm, cache, input, false, slots)
 }
 
-/// Returns the next match, as [`next_slots`] finds it.
-///
-/// # Requires
-///
-/// The cache is for this engine.
-///
-/// # Errors
-///
-/// `Memory`.
+/// Returns the next match, as [`next_slots`] finds it. Requires a cache for this engine. The only
+/// error is `Memory`.
 pub fn find_next<C: Cursor>(
     vm: &PikeVM,
     cache: &mut Cache,
@@ -786,16 +741,9 @@ pub fn find_next<C: Cursor>(
     Ok(match_in(pattern, slots))
 }
 
-/// Stores the next match in captures with all its groups, as [`next_slots`] finds it.
-///
-/// # Requires
-///
-/// The cache is for this engine, and the captures have its groups, with at least two slots for each
-/// pattern.
-///
-/// # Errors
-///
-/// `Memory`; the captures are then of no match.
+/// Stores the next match in captures with all its groups, as [`next_slots`] finds it. Requires a
+/// cache for this engine, and captures of its groups with at least two slots for each pattern. The
+/// only error is `Memory`; the captures are then of no match.
 pub fn search_next<C: Cursor>(
     vm: &PikeVM,
     cache: &mut Cache,
@@ -827,11 +775,8 @@ pub fn search_next<C: Cursor>(
 }
 
 /// Returns an iterator over the matches in an input. An empty match at the end of the previous one
-/// is skipped.
-///
-/// # Requires
-///
-/// The cache is for this engine. It is usable again once the iterator is dropped.
+/// is skipped. Requires a cache for this engine, which is usable again once the iterator is
+/// dropped.
 pub fn find_iter<'r, 'c, C: Cursor>(
     vm: &'r PikeVM,
     cache: &'c mut Cache,

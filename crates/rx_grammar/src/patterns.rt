@@ -74,6 +74,13 @@ fn parse_characters(alloc: Global, text: &[char], config: &Config) -> Result<Hir
 /// - `Nesting` exactly if the text is a pattern only with a greater nest limit
 /// - `Outside` exactly if it is shorter and no pattern with any nest limit
 /// - `Memory`, which may replace the tree and the last two
+///
+/// # Examples
+///
+/// ```rust
+/// let hir: Hir = parse(rt.alloc(), "^(?<word>a)*?", &Config::new())?;
+/// assert!(rt; hir.group_count() == 1);
+/// ```
 pub fn parse(alloc: Global, text: &str, config: &Config) -> Result<Hir, SyntaxError>
     ensures spells { IfOk result (λ hir. Spells (chars text.now) config.now (tree_of hir)) }
     ensures too_long { (result ≡ Err SyntaxError.TooLong) ↔ (65536 < length text.now) }

@@ -67,6 +67,18 @@ fn last_filled(chunks: &[&[u8]], mut before: usize) -> Option<usize>
 ///
 /// Empty chunks are skipped. A list without bytes is the empty haystack. The cursor allocates
 /// nothing, and a clone equals it. A step costs `O(n)` in the number of empty chunks that it skips.
+///
+/// # Examples
+///
+/// ```rust
+/// let chunks: [&[u8]; 3] = [b"one ", b"", b"two"];
+/// let mut cursor = ChunkCursor::new(&chunks);
+/// assert!(rt; cursor.chunk() == "one ".as_bytes());
+/// assert!(rt; cursor.advance());
+/// assert!(rt; cursor.chunk() == "two".as_bytes());
+/// assert!(rt; cursor.offset() == 4);
+/// assert!(rt; !cursor.advance());
+/// ```
 #[derive(Drop)]
 pub struct ChunkCursor<'a> {
     chunks: &'a [&'a [u8]],

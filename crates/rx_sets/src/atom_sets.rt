@@ -93,6 +93,20 @@ const KEPT_CLASSES: usize = 8;
 ///
 /// The set of a letter class is made once and shared. The set of a class in brackets is shared with
 /// an equal one among the last few, so a pattern that repeats a class takes memory for one.
+///
+/// # Examples
+///
+/// ```rust
+/// let mut sets = AtomSets::new(rt.alloc());
+/// let items = [
+///     ClassItem::Span('a', 'f'),
+///     ClassItem::Perl(ClassPerlKind::Digit, false),
+/// ];
+/// let set = sets.class(true, true, &items)?;
+/// assert!(rt; !set.contains(ordinal('D')));
+/// assert!(rt; !set.contains(ordinal('7')));
+/// assert!(rt; set.contains(ordinal('x')));
+/// ```
 #[derive(Drop)]
 pub struct AtomSets {
     alloc: Global,

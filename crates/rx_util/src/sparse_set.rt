@@ -15,6 +15,17 @@ use std::mem::size_of;
 /// of members, which has no repeats.
 ///
 /// Inserting, testing and clearing take `O(1)` and don't allocate. The set keeps its allocator.
+///
+/// # Examples
+///
+/// ```rust
+/// let mut set = SparseSet::new(rt.alloc(), 4)?;
+/// assert!(rt; set.capacity() == 4);
+/// assert!(rt; set.is_empty());
+/// assert!(rt; set.insert(StateID::new(3)));
+/// assert!(rt; set.insert(StateID::new(1)));
+/// assert!(rt; !set.insert(StateID::new(3)));
+/// ```
 #[derive(Debug, Drop)]
 pub struct SparseSet {
     // The first `len` are the members, in order of insertion; the rest has no meaning.
