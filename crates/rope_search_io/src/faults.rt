@@ -94,14 +94,14 @@ pub struct Failed;
 /// Why a run broke off.
 #[derive(Clone, Copy, Debug, PartialEq, Eq, Hash)]
 pub enum Broken {
-    /// The source failed. All replies to the complete commands before are written, and the sink
-    /// wasn't flushed.
+    /// The source failed. All replies to complete commands are written, and the sink wasn't
+    /// flushed.
     Read,
-    /// The sink failed: in a write, after which a prefix of those replies is written, and of the
-    /// ending's line if the end was reached; or in the flush after all of these.
+    /// The sink failed. In a write: a prefix of the replies, followed by the ending's line if the
+    /// end was reached, is written. In the flush at the end: all of these are.
     Write,
-    /// The source was read `2^62` times. All replies to the complete commands before are written,
-    /// and the sink wasn't flushed.
+    /// The source was read `2^62` times. All replies to complete commands are written, and the sink
+    /// wasn't flushed.
     Turns,
     /// Out of memory for the first session. Nothing was read or written.
     Memory,

@@ -199,7 +199,7 @@ impl Hir {
     /// Returns the number of groups in every match, including the whole match, or `None` if matches
     /// differ in that. `O(1)`.
     ///
-    /// Matches differ if a repetition that may repeat zero times contains a group.
+    /// For `(a)*`, for example, matches differ.
     pub fn static_captures_len(&self) -> Option<usize>
         ensures { result ≡ static_captures_of (tree_of self.now) }
     {

@@ -32,7 +32,7 @@ pub record HoldsPlace (c : CursorState) (at : ℕ) : Type 0 where
 abbrev pub told_end : CursorState → ℕ
 told_end c = unwrap_or (told_length c) (2 ^ 64 - 1)
 
--- the initial settings: any match from the current chunk on, with a slice that is the whole
+-- the initial settings: a match anywhere from the current chunk on, with a slice that is the whole
 -- haystack
 abbrev pub asked_first : CursorState → Asked
 asked_first c = record {

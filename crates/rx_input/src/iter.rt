@@ -82,9 +82,9 @@ impl<I: Searched> Searcher<I> {
         }
     }
 
-    /// Returns the input of the next search for changes. The end of the last match is kept. If the
-    /// next search finds an empty match there, or any half match, it is repeated once from one byte
-    /// further on.
+    /// Returns the input of the next search, which may be changed. The end of the last match is
+    /// kept: if the next search finds an empty match there, or any half match that ends there, it
+    /// is repeated once from one byte further on.
     pub fn input(&mut self) -> &mut I
         ensures* writes_back { sem 𝓛 (LendsInput I.row I.Searched self.entry result) }
         ensures input { I.state result.now ≡ self.old.input }
