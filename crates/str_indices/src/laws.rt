@@ -73,8 +73,8 @@ pub fn to_byte_idx_is_a_boundary()
     ensures lines { (is_break : ℕ → Bool) → EndsAreBoundaries (break_ends is_break) }
 {}
 
-/// `from_byte_idx` of `to_byte_idx` is the smaller of the index and the count, except that for the
-/// second unit of a surrogate pair it is the first.
+/// `from_byte_idx` of `to_byte_idx` is the smaller of the index and the count. For the second unit
+/// of a surrogate pair it is the index of the first.
 pub fn conversion_there_and_back()
     ensures chars { ComesBack char_ends }
     ensures lines { (is_break : ℕ → Bool) → ComesBack (break_ends is_break) }
@@ -82,8 +82,7 @@ pub fn conversion_there_and_back()
     ensures other_units { OtherUnitsComeBack }
 {}
 
-/// For an index up to the count, an end is at or before an offset exactly if at least that many
-/// ends are.
+/// For k up to the count, the k-th end is at or before an offset exactly if at least k ends are.
 pub fn ends_and_places_agree()
     ensures chars { EndsAndPlacesAgree char_ends }
     ensures lines { (is_break : ℕ → Bool) → EndsAndPlacesAgree (break_ends is_break) }
@@ -97,7 +96,7 @@ pub fn boundaries_and_indices_agree()
 {}
 
 /// `to_byte_idx` of `from_byte_idx` is at most the offset and the text's length. For characters and
-/// code units it is the last boundary there.
+/// code units it is the last boundary at or before the offset.
 pub fn place_there_and_back()
     ensures lines { (is_break : ℕ → Bool) → LastEndIsBefore (break_ends is_break) }
     ensures chars { LastEndIsBefore char_ends }
