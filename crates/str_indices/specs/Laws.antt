@@ -34,7 +34,7 @@ UnitsAreCharsAndPairs = (text : List ℕ) → units text ≡ length text + surro
 abbrev pub FewerBreaks : (ℕ → Bool) → (ℕ → Bool) → Type 0
 FewerBreaks few many = (text : List ℕ) → breaks few text ≤ breaks many text
 
--- no text counts more than its bytes
+-- the count of a text is at most the number of its bytes
 abbrev pub NoMoreThanBytes : (List ℕ → ℕ) → Type 0
 NoMoreThanBytes count = (text : List ℕ) → count text ≤ byte_len text
 
@@ -57,7 +57,7 @@ EndsAreBoundaries ends = (text : List ℕ) (k : ℕ) → all_scalars text ≡ tr
 abbrev pub UnitStartsAreBoundaries : Type 0
 UnitStartsAreBoundaries = (text : List ℕ) (k : ℕ) → all_scalars text ≡ true → IsCharBoundary (encode_utf8_all text) (slice_index_or (unit_starts text) k (byte_len text))
 
--- k ends, or all, are at or before the k-th end
+-- at or before the k-th end are k ends, or all
 abbrev pub ComesBack : (List ℕ → List ℕ) → Type 0
 ComesBack ends = (text : List ℕ) (k : ℕ) → ends_up_to (end_place (ends text) k (byte_len text)) (ends text) ≡ min k (length (ends text))
 
@@ -122,8 +122,8 @@ abbrev pub UnitStartsAddUp : Type 0
 UnitStartsAddUp = (before part after : List ℕ) (k : ℕ) → units before ≤ k → (k < units (before ++ part)) ⊎ (after ≡ [])
     → slice_index_or (unit_starts (before ++ part ++ after)) k (byte_len (before ++ part ++ after)) ≡ byte_len before + slice_index_or (unit_starts part) (k - units before) (byte_len part)
 
--- after a boundary between two texts, the ends are those of the second one alone; even the end of a
--- CR LF that the boundary splits
+-- after a boundary between two texts, the ends are those of the second one, whatever is before it;
+-- that includes the end of a CR LF that the boundary splits
 abbrev pub EndsBehind : (List ℕ → List ℕ) → Type 0
 EndsBehind ends = (before rest : List ℕ) (place : ℕ) → byte_len before ≤ place
     → ends_up_to place (ends (before ++ rest)) ≡ ends_up_to (byte_len before) (ends (before ++ rest)) + ends_up_to (place - byte_len before) (ends rest)
