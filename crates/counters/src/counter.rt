@@ -3,14 +3,14 @@ use std::marker::Model;
 use std::mem;
 use std::snapshot::Snapshot;
 
-/// How often something was done, from 0. It takes no bytes at run time, so it has no last value,
-/// and only a contract can read it.
+/// Counts from 0. It takes no bytes at run time, so only contracts can read it, and it never
+/// overflows.
 #[derive(Drop)]
 pub struct Counter {
     chain: Snapshot<Chain>,
 }
 
-// One link for each step that was counted. No value of it is ever made but `Start`.
+// One link for each step counted. No value but `Start` is ever made.
 #[derive(Drop)]
 enum Chain {
     Start,
@@ -29,7 +29,7 @@ impl Model for Counter {
 impl Counter {
     ghost use Rattle.std.specs.Prelude.{◌≡◌, ◌+◌};
 
-    /// Nothing counted yet.
+    /// Returns a counter at 0.
     #[inline(always)]
     pub fn new() -> Counter
         ensures { result ≡ 0 }

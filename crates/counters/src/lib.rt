@@ -1,4 +1,4 @@
-//! A counter that contracts read, in no bytes at run time.
+//! A counter that only contracts read, of no bytes at run time.
 #![tactic(auto)]
 
 mod counter;

@@ -1,13 +1,13 @@
--- Changes of a text, one after the other, told by places. A change takes a part of the old text away
--- and puts another text in its place; what stands between two changes stays.
+-- Changes of a text, in order, by offsets. A change replaces a part of the old text by another; the
+-- text between two changes stays.
 use Rattle.std.specs.Prelude.{◌≡◌, ℕ, ◌+◌, List, [], ◌∷◌, ◌++◌}
 use Rattle.str_indices.specs.Text.{byte_len, breaks}
 use Rattle.ropey.specs.Chunks.{is_break}
 use Rattle.rope_search_changes.specs.declared.Change.{Change}
 
--- The first change of what is left of two texts, from these two places on: a part stays, one is
--- taken away from the old text, and one is put in its place in the new one. It may have the put
--- part's breaks plus one lines searched, and what is left the rest of the number.
+-- The first change of the rest of two texts, from these two offsets on: a part stays, one is
+-- removed from the old text, and one is inserted into the new text. It may search the inserted
+-- part's breaks plus one lines, and the other changes the rest of the number.
 pub record IsChange (Left : ℕ → ℕ → List ℕ → List ℕ → ℕ → Type 0)
     (at_old at_new : ℕ) (old new : List ℕ) (change : Change) (n : ℕ) : Type 0 where
   pub gap : List ℕ
@@ -24,8 +24,8 @@ pub record IsChange (Left : ℕ → ℕ → List ℕ → List ℕ → ℕ → Ty
   pub counts : n ≡ breaks is_break inserted + 1 + left
   pub further : Left change.old_end change.new_end old_behind new_behind left
 
--- The changes that make the new text of the old one, from two places on; behind the last one both
--- are alike. They may have so many lines searched.
+-- The changes that make the new text of the old one, from two offsets on; after the last one both
+-- are the same. Together they may search this number of lines.
 abbrev pub AreChanges : List Change → ℕ → ℕ → List ℕ → List ℕ → ℕ → Type 0
 AreChanges [] at_old at_new old new n = (old ≡ new) × (n ≡ 0)
 AreChanges (change ∷ changes) at_old at_new old new n =

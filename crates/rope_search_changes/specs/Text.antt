@@ -1,10 +1,10 @@
--- A text is a list of Unicode scalar values, spelled in UTF-8.
+-- A text is a list of Unicode scalar values, encoded in UTF-8.
 use Rattle.std.specs.Prelude.{◌≡◌, ℕ, ◌+◌, List, true, encode_utf8_all}
 use Rattle.std.specs.Str.{all_scalars}
 use Rattle.str_indices.specs.Text.{breaks}
 use Rattle.ropey.specs.Chunks.{is_break}
 
--- each number in the list is a scalar value
+-- each number of the list is a scalar value
 abbrev pub IsText : List ℕ → Type 0
 IsText text = all_scalars text ≡ true
 
@@ -17,7 +17,7 @@ pub record Encodes (text bytes : List ℕ) : Type 0 where
   pub scalars : IsText text
   pub spelled : bytes_of text ≡ bytes
 
--- A text has breaks plus one lines: the last one has no break at its end. Breaks are LF and CR,
--- with CR LF as one.
+-- The number of lines of a text: its breaks plus one, because the last line has none at its end.
+-- Breaks are LF and CR, with CR LF as one.
 abbrev pub line_count : List ℕ → ℕ
 line_count text = breaks is_break text + 1

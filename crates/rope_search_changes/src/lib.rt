@@ -1,19 +1,18 @@
-//! What takes the place of matches in a text: the groups of a match, and the changes that it makes.
+//! The groups of a match, and the changes that a replacement makes.
 #![tactic(auto)]
 
-/// A change of a text, in bytes: where the part ends that it takes out of the old text, and where
-/// the part starts and ends that it puts into the new one.
+/// A change of a text, in byte offsets: the end of the part removed from the old text, and the
+/// start and the end of the part inserted into the new text.
 #[derive(Clone, Copy, Debug)]
 pub struct Change {
-    /// Where the old part ends, in the old text.
+    /// The end of the removed part, in the old text.
     pub old_end: usize,
-    /// Where the new part starts, in the new text.
+    /// The start of the inserted part, in the new text.
     pub new_start: usize,
-    /// Where the new part ends, in the new text.
+    /// The end of the inserted part, in the new text.
     pub new_end: usize,
 }
 
-/// Groups 0 to 9 of a match: of each the byte indices of its start and its end. Group 0 is the
-/// whole match; a group that the pattern doesn't have, or that takes no part in the match, is
-/// `None`.
+/// The spans of the groups 0 to 9 of a match, each as two byte offsets. Group 0 is the whole match.
+/// A group that the pattern doesn't have, or that doesn't take part in the match, is `None`.
 pub type Groups = [Option<(usize, usize)>; 10];

@@ -1,12 +1,12 @@
--- What a device shows: the reader or writer under it.
+-- The reader or writer inside a device.
 use Rattle.std.specs.Prelude.{◌≡◌}
 use Rattle.rope_search_io.specs.declared.device.Device.{Device}
 
--- the reader or the writer under a device
+-- the reader or writer inside a device
 abbrev pub under : {D : Type 0} → Device D → D
 under d = d.inner
 
--- none of its calls is counted yet
+-- all counts are 0
 pub record IsUncounted {D : Type 0} (device : Device D) : Type 0 where
   pub reads : device.reads ≡ 0
   pub narrow : device.narrow ≡ 0

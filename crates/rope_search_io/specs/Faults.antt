@@ -1,9 +1,9 @@
--- What refusals are called in replies, and in which order they are told.
+-- The words and the order of faults.
 use Rattle.std.specs.Prelude.{ℕ, List, codes}
 use Rattle.rope_search_io.specs.declared.faults.Fault.{Fault}
 use Rattle.rope_search_io.specs.declared.faults.Fault.TheVariants.{Nothing, Range, Utf8, Pattern, Limit, Size, Memory}
 
--- what a reply says after `error`
+-- the word after `error` in a reply
 abbrev pub word_of : Fault → List ℕ
 word_of Nothing = codes "none"
 word_of Range = codes "range"
@@ -13,7 +13,7 @@ word_of Limit = codes "limit"
 word_of Size = codes "size"
 word_of Memory = codes "memory"
 
--- the order in which refusals are told: of all that apply to a command, the one of the least rank
+-- the order of faults: of all that apply to a command, the one with the least rank is reported
 abbrev pub rank_of : Fault → ℕ
 rank_of Nothing = 1
 rank_of Range = 2

@@ -1,25 +1,24 @@
--- What is read from a source and not yet taken, and what taking bytes from its front leaves.
+-- The bytes that were read from a source but not yet consumed, and how consuming changes them.
 use Rattle.std.specs.Prelude.{◌≡◌, ℕ, ◌+◌, ◌-◌, ◌*◌, ◌^◌, ◌≤◌, List, [], length, Option}
 use Rattle.std.specs.Io.KnownBytes.{prepend_known, Consumes, IsAtEnd}
 use Rattle.rope_search_io.specs.Sources.{SourceState}
 use Rattle.rope_search_io.specs.declared.faults.Broken.{Broken}
 use Rattle.rope_search_io.specs.declared.faults.Broken.TheVariants.{Read, Write, Turns, Memory}
 
--- the bytes that were read and not yet taken, and how often the source was read
+-- the bytes that were read but not yet consumed, and the number of reads
 pub record Unread : Type 0 where
   pub bytes : List ℕ
   pub reads : ℕ
 
--- all bytes that are still to be taken, where they are known
+-- all bytes that are still to be consumed, if they are known
 abbrev pub to_come : Unread → SourceState → Option (List ℕ)
 to_come unread source = prepend_known unread.bytes source.left
 
--- a bound on the bytes that can still come: 4,096 of each read that is left, and those that are
--- there
+-- a bound on the bytes that can still come: those in the buffer, and 4,097 for each remaining read
 abbrev pub most_to_come : Unread → ℕ
 most_to_come unread = (2 ^ 62 - unread.reads) * 4097 + length unread.bytes
 
--- these bytes were taken from the front, in reads that succeeded
+-- these bytes were consumed, and no read failed
 pub record Takes (old new : Unread) (source source' : SourceState) (bytes : List ℕ) : Type 0 where
   pub consumed : Consumes (to_come old source) (to_come new source') bytes
   pub fewer : most_to_come new + length bytes ≤ most_to_come old
@@ -28,7 +27,7 @@ pub record Takes (old new : Unread) (source source' : SourceState) (bytes : List
   pub open_end : source'.ends ≡ source.ends
   pub wide : source'.narrow ≡ source.narrow
 
--- these bytes were taken, then the source told its end, and nothing is left
+-- these bytes were consumed, then the source reported its end, and nothing is left
 pub record TakesLast (old new : Unread) (source source' : SourceState)
     (bytes : List ℕ) : Type 0 where
   pub consumed : Consumes (to_come old source) (to_come new source') bytes
@@ -39,7 +38,7 @@ pub record TakesLast (old new : Unread) (source source' : SourceState)
   pub at_end : IsAtEnd source'.left
   pub wide : source'.narrow ≡ source.narrow
 
--- these bytes were taken, and then the source failed once
+-- these bytes were consumed, and then the source failed once
 pub record TakesUntilFailure (old new : Unread) (source source' : SourceState)
     (bytes : List ℕ) : Type 0 where
   pub consumed : Consumes (to_come old source) (to_come new source') bytes
@@ -49,7 +48,7 @@ pub record TakesUntilFailure (old new : Unread) (source source' : SourceState)
   pub wide : source'.narrow ≡ source.narrow
   pub empty : new.bytes ≡ []
 
--- these bytes were taken, and then there were too many reads
+-- these bytes were consumed, and then there were too many reads
 pub record TakesUntilLimit (old new : Unread) (source source' : SourceState)
     (bytes : List ℕ) : Type 0 where
   pub consumed : Consumes (to_come old source) (to_come new source') bytes

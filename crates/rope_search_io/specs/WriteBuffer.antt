@@ -1,4 +1,4 @@
--- What is to go to a sink and isn't written yet, and what writing leaves.
+-- The bytes that are buffered for a sink, and how writing changes them.
 use Rattle.std.specs.Prelude.{◌≡◌, ℕ, ◌+◌, List, ◌++◌, flat_map}
 use Rattle.std.specs.Borrow.{Bor}
 use Rattle.std.specs.Io.KnownBytes.{Appends}
@@ -12,7 +12,7 @@ pub record Writes (sink sink' : SinkState) (bytes : List ℕ) : Type 0 where
   pub sound : sink'.failures ≡ sink.failures
   pub flushed : sink'.flushes ≡ sink.flushes
 
--- the sink took a front of these bytes, and then failed once
+-- the sink took a prefix of these bytes, and then failed once
 pub record WritesFront (sink sink' : SinkState) (bytes : List ℕ) : Type 0 where
   pub front : List ℕ
   pub lost : List ℕ
@@ -28,12 +28,12 @@ WritesUntil Read sink sink' bytes = ⊥
 WritesUntil Turns sink sink' bytes = ⊥
 WritesUntil Memory sink sink' bytes = ⊥
 
--- these bytes went behind those that wait, of which the sink took some
+-- these bytes were appended to the buffered ones, of which the sink took some
 pub record Puts (old new : List ℕ) (sink sink' : SinkState) (bytes : List ℕ) : Type 0 where
   pub sent : List ℕ
   pub split : old ++ bytes ≡ sent ++ new
   pub written : Writes sink sink' sent
 
--- parts, one after the other
+-- parts, joined in order
 abbrev pub joined : List (Bor (List ℕ)) → List ℕ
 joined parts = flat_map (λ (part : Bor (List ℕ)). part.now) parts

@@ -1,4 +1,4 @@
-//! The readers and writers of std as sources and sinks.
+//! Readers and writers of std as sources and sinks.
 ghost use Rattle.std.specs.Prelude.{◌≡◌, ◌<◌};
 
 use crate::faults::Failed;
@@ -8,14 +8,16 @@ use crate::sources::Source;
 use counters::Counter;
 use std::io::{Read, Write};
 
-/// A reader of std as a source, or a writer as a sink. Each call is one call of what is under it,
-/// with the same bytes or the same room. Each error is a failure, that of an interrupted call too:
-/// it is handed back and not retried. So is a writer's answer that it took none of some bytes. It
-/// tells its bytes where the reader or writer under it does.
+/// A reader of std as a source, or a writer as a sink.
+///
+/// Each call is one call of the inner reader or writer, with the same bytes or the same room. Each
+/// error is a failure, which is returned and not retried, even that of an interrupted call. A write
+/// that takes none of some bytes is a failure too. The bytes are specified if those of the inner
+/// reader or writer are.
 #[derive(Drop)]
 pub struct Device<D> {
     inner: D,
-    // Read by contracts alone; they take no bytes at run time.
+    // Read by contracts only; they take no bytes at run time.
     reads: Counter,
     narrow: Counter,
     ends: Counter,
@@ -29,8 +31,8 @@ impl<D> Device<D> {
     ghost use Rattle.std.specs.Prelude.{◌≡◌};
     ghost use Rattle.rope_search_io.specs.Device.{under, IsUncounted};
 
-    /// The device over this reader or writer, with nothing counted yet. It takes no memory. Over
-    /// `&mut D` the caller keeps what is under it.
+    /// Returns a device over `inner`, with all counts at 0. Allocates nothing. Over `&mut D` the
+    /// caller keeps the inner reader or writer.
     pub fn new(inner: D) -> Device<D>
         ensures inner { under result ≡ inner }
         ensures counts { IsUncounted result }
@@ -59,7 +61,7 @@ impl<D: Read> Source for Device<D> {
 
     fn read(&mut self, buf: &mut [u8]) -> Result<usize, Failed> {
         self.reads.add();
-        // Counted for contracts alone.
+        // Counted for contracts only.
         if buf.len() < READ_LEN {
             self.narrow.add();
         }
@@ -94,7 +96,8 @@ impl<D: Write> Sink for Device<D> {
                 self.unflushed.add();
                 Ok(count)
             }
-            // A writer that takes nothing of some bytes would never take them, so it failed too.
+            // A writer that takes none of some bytes would never take them, so this is a failure
+            // too.
             _ => {
                 self.failures.add();
                 Err(Failed)

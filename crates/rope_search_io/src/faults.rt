@@ -1,25 +1,25 @@
-//! Why a command is refused, and what a source or a sink answers in place of bytes.
+//! Why a command is refused, and why a run broke off.
 use std::alloc::{AllocError, AllocFailed};
 use std::fmt;
 
-/// Why a command is refused. After each the session, its buffers and their reports are as before.
-/// The numbers are the order in which refusals are told: of all that apply, the one with the least.
-/// It is shown by its word.
+/// Why a command is refused. The session, its buffers and their reports are then unchanged.
+///
+/// If several faults apply, the one with the least number is reported. `Display` shows the word.
 #[derive(Clone, Copy, Debug, PartialEq, Eq, Hash)]
 pub enum Fault {
-    /// There is no such buffer, no pattern, or no text to go back or forward to.
+    /// There is no such buffer, no pattern, or no text to undo or redo to.
     Nothing = 1,
-    /// A position is nowhere in the text, or the second one is before the first.
+    /// A position isn't in the text, or the second one is before the first.
     Range = 2,
     /// The payload isn't UTF-8.
     Utf8 = 3,
-    /// The payload is no pattern.
+    /// The payload isn't a pattern.
     Pattern = 4,
     /// The pattern is too long or too heavy.
     Limit = 5,
-    /// The new text would have more bytes than the limit.
+    /// The new text would exceed the limit of bytes.
     Size = 6,
-    /// Memory was refused.
+    /// Out of memory.
     Memory = 7,
 }
 
@@ -27,14 +27,15 @@ impl Fault {
     ghost use Rattle.std.specs.Prelude.{◌≡◌};
     ghost use Rattle.rope_search_io.specs.Faults.{word_of, rank_of};
 
-    /// Its number, from 1: where several faults apply to a command, the one with the least is told.
+    /// Returns the number of the fault, from 1. If several faults apply to a command, the one with
+    /// the least is reported.
     pub fn rank(self) -> u8
         ensures { result ≡ rank_of self }
     {
         self as u8
     }
 
-    /// The word that a reply has for it, after `error` and a space.
+    /// Returns the word that follows `error` and a space in a reply.
     pub fn word(self) -> &'static str
         ensures { result.now ≡ word_of self }
     {
@@ -61,7 +62,7 @@ impl fmt::Display for Fault {
     }
 }
 
-/// Memory that was refused, so that `?` tells it.
+/// Lets `?` turn a failed allocation into `Fault::Memory`.
 impl From<AllocError> for Fault {
     ghost use Rattle.std.specs.Prelude.{◌≡◌};
     ghost use Rattle.rope_search_io.specs.declared.faults.Fault.TheVariants.{Memory};
@@ -73,7 +74,7 @@ impl From<AllocError> for Fault {
     }
 }
 
-/// The same where the call hands back the value that it had no room for: the value is let go.
+/// The same for calls that return the value for which there was no room. The value is dropped.
 impl<T: Drop> From<AllocFailed<T>> for Fault {
     ghost use Rattle.std.specs.Prelude.{◌≡◌};
     ghost use Rattle.rope_search_io.specs.declared.faults.Fault.TheVariants.{Memory};
@@ -85,23 +86,23 @@ impl<T: Drop> From<AllocFailed<T>> for Fault {
     }
 }
 
-/// A source gave no bytes, or a sink took none, though it was to. It is told once and never retried
-/// here. No byte is lost by it.
+/// A source gave no bytes, or a sink took none, though it should have. It is reported once and
+/// never retried here. No byte is lost.
 #[derive(Clone, Copy, Debug, PartialEq, Eq, Hash)]
 pub struct Failed;
 
 /// Why a run broke off.
 #[derive(Clone, Copy, Debug, PartialEq, Eq, Hash)]
 pub enum Broken {
-    /// The source failed. All replies to the commands that were read whole are written, and the
-    /// sink wasn't flushed.
+    /// The source failed. All replies to complete commands are written, and the sink wasn't
+    /// flushed.
     Read,
-    /// The sink failed: in a write, after which a front of those replies is written, and then of
-    /// the ending's line, where the ending was met; or in the flush after all of these.
+    /// The sink failed. In a write: a prefix of the replies, followed by the ending's line if the
+    /// end was reached, is written. In the flush at the end: all of these are.
     Write,
-    /// The source was read `2^62` times. All replies to the commands that were read whole are
-    /// written, and the sink wasn't flushed.
+    /// The source was read `2^62` times. All replies to complete commands are written, and the sink
+    /// wasn't flushed.
     Turns,
-    /// There was no memory for the first session. Nothing was read or written.
+    /// Out of memory for the first session. Nothing was read or written.
     Memory,
 }

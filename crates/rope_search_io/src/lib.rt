@@ -1,4 +1,4 @@
-//! The bottom of `rope_search`: where its bytes come from and where they go.
+//! Sources and sinks of bytes, and the faults of `rope_search`.
 #![tactic(auto)]
 
 mod device;

@@ -1,4 +1,4 @@
-//! The fixed array that a source is read through.
+//! The fixed buffer through which a source is read.
 ghost use Rattle.std.specs.Prelude.{◌≡◌, ◌+◌, ◌<◌, ◌≤◌, ◌∷◌, [], length, drop, MatchResult, MatchOption, MatchBool};
 ghost use Rattle.rope_search_io.specs.ReadBuffer.{Takes, TakesLast, TakesUntil};
 
@@ -6,15 +6,14 @@ use crate::faults::{Broken, Failed};
 use crate::sources::Source;
 use std::marker::Model;
 
-/// How many bytes a source is asked for at once.
+/// The number of bytes requested from a source at once.
 pub const READ_LEN: usize = 4096;
 
-/// How often a source is read before a run gives up on its end.
+/// The number of reads after which a run gives up.
 pub const MOST_READS: u64 = 1 << 62;
 
-/// The bytes that were read from a source and not yet taken, and how often the source was read. It
-/// goes along with one source, from its first call on, and takes no memory: the array is a part of
-/// it.
+/// The bytes that were read from a source but not yet consumed, and the number of reads. Use it
+/// with one source, from its first call on. It allocates nothing.
 #[derive(Drop)]
 pub struct ReadBuffer {
     bytes: [u8; READ_LEN],
@@ -39,7 +38,7 @@ impl Model for ReadBuffer {
 }
 
 impl ReadBuffer {
-    /// No byte yet, and no read.
+    /// Returns an empty buffer, with no reads.
     pub fn new() -> ReadBuffer
         ensures { result ≡ record { bytes = []; reads = 0 } }
     {
@@ -51,16 +50,18 @@ impl ReadBuffer {
         }
     }
 
-    /// The bytes that were read and not yet taken, in order: all of them, so none where it is
-    /// empty.
+    /// Returns all bytes that were read but not yet consumed, in order.
     pub fn as_slice(&self) -> &[u8]
         ensures { result.now ≡ self.now.bytes }
     {
         &self.bytes[self.from..self.to]
     }
 
-    /// Takes `count` bytes from the front of those that `as_slice` gives, which has as many.
-    /// `O(1)`.
+    /// Consumes `count` bytes from the front. `O(1)`.
+    ///
+    /// # Requires
+    ///
+    /// `count` is at most the length of [`as_slice`](Self::as_slice).
     pub fn consume(&mut self, count: usize)
         requires { count ≤ length self.old.bytes }
         ensures bytes { self.new.bytes ≡ drop count self.old.bytes }
@@ -69,10 +70,13 @@ impl ReadBuffer {
         self.from += count;
     }
 
-    /// Reads the source once, with room for 4,096 bytes, where no byte is here; otherwise it does
-    /// nothing. Answers whether there are bytes now: false says that the source told its end. It is
-    /// `Broken::Read` where the source failed, and `Broken::Turns`, without a read, where it was
-    /// read `2^62` times before. After an error no byte is here, and none was lost.
+    /// Reads the source once, for up to 4,096 bytes, if the buffer is empty. Returns whether it
+    /// then has bytes; false means the end of the source.
+    ///
+    /// # Errors
+    ///
+    /// `Broken::Read` if the source fails; `Broken::Turns`, without a read, after `2^62` reads. The
+    /// buffer is then empty, and no byte is lost.
     pub fn fill<R: Source>(&mut self, source: &mut R) -> Result<bool, Broken>
         ensures taken { MatchResult result
             (λ more. MatchBool more
@@ -101,8 +105,12 @@ impl ReadBuffer {
         }
     }
 
-    /// Takes the next byte, reading the source where none is here. There is none where the source
-    /// told its end. The errors are those of `fill`: no byte is taken then.
+    /// Consumes the next byte, and reads the source first if the buffer is empty. Returns `None` at
+    /// the end of the source.
+    ///
+    /// # Errors
+    ///
+    /// Those of [`fill`](Self::fill); no byte is consumed then.
     pub fn next_byte<R: Source>(&mut self, source: &mut R) -> Result<Option<u8>, Broken>
         ensures taken { MatchResult result
             (λ byte. MatchOption byte

@@ -1,4 +1,4 @@
-//! Where bytes go.
+//! Sinks of bytes.
 ghost use Rattle.std.specs.Prelude.{◌≡◌, ◌+◌, ◌-◌, ◌<◌, ◌≤◌, ◌↔◌, ◌⊎◌, Option, Some, IsErr, IfOk, length, min};
 ghost use Rattle.std.specs.Io.{WritesAtMost};
 ghost use Rattle.std.specs.Io.KnownBytes.{Keeps, WriteAppends};
@@ -10,15 +10,18 @@ use counters::Counter;
 use std::alloc::Global;
 use std::marker::Model;
 
-/// Where bytes go. To contracts it tells its bytes, where it knows them, and counts its calls:
-/// those of `write`, those of `flush`, those that failed, and the writes that it took since its
-/// last flush that succeeded.
+/// A sink of bytes. Contracts see its bytes, if they are known, and counts: of calls of `write` and
+/// of `flush`, of failures, and of successful writes since the last successful flush.
 pub trait Sink {
-    // The bytes that it holds, where they are known, and what it counted.
+    // The bytes that it has, if they are known, and the counts.
     ghost state: { Self → SinkState };
 
-    /// Takes bytes from the front of `bytes` and answers their number: at least one, where there is
-    /// one. After `Failed` it took none. What it took it may keep back until it is flushed.
+    /// Takes bytes from the front of `bytes` and returns their number, at least one if there are
+    /// any. May keep them back until a flush.
+    ///
+    /// # Errors
+    ///
+    /// `Failed`, and no byte was taken.
     fn write(&mut self, bytes: &[u8]) -> Result<usize, Failed>
         ensures bound { WritesAtMost result bytes.now }
         ensures some { IfOk result (λ n. 0 < length bytes.now → 0 < n) }
@@ -30,8 +33,11 @@ pub trait Sink {
         ensures unflushed { (state self.new).unflushed
             ≡ (state self.old).unflushed + successes_in result };
 
-    /// Hands on what it may have kept back. After `Failed` some of that may not have gone on, and
-    /// it stands as unflushed.
+    /// Passes on the bytes kept back.
+    ///
+    /// # Errors
+    ///
+    /// `Failed`; some of the bytes may not have been passed on, and count as unflushed.
     fn flush(&mut self) -> Result<(), Failed>
         ensures bytes { Keeps (state self.old).held (state self.new).held }
         ensures writes { (state self.new).writes ≡ (state self.old).writes }
@@ -42,14 +48,14 @@ pub trait Sink {
             ≡ left_unflushed result (state self.old).unflushed };
 }
 
-/// A sink over memory, with room for a number of bytes that it reserves when it is made.
+/// A sink in memory, with a fixed amount of room.
 #[derive(Drop)]
 pub struct MemorySink {
     bytes: Vec<u8>,
     room: usize,
     step: usize,
     fuse: Option<u64>,
-    // Read by contracts alone; they take no bytes at run time.
+    // Read by contracts only; they take no bytes at run time.
     writes: Counter,
     flushes: Counter,
     failures: Counter,
@@ -80,10 +86,18 @@ impl Model for MemorySink {
 impl MemorySink {
     ghost use Rattle.std.specs.Prelude.{◌≡◌, ◌≤◌, [], IfOk, IfErr};
 
-    /// A sink with room for `room` bytes, which takes `step` of them at most in a call, one at
-    /// least. The call of the number `fail` fails, counted from 1, a `flush` too; at `None` none
-    /// does. A `write` of some bytes also fails where the room is full. It is refused with
-    /// `Fault::Memory` alone.
+    /// Returns a sink with room for `room` bytes, which takes at most `step` bytes in a call.
+    ///
+    /// Call number `fail`, counted from 1, fails, whether `write` or `flush`; with `None` no call
+    /// does. A `write` of some bytes also fails if there is no room left.
+    ///
+    /// # Requires
+    ///
+    /// `step >= 1`.
+    ///
+    /// # Errors
+    ///
+    /// `Fault::Memory`.
     pub fn new(
         alloc: Global,
         room: usize,
@@ -116,7 +130,7 @@ impl MemorySink {
         })
     }
 
-    /// The bytes that it took, in order.
+    /// Returns the bytes taken, in order.
     pub fn written(&self) -> &[u8]
         ensures { result.now ≡ self.now.held }
     {
@@ -142,7 +156,8 @@ impl Sink for MemorySink {
         ensures failures { self.new.failures ≡ self.old.failures + failures_in result }
         ensures unflushed { self.new.unflushed ≡ self.old.unflushed + successes_in result }
 
-        // It fails at that call, or where there are bytes and no room, and takes as much as it may.
+        // It fails at that call, or if there are bytes and no room, and otherwise takes as many
+        // bytes as it may.
         ensures fails { IsErr result ↔ ((self.old.fuse ≡ Some 1)
             ⊎ ((0 < length bytes.now) × (self.old.room ≤ length self.old.held))) }
         ensures most { IfOk result (λ n. n ≡ min self.old.step
@@ -177,7 +192,7 @@ impl Sink for MemorySink {
         ensures failures { self.new.failures ≡ self.old.failures + failures_in result }
         ensures unflushed { self.new.unflushed ≡ left_unflushed result self.old.unflushed }
 
-        // It fails at that call alone.
+        // It fails only at that call.
         ensures fails { IsErr result ↔ (self.old.fuse ≡ Some 1) }
         ensures fuse { self.new.fuse ≡ burnt self.old.fuse }
         ensures step { self.new.step ≡ self.old.step }

@@ -1,4 +1,4 @@
-//! Where bytes come from.
+//! Sources of bytes.
 ghost use Rattle.std.specs.Prelude.{◌≡◌, ◌+◌, ◌<◌, ◌↔◌, Option, Some, IsErr, IfOk, length, min};
 ghost use Rattle.std.specs.Io.{ReadsAtMost};
 ghost use Rattle.std.specs.Io.KnownBytes.{ReadConsumes};
@@ -10,15 +10,18 @@ use crate::read_buffer::READ_LEN;
 use counters::Counter;
 use std::marker::Model;
 
-/// Where bytes come from. To contracts it tells its bytes, where it knows them, and counts its
-/// calls: all of them, those with room for fewer than 4,096 bytes, those that failed, and those
-/// that told the end.
+/// A source of bytes. Contracts see its bytes, if they are known, and counts: of calls, of calls
+/// with room for fewer than 4,096 bytes, of failures, and of calls that reported the end.
 pub trait Source {
-    // The bytes that it has left, where they are known, and what it counted.
+    // The bytes that it has left, if they are known, and the counts.
     ghost state: { Self → SourceState };
 
-    /// Puts the next bytes into the front of `buf` and answers their number: 0 at the end, or where
-    /// `buf` is empty. After `Failed` no byte is lost: the next call goes on where this one began.
+    /// Reads the next bytes into the front of `buf` and returns their number: 0 at the end, or if
+    /// `buf` is empty.
+    ///
+    /// # Errors
+    ///
+    /// `Failed`, and no byte is lost: the next call continues where this one started.
     fn read(&mut self, buf: &mut [u8]) -> Result<usize, Failed>
         ensures bound { ReadsAtMost result buf.new }
         ensures bytes { ReadConsumes (state self.old).left (state self.new).left result buf.new }
@@ -29,13 +32,27 @@ pub trait Source {
         ensures ends { (state self.new).ends ≡ (state self.old).ends + ends_in result buf.new };
 }
 
-/// A source over bytes in memory.
+/// A source of bytes in memory.
+///
+/// # Examples
+///
+/// ```rust
+/// let mut source = MemorySource::new(b"rope", 3, Some(2));
+/// let mut buf = [0; 8];
+/// assert!(rt; source.read(&mut buf) == Ok(3));
+/// assert!(rt; buf.starts_with(b"rop"));
+/// // The failed call loses nothing.
+/// assert!(rt; source.read(&mut buf) == Err(Failed));
+/// assert!(rt; source.read(&mut buf) == Ok(1));
+/// assert!(rt; buf.starts_with(b"e"));
+/// assert!(rt; source.read(&mut buf) == Ok(0), "the end");
+/// ```
 #[derive(Drop)]
 pub struct MemorySource<'a> {
     bytes: &'a [u8],
     step: usize,
     fuse: Option<u64>,
-    // Read by contracts alone; they take no bytes at run time.
+    // Read by contracts only; they take no bytes at run time.
     reads: Counter,
     narrow: Counter,
     failures: Counter,
@@ -64,9 +81,13 @@ impl<'a> Model for MemorySource<'a> {
 impl<'a> MemorySource<'a> {
     ghost use Rattle.std.specs.Prelude.{◌≡◌, ◌≤◌};
 
-    /// A source of these bytes, of which a call gives `step` at most, and at least one is to be
-    /// given. The call of the number `fail` fails, counted from 1, and loses nothing; at `None`
-    /// none fails.
+    /// Returns a source of these bytes, which gives at most `step` bytes in a call.
+    ///
+    /// Call number `fail`, counted from 1, fails and loses nothing; with `None` no call fails.
+    ///
+    /// # Requires
+    ///
+    /// `step >= 1`.
     pub fn new(bytes: &'a [u8], step: usize, fail: Option<u64>) -> MemorySource<'a>
         requires { 1 ≤ step }
         ensures { result ≡ record {
@@ -108,7 +129,7 @@ impl<'a> Source for MemorySource<'a> {
         ensures failures { self.new.failures ≡ self.old.failures + failures_in result }
         ensures ends { self.new.ends ≡ self.old.ends + ends_in result buf.new }
 
-        // It fails at that call alone, and gives as much as it may.
+        // It fails only at that call, and otherwise gives as many bytes as it may.
         ensures fails { IsErr result ↔ (self.old.fuse ≡ Some 1) }
         ensures fuse { self.new.fuse ≡ burnt self.old.fuse }
         ensures most { IfOk result (λ n. n ≡ min self.old.step
@@ -116,7 +137,7 @@ impl<'a> Source for MemorySource<'a> {
         ensures step { self.new.step ≡ self.old.step }
     {
         self.reads.add();
-        // Counted for contracts alone.
+        // Counted for contracts only.
         if buf.len() < READ_LEN {
             self.narrow.add();
         }

@@ -1,11 +1,11 @@
-//! UTF-8 of bytes that aren't kept.
+//! Checking UTF-8 without keeping the bytes.
 ghost use Rattle.std.specs.Prelude.{◌≡◌, ◌+◌, ◌≤◌, ◌<◌, ◌↔◌, ◌∷◌, [], List, ℕ, length, take, IsTrue, IsUtf8};
 ghost use Rattle.rope_search_io.specs.Utf8Judge.{Continues, Feeds, len_by_first};
 
 use std::marker::Model;
 
-/// Judges whether bytes are UTF-8, in whatever pieces they come, and keeps at most a part of one
-/// character. It takes no memory.
+/// Checks whether bytes that come in parts are UTF-8. Keeps at most a part of one character, and
+/// allocates nothing.
 #[derive(Drop)]
 pub struct Utf8Judge {
     part: [u8; 4],
@@ -25,7 +25,7 @@ impl Model for Utf8Judge {
         × (0 < j.len → j.len < len_by_first (slice_index j.part 0)) };
 }
 
-/// How many bytes a character has that begins with this byte.
+/// Returns the number of bytes of a character, given its first byte.
 const fn width(first: u8) -> usize
     ensures value { result ≡ len_by_first first }
     ensures few { result ≤ 4 }
@@ -38,14 +38,14 @@ const fn width(first: u8) -> usize
     }
 }
 
-/// Whether these bytes are a text.
+/// Returns whether these bytes are UTF-8.
 fn is_text(bytes: &[u8]) -> bool
     ensures { IsTrue result ↔ IsUtf8 bytes.now }
 {
     str::from_utf8(bytes).is_ok()
 }
 
-/// How long the longest front is that is a text.
+/// Returns the length of the longest prefix that is UTF-8.
 fn text_len(bytes: &[u8]) -> usize
     ensures within { result ≤ length bytes.now }
     ensures front { IsUtf8 (take result bytes.now) }
@@ -57,7 +57,7 @@ fn text_len(bytes: &[u8]) -> usize
 }
 
 impl Utf8Judge {
-    /// No bytes so far.
+    /// Returns a judge of no bytes.
     pub fn new() -> Utf8Judge
         ensures { (more : List ℕ) → Continues result more ↔ IsUtf8 more }
     {
@@ -68,7 +68,7 @@ impl Utf8Judge {
         }
     }
 
-    /// Judges these bytes after those so far. `O(n)` in their number.
+    /// Adds bytes after those so far. `O(n)` in their number.
     pub fn feed(&mut self, bytes: &[u8])
         ensures { Feeds self.old self.new bytes.now }
     {
@@ -78,19 +78,19 @@ impl Utf8Judge {
             self.push_all(rest);
             return;
         }
-        // All but the end, which may be a part of a character, is judged at once.
+        // All bytes but the last, which may be a part of a character, are checked at once.
         let tail = &rest[text_len(rest)..];
         self.push_all(tail);
     }
 
-    /// Whether all bytes so far are UTF-8. A part of a character at their end is none.
+    /// Returns whether all bytes so far are UTF-8. They aren't if they end inside a character.
     pub fn is_utf8(&self) -> bool
         ensures { IsTrue result ↔ Continues self.now [] }
     {
         !self.dead && self.len == 0
     }
 
-    // How many bytes the character that is under way lacks.
+    // Returns the number of bytes that the current character lacks.
     fn lacking(&self) -> usize {
         if self.len == 0 {
             return 0;
@@ -98,7 +98,7 @@ impl Utf8Judge {
         width(self.part[0]) - self.len
     }
 
-    // Judges these bytes one by one.
+    // Adds these bytes one by one.
     fn push_all(&mut self, bytes: &[u8])
         ensures { Feeds self.old self.new bytes.now }
     {
@@ -107,7 +107,7 @@ impl Utf8Judge {
         }
     }
 
-    // Judges one more byte.
+    // Adds one byte.
     fn push(&mut self, byte: u8)
         ensures { (more : List ℕ) → Continues self.old (byte ∷ more) ↔ Continues self.new more }
     {

@@ -1,4 +1,4 @@
-//! The fixed array in which bytes for a sink are gathered.
+//! The fixed buffer of bytes for a sink.
 ghost use Rattle.std.specs.Prelude.{◌≡◌, ◌+◌, ◌++◌, ◌≤◌, [], length, MatchResult, OnErr};
 ghost use Rattle.rope_search_io.specs.WriteBuffer.{Writes, WritesUntil, Puts, joined};
 
@@ -6,12 +6,15 @@ use crate::faults::{Broken, Failed};
 use crate::sinks::Sink;
 use std::marker::Model;
 
-/// How many bytes are gathered before the sink is given them.
+/// The number of bytes that are buffered before the sink gets them.
 pub const WRITE_LEN: usize = 65_536;
 
-/// Writes all of these bytes, in as many writes as the sink needs. It is `Broken::Write` where a
-/// write failed: the sink then took a front of them, and no write is made after that. It doesn't
-/// flush.
+/// Writes all bytes, in as many writes as the sink needs. Doesn't flush.
+///
+/// # Errors
+///
+/// `Broken::Write` if a write fails. The sink has then taken a prefix of the bytes, and nothing is
+/// written afterwards.
 pub fn write_all<W: Sink>(sink: &mut W, bytes: &[u8]) -> Result<(), Broken>
     ensures { MatchResult result
         (λ _. Writes (W.state sink.old) (W.state sink.new) bytes.now)
@@ -27,8 +30,8 @@ pub fn write_all<W: Sink>(sink: &mut W, bytes: &[u8]) -> Result<(), Broken>
     Ok(())
 }
 
-/// The bytes that wait to be written to a sink, at most 65,536. It takes no memory: the array is a
-/// part of it. What waits as it is let go is lost, so it is sent before.
+/// Buffers up to 65,536 bytes for a sink. It allocates nothing. Call [`send`](Self::send) before it
+/// is dropped, or the buffered bytes are lost.
 #[derive(Drop)]
 pub struct WriteBuffer {
     bytes: [u8; WRITE_LEN],
@@ -46,7 +49,7 @@ impl Model for WriteBuffer {
 }
 
 impl WriteBuffer {
-    /// Nothing waits.
+    /// Returns an empty buffer.
     pub fn new() -> WriteBuffer
         ensures { result ≡ [] }
     {
@@ -56,8 +59,12 @@ impl WriteBuffer {
         }
     }
 
-    /// Writes what waits, so that nothing waits. It is `Broken::Write` where the sink failed: the
-    /// sink then took a front of it, and the rest is lost. It doesn't flush.
+    /// Writes the buffered bytes and empties the buffer. Doesn't flush.
+    ///
+    /// # Errors
+    ///
+    /// `Broken::Write` if the sink fails. It has then taken a prefix of the bytes, and the rest is
+    /// lost.
     pub fn send<W: Sink>(&mut self, sink: &mut W) -> Result<(), Broken>
         ensures empty { self.new ≡ [] }
         ensures written { MatchResult result
@@ -69,10 +76,13 @@ impl WriteBuffer {
         write_all(sink, &self.bytes[..len])
     }
 
-    /// Puts these bytes behind those that wait, and writes what there is no room for: all that
-    /// waited, and these too where they are more than 65,536. It is `Broken::Write` where the sink
-    /// failed: the sink then took a front of what waited and of these, the rest is lost, and
-    /// nothing waits.
+    /// Appends bytes, and writes if there is no room for them: all buffered bytes, and the new ones
+    /// too if they are more than 65,536.
+    ///
+    /// # Errors
+    ///
+    /// `Broken::Write` if the sink fails. It has then taken a prefix of all these bytes, the rest
+    /// is lost, and the buffer is empty.
     #[tactic(auto, using(crate::proofs::Fronts::putting))]
     pub fn put<W: Sink>(&mut self, sink: &mut W, bytes: &[u8]) -> Result<(), Broken>
         ensures written { MatchResult result
@@ -94,9 +104,11 @@ impl WriteBuffer {
         Ok(())
     }
 
-    /// Puts these parts behind the bytes that wait, in order, as `put` does one. It is
-    /// `Broken::Write` where the sink failed: the sink then took a front of what waited and of
-    /// these, the rest is lost, and nothing waits.
+    /// Appends parts in order, as [`put`](Self::put) appends one.
+    ///
+    /// # Errors
+    ///
+    /// Those of `put`.
     #[tactic(auto, using(crate::proofs::Fronts::putting_parts))]
     pub fn put_parts<W: Sink>(&mut self, sink: &mut W, parts: &[&[u8]]) -> Result<(), Broken>
         ensures written { MatchResult result
@@ -111,9 +123,13 @@ impl WriteBuffer {
         Ok(())
     }
 
-    /// Writes what waits, and then all of these parts, in order, so that nothing waits. It is
-    /// `Broken::Write` where the sink failed: the sink then took a front of these bytes, and the
-    /// rest is lost. It doesn't flush.
+    /// Writes the buffered bytes and then all parts, in order, and empties the buffer. Doesn't
+    /// flush.
+    ///
+    /// # Errors
+    ///
+    /// `Broken::Write` if the sink fails. It has then taken a prefix of these bytes, and the rest
+    /// is lost.
     #[tactic(auto, using(crate::proofs::Fronts::sending))]
     pub fn send_parts<W: Sink>(&mut self, sink: &mut W, parts: &[&[u8]]) -> Result<(), Broken>
         ensures empty { self.new ≡ [] }
@@ -127,7 +143,7 @@ impl WriteBuffer {
         Ok(())
     }
 
-    // Puts these bytes, for which there is room, behind those that wait.
+    // Appends bytes for which there is room.
     fn keep(&mut self, bytes: &[u8])
         requires { length self.old + length bytes.now ≤ 65536 }
         ensures { self.new ≡ self.old ++ bytes.now }

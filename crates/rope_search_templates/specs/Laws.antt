@@ -3,14 +3,14 @@ use Rattle.std.specs.Prelude.{◌≡◌, ℕ, false, List, map}
 use Rattle.rope_search_changes.specs.Replacement.{Groups, alone, whole, replaced, searched, changes_of}
 use Rattle.rope_search_templates.specs.Templates.{names_explicit_groups}
 
--- with these matches a template leaves the same text as with those, by the same changes, which may
--- have as many lines searched
+-- with both lists of matches a template makes the same text, by the same changes, which may search
+-- as many lines
 pub record ReplaceAlike (content template : List ℕ) (matches others : List Groups) : Type 0 where
   pub text : replaced content template 0 matches ≡ replaced content template 0 others
   pub changes : changes_of content template 0 0 matches ≡ changes_of content template 0 0 others
   pub lines : searched content template matches ≡ searched content template others
 
--- a template that names no group but the whole match needs the spans alone
+-- a template that names no group except the whole match needs only the spans
 abbrev pub SpansAreEnough : Type 0
 SpansAreEnough = (content template : List ℕ) (matches : List Groups)
     → names_explicit_groups template ≡ false

@@ -1,7 +1,7 @@
--- What is left of a text that is copied from its start on.
+-- The rest of a text that is copied from its start on.
 use Rattle.std.specs.Prelude.{ℕ, List}
 
--- its bytes, how many of them are left of a chunk, and how many chunks come behind that
+-- its bytes, the number of them that are left of a chunk, and the number of chunks after that
 pub record LeftState : Type 0 where
   pub bytes : List ℕ
   pub shown : ℕ

@@ -6,7 +6,7 @@ use Rattle.rope_search_templates.specs.declared.matches.Match.TheVariants as mat
 use Rattle.rope_search_templates.specs.declared.matches.Matches.{Matches}
 use Rattle.rope_search_templates.specs.declared.matches.Matches.TheVariants as matches
 
--- the groups of a match: where its span alone is known, it is the only one
+-- the groups of a match; if only its span is known, that is the only group
 abbrev pub groups_in : Match → Groups
 groups_in (match.Span start end) = alone (start, end)
 groups_in (match.Grouped groups) = groups.now

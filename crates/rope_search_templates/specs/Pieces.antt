@@ -1,16 +1,16 @@
--- The pieces of a template, one after the other.
+-- The pieces of a template, in order.
 use Rattle.std.specs.Prelude.{◌≡◌, ℕ, ◌+◌, ◌<◌, ◌≤◌, ◌==◌, Bool, false, ◌||◌, List, [], ◌∷◌, ◌++◌, length, slice_index, Option, chars, MatchOption, IsUtf8}
 use Rattle.rope_search_changes.specs.Replacement.{Groups, expand, group_text, is_digit}
 use Rattle.rope_search_templates.specs.Templates.{names}
 use Rattle.rope_search_templates.specs.declared.pieces.Piece.{Piece}
 use Rattle.rope_search_templates.specs.declared.pieces.Piece.TheVariants.{Text, Group}
 
--- what a piece stands for at a match
+-- the text of a piece at a match
 abbrev pub shown : List ℕ → Groups → Piece → List ℕ
 shown content groups (Text text) = chars text.now
 shown content groups (Group number) = group_text content groups number
 
--- whether it names a group that passes a test
+-- the piece is a group that passes a test
 abbrev pub is_group : (ℕ → Bool) → Piece → Bool
 is_group test (Text text) = false
 is_group test (Group number) = test number
@@ -20,7 +20,7 @@ abbrev pub IsTemplatePiece : Piece → Type 0
 IsTemplatePiece (Text text) = IsUtf8 text.now
 IsTemplatePiece (Group number) = number < 10
 
--- the first piece of what is left of a template, and what is left behind it
+-- the first piece of the rest of a template, and the rest after it
 pub record IsFirstPiece (left : List ℕ) (piece : Piece) (behind : List ℕ) : Type 0 where
   pub is_one : IsTemplatePiece piece
   pub expands : (content : List ℕ) (groups : Groups)
@@ -28,25 +28,25 @@ pub record IsFirstPiece (left : List ℕ) (piece : Piece) (behind : List ℕ) : 
   pub names_it : (test : ℕ → Bool) → names test left ≡ (is_group test piece || names test behind)
   pub shorter : length behind < length left
 
--- A step gives the first piece of what is left. Where nothing is left it gives none.
+-- A step gives the first piece of the rest, or none at the end.
 abbrev pub GivesPiece : List ℕ → Option Piece → List ℕ → Type 0
 GivesPiece old given new =
     MatchOption given ((old ≡ []) × (new ≡ old)) (λ piece. IsFirstPiece old piece new)
 
 -- ---- by bytes
 
--- neither a dollar, which is 36, nor a digit comes first
+-- the text starts neither with a dollar, which is 36, nor with a digit
 abbrev pub StartsPlain : List ℕ → Type 0
 StartsPlain [] = Unit {0}
 StartsPlain (c ∷ cs) = ((c == 36) ≡ false) × (is_digit c ≡ false)
 
--- a dollar and a second byte begin it
+-- it starts with a dollar and this second byte
 pub record BeginsPair (bytes : List ℕ) (second : ℕ) : Type 0 where
   pub two : 2 ≤ length bytes
   pub first : slice_index bytes 0 ≡ 36
   pub second_is : slice_index bytes 1 ≡ second
 
--- a pair begins it that is this piece
+-- it starts with a pair that is this piece
 abbrev pub BeginsWith : List ℕ → Piece → Type 0
 BeginsWith bytes (Text text) = BeginsPair bytes 36 × (text.now ≡ 36 ∷ []) × IsUtf8 text.now
 BeginsWith bytes (Group number) = BeginsPair bytes (48 + number) × (number < 10)

@@ -1,4 +1,4 @@
-//! What is left of a text that is copied from its start on.
+//! The rest of a text that is copied from its start on.
 ghost use Rattle.std.specs.Prelude.{◌≡◌, ◌+◌, ◌<◌, ◌≤◌, ◌++◌, [], length, take, drop, IsUtf8, OnOk, IfErr};
 ghost use Rattle.std.specs.Str.{chars, IsCharBoundary};
 ghost use Rattle.ropey.specs.Chunks.{text_of};
@@ -9,11 +9,11 @@ use ropey::iter::Chunks;
 use ropey::{Rope, RopeBuilder};
 use std::marker::Model;
 
-/// What is left of a text, chunk by chunk. Contracts see its bytes, how many of them are
-/// left of a chunk, and how many chunks come behind that.
+/// The rest of a text, chunk by chunk. Contracts see its bytes, the number of them that are left of
+/// a chunk, and the number of chunks after that.
 #[derive(Drop)]
 pub(crate) struct Left<'a> {
-    // What is left of the chunk.
+    // The rest of the chunk.
     rest: &'a str,
     chunks: Chunks<'a>,
 }
@@ -38,7 +38,7 @@ impl<'a> Model for Left<'a> {
 }
 
 impl<'a> Left<'a> {
-    /// All of a text.
+    /// Returns the rest that is the whole text.
     pub(crate) fn of(text: &'a Rope) -> Left<'a>
         ensures { result.bytes ≡ bytes_of (text_of text.now) }
     {
@@ -48,7 +48,7 @@ impl<'a> Left<'a> {
         }
     }
 
-    /// Shows the next chunk, where nothing is left of the one before.
+    /// Moves to the next chunk if nothing is left of the current one.
     fn show(&mut self)
         ensures bytes { self.new.bytes ≡ self.old.bytes }
         ensures fewer { self.new.chunks ≤ self.old.chunks }
@@ -62,8 +62,8 @@ impl<'a> Left<'a> {
         }
     }
 
-    /// The next `len` bytes, or those of them that lie in one chunk: none perhaps, where the next
-    /// chunk is shown.
+    /// Returns and passes the next `len` bytes, or those of them that are in one chunk. There may
+    /// be none if it moves to the next chunk.
     fn part(&mut self, len: usize) -> &'a str
         requires { IsCharBoundary self.old.bytes len }
         ensures parts { self.old.bytes ≡ result.now ++ self.new.bytes }
@@ -79,7 +79,7 @@ impl<'a> Left<'a> {
         &rest[..end]
     }
 
-    /// Copies the next `len` bytes behind what a builder has.
+    /// Appends the next `len` bytes to a builder, and passes them.
     pub(crate) fn copy(&mut self, len: usize, builder: &mut RopeBuilder) -> Result<(), Fault>
         requires { IsCharBoundary self.old.bytes len }
         ensures text { OnOk result (builder.new ≡ builder.old ++ chars (take len self.old.bytes)) }
@@ -97,7 +97,7 @@ impl<'a> Left<'a> {
         Ok(())
     }
 
-    /// Passes over the next `len` bytes.
+    /// Passes the next `len` bytes.
     pub(crate) fn skip(&mut self, len: usize)
         requires { IsCharBoundary self.old.bytes len }
         ensures { self.new.bytes ≡ drop len self.old.bytes }

@@ -5,11 +5,11 @@ ghost use Rattle.rope_search_templates.specs.Matches.{groups_in, matched};
 
 use rope_search_changes::Groups;
 
-/// The matches of a text, from the first on. A template that names no group but the whole match
-/// needs their spans alone, which take a fifteenth of the memory.
+/// The matches of a text, in order. A template that names no group except the whole match needs
+/// only their spans, which take a fifteenth of the memory.
 #[derive(Drop)]
 pub enum Matches {
-    /// Where each starts and where it ends.
+    /// The start and the end of each.
     Spans(Vec<(usize, usize)>),
     /// The groups of each.
     Grouped(Vec<Groups>),
@@ -18,14 +18,14 @@ pub enum Matches {
 /// A match.
 #[derive(Clone, Copy)]
 pub(crate) enum Match<'a> {
-    /// Where it starts and where it ends.
+    /// Its start and its end.
     Span(usize, usize),
     /// Its groups.
     Grouped(&'a Groups),
 }
 
 impl Match<'_> {
-    /// Where the whole match starts and ends.
+    /// Returns the start and the end of the whole match.
     pub(crate) fn span(self) -> (usize, usize)
         ensures { result ≡ whole (groups_in self.entry) }
     {
@@ -35,7 +35,7 @@ impl Match<'_> {
         }
     }
 
-    /// The span of a group, if that takes part in the match.
+    /// Returns the span of a group, if it takes part in the match.
     pub(crate) fn group(self, number: usize) -> Option<(usize, usize)>
         requires { number < 10 }
         ensures { result ≡ slice_index_or (groups_in self.entry) number None }
@@ -48,7 +48,7 @@ impl Match<'_> {
 }
 
 impl Matches {
-    /// Returns how many they are.
+    /// Returns the number of matches.
     pub fn len(&self) -> usize
         ensures { result ≡ length (matched self.now) }
     {
@@ -58,7 +58,7 @@ impl Matches {
         }
     }
 
-    /// One of them.
+    /// Returns one of the matches.
     pub(crate) fn at(&self, index: usize) -> Match<'_>
         requires { index < length (matched self.now) }
         ensures { groups_in result ≡ get_or (matched self.now) index [] }

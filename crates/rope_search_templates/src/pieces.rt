@@ -11,9 +11,9 @@ use std::marker::Model;
 /// A piece of a template.
 #[derive(Clone, Copy, Debug)]
 pub enum Piece<'a> {
-    /// It stands for this text.
+    /// This text.
     Text(&'a str),
-    /// It stands for the text of the group with this number, which is 0 to 9.
+    /// The text of the group with this number, from 0 to 9.
     Group(usize),
 }
 
@@ -25,7 +25,7 @@ impl Piece<'_> {
     ghost use Rattle.rope_search_templates.specs.Matches.{groups_in};
     ghost use Rattle.rope_search_templates.specs.Pieces.{IsTemplatePiece, shown};
 
-    /// How many bytes of UTF-8 it stands for at a match.
+    /// Returns the number of bytes of the piece's text at a match.
     pub fn len(self, found: Match<'_>) -> usize
         requires piece { IsTemplatePiece self }
         requires spans { (text : List ℕ) × IsText text
@@ -43,8 +43,8 @@ impl Piece<'_> {
     }
 }
 
-/// What a template begins with that is told by two characters: a dollar, and another one or a
-/// digit. None where it begins otherwise; a dollar that comes first then stands for itself.
+/// Returns the piece of two characters at the start of a template: a dollar and another one, or a
+/// dollar and a digit. Without one, a first dollar is itself.
 fn pair(left: &str) -> Option<Piece<'_>>
     ensures pair { IfSome result (BeginsWith left.now) }
     ensures none { IfNone result (slice_index left.now 0 ≡ 36 → StartsPlain (drop 1 left.now)) }
@@ -53,15 +53,14 @@ fn pair(left: &str) -> Option<Piece<'_>>
         return None;
     };
     match *second {
-        // The second one stays.
+        // The second dollar is the text.
         b'$' => Some(Piece::Text(&left[1..2])),
         b'0'..=b'9' => Some(Piece::Group((*second - b'0') as usize)),
         _ => None,
     }
 }
 
-/// The first piece of what is left of a template, and what is left behind it. None where nothing is
-/// left.
+/// Returns the first piece of the rest of a template, and the rest after it, or `None` at the end.
 fn first_piece(left: &str) -> Option<(Piece<'_>, &str)>
     ensures none { IfNone result (chars left.now ≡ []) }
     ensures piece { IfSome result (λ first.
@@ -77,7 +76,7 @@ fn first_piece(left: &str) -> Option<(Piece<'_>, &str)>
     Some((Piece::Text(&left[..len]), &left[len..]))
 }
 
-/// The pieces of a template, from a place on. Contracts see the characters that are left.
+/// An iterator over the pieces of a template. Contracts see the remaining characters.
 #[derive(Drop)]
 pub struct Pieces<'a> {
     left: &'a str,
@@ -98,7 +97,7 @@ impl<'a> Pieces<'a> {
     ghost use Rattle.std.specs.Prelude.{◌≡◌};
     ghost use Rattle.std.specs.Str.{chars};
 
-    /// The pieces of a text.
+    /// Returns an iterator over the pieces of a text.
     pub fn new(text: &'a str) -> Pieces<'a>
         ensures { result ≡ chars text.now }
     {

@@ -1,4 +1,4 @@
-//! Texts put in the place of parts of a text, all told by places of the text before any of them.
+//! Substitutions of parts of a text, with offsets in the text before any of them.
 ghost use Rattle.std.specs.Prelude.{◌≡◌, ◌^◌, ◌<◌, ◌≤◌, ◌⊎◌, map, Err, IfOk, IfErr, OnOk};
 ghost use Rattle.str_indices.specs.Text.{byte_len};
 ghost use Rattle.ropey.specs.Chunks.{text_of};
@@ -11,19 +11,19 @@ use rope_search_io::Fault;
 use ropey::Rope;
 use std::alloc::Global;
 
-/// A text, and the part of another one in whose place it comes.
+/// A part of a text, and its replacement.
 #[derive(Clone, Copy, Debug)]
 pub struct Substitution<'a> {
-    /// The byte index where the part starts.
+    /// The byte offset at which the part starts.
     pub start: usize,
-    /// The byte index where the part ends.
+    /// The byte offset at which the part ends.
     pub end: usize,
-    /// What comes in its place.
+    /// The replacement.
     pub text: &'a str,
 }
 
-/// The changes that these make. It is refused with `Fault::Size` where the new text would have more
-/// bytes than the limit, and perhaps with `Fault::Memory`.
+/// Returns the changes of substitutions. Fails with `Fault::Size` if the new text would exceed the
+/// limit of bytes, or with `Fault::Memory`.
 fn changes_by(
     alloc: Global,
     limit: usize,
@@ -44,7 +44,7 @@ fn changes_by(
 {
     let text_len = text.len_bytes();
     let mut changes = Vec::with_capacity(alloc, substitutions.len())?;
-    // Where the last part ends, in the old text and in the new one.
+    // The end of the last part, in the old and in the new text.
     let (mut at, mut at_new) = (0, 0);
     for substitution in substitutions {
         let new_start = at_new + (substitution.start - at);
@@ -66,8 +66,8 @@ fn changes_by(
     Ok(changes)
 }
 
-/// The text with each in its place, which shares what lies between them with the old one. The last
-/// comes first, so that the places of those before it stay.
+/// Returns the text with all substitutions, which shares the text between them with the old one.
+/// The last comes first, so that the offsets of the others stay valid.
 fn edited(text: &Rope, substitutions: &[Substitution<'_>]) -> Result<Rope, Fault>
     requires follow { SubstitutionsFollow (bytes_of (text_of text.now)) 0
         (map told substitutions.now) }
@@ -76,7 +76,7 @@ fn edited(text: &Rope, substitutions: &[Substitution<'_>]) -> Result<Rope, Fault
         substituted (bytes_of (text_of text.now)) 0 (map told substitutions.now)) }
     ensures fault { IfErr result (λ fault. fault ≡ Fault.Memory) }
 {
-    // For its facts alone.
+    // Needed by the proof only.
     let _ = text.len_bytes();
     let mut new = text.clone()?;
     let mut left = substitutions.len();
@@ -91,12 +91,21 @@ fn edited(text: &Rope, substitutions: &[Substitution<'_>]) -> Result<Rope, Fault
     Ok(new)
 }
 
-/// Returns a text with others in the place of some of its parts, and the changes. Requires parts
-/// that follow each other, of which two may touch, and that start and end at character boundaries.
-/// `O(log n)` for each, and linear in what is put in.
+/// Returns a text with all substitutions, and the changes.
 ///
-/// Errors: `Fault::Size` where the new text would have more bytes than the limit, before any of it
-/// is made; `Fault::Memory`.
+/// # Requires
+///
+/// The parts are in order and don't overlap, though two may touch, and start and end at character
+/// boundaries.
+///
+/// # Errors
+///
+/// `Fault::Size` if the new text would exceed the limit of bytes, before any of it is built;
+/// `Fault::Memory`.
+///
+/// # Complexity
+///
+/// `O(log n)` for each substitution, plus the bytes of the replacements.
 pub fn substitute_all(
     alloc: Global,
     limit: usize,

@@ -1,4 +1,4 @@
--- What a text counts in each measure, and the chunk in which a place of a measure lies.
+-- What a text counts in each unit, and the chunk that contains an index.
 pub use Rattle.ropey_tree.specs.declared.counts.Counts.{Counts}
 pub use Rattle.ropey_tree.specs.declared.counts.By.{By}
 pub use Rattle.ropey_tree.specs.declared.counts.By.TheVariants.{Bytes, Chars, Units, Breaks}

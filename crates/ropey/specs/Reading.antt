@@ -1,20 +1,21 @@
--- What a reader gives, and what is told of it where no rope is made of that.
+-- What a reader gives, and what holds if no rope is made from it.
 use Rattle.std.specs.Prelude.{◌≡◌, ℕ, ◌<◌, ◌≤◌, ◌^◌, ◌⊎◌, List, [], ◌++◌, length, Option}
 use Rattle.std.specs.Str.{IsUtf8}
 use Rattle.std.specs.Io.KnownBytes.{Consumes, IsAtEnd}
 use Rattle.ropey.specs.declared.read_fault.ReadFault.{ReadFault}
 use Rattle.ropey.specs.declared.read_fault.ReadFault.TheVariants.{Read, Utf8, Memory, Size, Turns}
 
--- some text begins with these bytes
+-- some valid text begins with these bytes
 abbrev pub BeginsText : List ℕ → Type 0
 BeginsText bytes = (more : List ℕ) × IsUtf8 (bytes ++ more)
 
--- a reader gave these bytes and told its end
+-- a reader gave these bytes and then its end
 pub record GivesToEnd (left left' : Option (List ℕ)) (bytes : List ℕ) : Type 0 where
   pub consumed : Consumes left left' bytes
   pub at_end : IsAtEnd left'
 
--- what holds of the bytes that a reader gave, and of those that it has left, where a fault is the first that was met
+-- what holds of the bytes that a reader gave, and of those that it has left, if this fault is the
+-- first
 abbrev pub MeetsFault : ReadFault → List ℕ → Option (List ℕ) → Type 0
 MeetsFault Read given left = BeginsText given
 MeetsFault Utf8 given left = (BeginsText given → ⊥) ⊎ ((IsUtf8 given → ⊥) × IsAtEnd left)
@@ -28,7 +29,7 @@ pub record GivesUntil (fault : ReadFault) (left left' : Option (List ℕ)) : Typ
   pub consumed : Consumes left left' given
   pub met : MeetsFault fault given left'
 
--- bytes that were read are a text, and then nothing or a part of a character: a text begins so, and it is none
+-- bytes that are a valid text, then nothing or a proper part of a character
 pub record IsCutAt (bytes text rest : List ℕ) : Type 0 where
   pub parts : bytes ≡ text ++ rest
   pub utf8 : IsUtf8 text
@@ -36,7 +37,7 @@ pub record IsCutAt (bytes text rest : List ℕ) : Type 0 where
   pub no_text : IsUtf8 rest → rest ≡ []
   pub short : length rest < 4
 
--- a reader gave some more bytes, which stand behind these
+-- a reader gave one byte or more, which are now after the old ones
 pub record GivesMore (left left' : Option (List ℕ)) (old new : List ℕ) : Type 0 where
   pub bytes : List ℕ
   pub consumed : Consumes left left' bytes

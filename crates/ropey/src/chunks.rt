@@ -1,4 +1,4 @@
-//! Bytes, characters and chunks of a rope by index.
+//! Access to bytes, characters and chunks of a rope by index.
 
 ghost use Rattle.std.specs.Prelude.{◌≡◌, ◌+◌, ◌-◌, ◌<◌, ◌≤◌, ◌↔◌, length, slice_index, SomeIff, IfSome, IsNone, encode_utf8_all};
 ghost use Rattle.std.specs.Str.{chars, IsUtf8};
@@ -8,7 +8,11 @@ ghost use Rattle.ropey.specs.Chunks.{text_of, line_breaks, ShowsChunk, ShowsChun
 use crate::rope::Rope;
 
 impl Rope {
-    /// Returns a byte. Requires `byte_idx < len_bytes()`. `O(log n)`.
+    /// Returns the byte at `byte_idx`. `O(log n)`.
+    ///
+    /// # Requires
+    ///
+    /// `byte_idx < len_bytes()`.
     pub fn byte(&self, byte_idx: usize) -> u8
         requires { byte_idx < byte_len (text_of self.now) }
         ensures { result ≡ slice_index (encode_utf8_all (text_of self.now)) byte_idx }
@@ -16,7 +20,7 @@ impl Rope {
         self.whole().byte(byte_idx)
     }
 
-    /// Returns `byte`, or `None` from `len_bytes()` on. `O(log n)`.
+    /// Returns [`byte`](Self::byte), or `None` if `byte_idx >= len_bytes()`. `O(log n)`.
     pub fn get_byte(&self, byte_idx: usize) -> Option<u8>
         ensures { SomeIff result (byte_idx < byte_len (text_of self.now))
             (slice_index (encode_utf8_all (text_of self.now)) byte_idx) }
@@ -24,7 +28,11 @@ impl Rope {
         self.whole().get_byte(byte_idx)
     }
 
-    /// Returns a character. Requires `char_idx < len_chars()`. `O(log n)`.
+    /// Returns the character at `char_idx`. `O(log n)`.
+    ///
+    /// # Requires
+    ///
+    /// `char_idx < len_chars()`.
     pub fn char(&self, char_idx: usize) -> char
         requires { char_idx < length (text_of self.now) }
         ensures { result ≡ slice_index (text_of self.now) char_idx }
@@ -32,7 +40,7 @@ impl Rope {
         self.whole().char(char_idx)
     }
 
-    /// Returns `char`, or `None` from `len_chars()` on. `O(log n)`.
+    /// Returns [`char`](Self::char), or `None` if `char_idx >= len_chars()`. `O(log n)`.
     pub fn get_char(&self, char_idx: usize) -> Option<char>
         ensures { SomeIff result (char_idx < length (text_of self.now))
             (slice_index (text_of self.now) char_idx) }
@@ -40,9 +48,14 @@ impl Rope {
         self.whole().get_char(char_idx)
     }
 
-    /// Returns the chunk that holds a character, and the byte, character and line index at which
-    /// the chunk starts: the last chunk for `len_chars()`, and an empty one at 0, 0, 0 of an empty
-    /// text. Requires `char_idx <= len_chars()`. `O(log n)`.
+    /// Returns the chunk that contains a character, and the byte, character and line index of the
+    /// chunk's start. `O(log n)`.
+    ///
+    /// For `len_chars()` this is the last chunk. For an empty text it is an empty chunk at 0, 0, 0.
+    ///
+    /// # Requires
+    ///
+    /// `char_idx <= len_chars()`.
     pub fn chunk_at_char(&self, char_idx: usize) -> (&str, usize, usize, usize)
         requires { char_idx ≤ length (text_of self.now) }
         ensures chunk { ShowsChunk self.now length char_idx (chars result.0.now) result.1 result.2
@@ -52,7 +65,8 @@ impl Rope {
         self.whole().chunk_at_char(char_idx)
     }
 
-    /// Returns `chunk_at_char`, or `None` past `len_chars()`. `O(log n)`.
+    /// Returns [`chunk_at_char`](Self::chunk_at_char), or `None` if `char_idx > len_chars()`.
+    /// `O(log n)`.
     pub fn get_chunk_at_char(&self, char_idx: usize) -> Option<(&str, usize, usize, usize)>
         ensures none { IsNone result ↔ (length (text_of self.now) < char_idx) }
         ensures chunk { IfSome result (λ shown. ShowsChunk self.now length char_idx
@@ -62,9 +76,15 @@ impl Rope {
         self.whole().get_chunk_at_char(char_idx)
     }
 
-    /// Returns the first chunk by whose end `line_break_idx` line breaks have ended, and the byte,
-    /// character and line index at which the chunk starts: the last chunk for `len_lines()`, and an
-    /// empty one at 0, 0, 0 of an empty text. Requires `line_break_idx <= len_lines()`. `O(log n)`.
+    /// Returns the chunk in which a line break ends, and the byte, character and line index of the
+    /// chunk's start. `O(log n)`.
+    ///
+    /// Line breaks count from 1. For 0 this is the first chunk, for `len_lines()` the last. For an
+    /// empty text it is an empty chunk at 0, 0, 0.
+    ///
+    /// # Requires
+    ///
+    /// `line_break_idx <= len_lines()`.
     pub fn chunk_at_line_break(&self, line_break_idx: usize) -> (&str, usize, usize, usize)
         requires { line_break_idx ≤ line_breaks (text_of self.now) + 1 }
         ensures chunk { ShowsChunkOfBreak self.now line_break_idx (chars result.0.now) result.1
@@ -74,7 +94,8 @@ impl Rope {
         self.whole().chunk_at_line_break(line_break_idx)
     }
 
-    /// Returns `chunk_at_line_break`, or `None` past `len_lines()`. `O(log n)`.
+    /// Returns [`chunk_at_line_break`](Self::chunk_at_line_break), or `None` if
+    /// `line_break_idx > len_lines()`. `O(log n)`.
     pub fn get_chunk_at_line_break(
         &self,
         line_break_idx: usize,

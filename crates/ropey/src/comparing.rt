@@ -1,5 +1,5 @@
-//! Ropes compared with one another and with a `&str`, hashed and shown: each by its text alone,
-//! however that is cut into chunks.
+//! Comparing, hashing and displaying ropes. Each uses the text alone, however it is split into
+//! chunks.
 
 ghost use Rattle.std.specs.Prelude.{◌≡◌, ◌↔◌, nat_eq, refl, IsTrue, Some};
 ghost use Rattle.std.specs.Str.{chars};
@@ -15,8 +15,7 @@ use std::cmp::Ordering;
 use std::fmt;
 use std::hash::{Hash, Hasher};
 
-/// Ropes are equal where their texts are, however they are cut. `O(n)`, and `O(1)` where they have
-/// different lengths.
+/// Ropes are equal if their texts are. `O(n)`, or `O(1)` if their lengths differ.
 impl PartialEq for Rope {
     ghost eq = { on text_bytes (pointwise nat_eq) };
 
@@ -41,7 +40,7 @@ impl PartialOrd for Rope {
     }
 }
 
-/// Ropes stand in the order of their texts' bytes, which is that of the scalar values. `O(n)`.
+/// Compares ropes by the bytes of their texts, which is the order of the scalar values. `O(n)`.
 impl Ord for Rope {
     ghost cmp = { on text_bytes (slice_cmp nat_cmp) };
 
@@ -56,8 +55,8 @@ impl Ord for Rope {
     }
 }
 
-/// A hasher is given what the slice of the whole text gives it: the text in blocks of 256 bytes,
-/// the last one shorter and maybe empty, and then 0xFF. `O(n)`.
+/// Hashes as the slice of the whole text does: the text in blocks of 256 bytes, the last one
+/// shorter and possibly empty, then 0xFF. `O(n)`.
 impl Hash for Rope {
     ghost hash_input = { λ rope. hash_writes (text_bytes rope) };
 
@@ -68,7 +67,7 @@ impl Hash for Rope {
     }
 }
 
-/// The bytes of the text, chunk by chunk. `O(n)`.
+/// Writes the text's bytes, chunk by chunk. `O(n)`.
 impl fmt::Display for Rope {
     ghost output = { λ rope. Some (text_bytes rope) };
 
@@ -78,8 +77,7 @@ impl fmt::Display for Rope {
 }
 
 impl Rope {
-    /// Returns whether the text is that of a `&str`. `O(n)`, and `O(1)` where they have different
-    /// lengths.
+    /// Returns whether the rope's text equals `text`. `O(n)`, or `O(1)` if their lengths differ.
     pub fn eq_str(&self, text: &str) -> bool
         ensures { IsTrue result ↔ (text_of self.now ≡ chars text.now) }
     {

@@ -1,16 +1,14 @@
-//! Edits of a rope: a text is inserted, a range is removed, a text takes the place of a range, the
-//! text is split in two, another one is appended.
+//! Edits of a rope: insert, remove, replace, split and append.
 //!
-//! Indices count characters, but bytes where a name says so. The plain form has its index or its
-//! range inside the text as its condition; the `try_` form refuses it exactly where it isn't. After
-//! any refusal the rope is the very same, its chunks too. A place may lie between a CR and an LF,
-//! and a CR and an LF that come to lie side by side are one break. No edit changes another rope,
-//! also not a clone.
+//! Indices count characters, unless a name says bytes. The plain form of a call requires an index
+//! or a range inside the text; the `try_` form returns an error exactly if it isn't. After an error
+//! the rope is unchanged, its chunks too. An index may be between a CR and an LF, and a CR and an
+//! LF that become adjacent are one line break. No edit changes another rope, not even a clone.
 //!
 //! An edit inside one chunk that leaves the chunk's ends as they are, and the chunk long enough,
-//! copies the path to it, at most 19 nodes. Any other one splits the tree and joins it again, in
-//! `O(log n)`; chunks that meet and fit into one become one, and each but the first and the last
-//! keeps 462 bytes or more.
+//! copies the path to it, at most 19 nodes. Any other edit splits the tree and joins it again, in
+//! `O(log n)`. Chunks that meet and fit into one are merged, and each chunk but the first and the
+//! last keeps at least 462 bytes.
 
 ghost use Rattle.std.specs.Prelude.{◌≡◌, ◌+◌, ◌-◌, ◌^◌, ◌<◌, ◌≤◌, ◌⊎◌, ◌↔◌, [], ◌∷◌, ◌++◌, length, take, drop, Err, OnOk, OnErr, IfOk, IfErr};
 ghost use Rattle.std.specs.Char.{len_utf8};
@@ -30,8 +28,7 @@ use ropey_tree::seams;
 use ropey_walk::ranges::TextRange;
 
 impl Rope {
-    /// Replaces what stands from one byte index up to another, both between two characters, by a
-    /// text.
+    /// Replaces the text between two byte indices, both at character boundaries.
     fn replace_between(&mut self, from: usize, to: usize, text: &str) -> Result<(), Error>
         requires order { from ≤ to }
         requires starts { IsBoundaryOf (text_of self.old) from }
@@ -57,7 +54,7 @@ impl Rope {
         Ok(())
     }
 
-    /// Inserts a text at a byte index between two characters.
+    /// Inserts text at a byte index, which is a character boundary.
     fn insert_at(&mut self, byte_idx: usize, text: &str) -> Result<(), Error>
         requires { IsBoundaryOf (text_of self.old) byte_idx }
         ensures text { OnOk result (IsReplaced (text_of self.old) byte_idx byte_idx (chars text.now)
@@ -70,11 +67,19 @@ impl Rope {
         self.replace_between(byte_idx, byte_idx, text)
     }
 
-    /// Inserts a text before a character, or at the end for `len_chars()`. Requires
-    /// `char_idx <= len_chars()`. `O(log n + m)` for m bytes.
+    /// Inserts text before the character at `char_idx`, or at the end for `len_chars()`.
     ///
-    /// Errors: `Size` where the text would have more than `isize::MAX` bytes, before anything is
-    /// allocated; `Memory`.
+    /// # Requires
+    ///
+    /// `char_idx <= len_chars()`.
+    ///
+    /// # Errors
+    ///
+    /// `Size` if the text would exceed `isize::MAX` bytes, before anything is allocated; `Memory`.
+    ///
+    /// # Complexity
+    ///
+    /// `O(log n + m)` for m inserted bytes.
     pub fn insert(&mut self, char_idx: usize, text: &str) -> Result<(), Error>
         requires { char_idx ≤ length (text_of self.old) }
         ensures text { OnOk result (text_of self.new ≡
@@ -88,8 +93,11 @@ impl Rope {
         self.insert_at(at, text)
     }
 
-    /// `insert` at any index. Errors: `CharIndexOutOfBounds(char_idx, len_chars())` past
-    /// `len_chars()`, before the size is asked; else as `insert`.
+    /// Inserts as [`insert`](Self::insert) does, at an index that may be out of bounds.
+    ///
+    /// # Errors
+    ///
+    /// `CharIndexOutOfBounds(char_idx, len_chars())` if `char_idx > len_chars()`; else as `insert`.
     pub fn try_insert(&mut self, char_idx: usize, text: &str) -> Result<(), Error>
         ensures text { OnOk result (text_of self.new ≡
             with_inserted (text_of self.old) char_idx (chars text.now)) }
@@ -107,7 +115,7 @@ impl Rope {
         self.insert_at(byte_idx, text)
     }
 
-    /// Inserts one character, as `insert` does.
+    /// Inserts one character. Otherwise like [`insert`](Self::insert).
     pub fn insert_char(&mut self, char_idx: usize, character: char) -> Result<(), Error>
         requires { char_idx ≤ length (text_of self.old) }
         ensures text { OnOk result (text_of self.new ≡
@@ -121,7 +129,7 @@ impl Rope {
         self.insert(char_idx, character.encode_utf8(&mut buffer))
     }
 
-    /// Inserts one character, as `try_insert` does.
+    /// Inserts one character. Otherwise like [`try_insert`](Self::try_insert).
     pub fn try_insert_char(&mut self, char_idx: usize, character: char) -> Result<(), Error>
         ensures text { OnOk result (text_of self.new ≡
             with_inserted (text_of self.old) char_idx (character ∷ [])) }
@@ -139,7 +147,8 @@ impl Rope {
         self.try_insert(char_idx, character.encode_utf8(&mut buffer))
     }
 
-    /// The byte indices at which two characters start, or the text's end.
+    /// Returns the byte indices at which two characters start. For `len_chars()` this is the text's
+    /// end.
     fn chars_to_bytes(&self, start: usize, end: usize) -> (usize, usize)
         requires order { start ≤ end }
         requires within { end ≤ length (text_of self.now) }
@@ -153,7 +162,7 @@ impl Rope {
         (from, self.char_to_byte(end))
     }
 
-    /// Replaces the characters from one on, up to another, by a text.
+    /// Replaces the characters from `start` to `end`, exclusive.
     fn replace_chars(&mut self, start: usize, end: usize, text: &str) -> Result<(), Error>
         requires order { start ≤ end }
         requires within { end ≤ length (text_of self.old) }
@@ -168,7 +177,7 @@ impl Rope {
         self.replace_between(from, to, text)
     }
 
-    /// Removes the characters from one on, up to another.
+    /// Removes the characters from `start` to `end`, exclusive.
     fn remove_chars(&mut self, start: usize, end: usize) -> Result<(), Error>
         requires order { start ≤ end }
         requires within { end ≤ length (text_of self.old) }
@@ -177,13 +186,20 @@ impl Rope {
         ensures kept { OnErr result (self.new ≡ self.old) }
         ensures refused { IfErr result (λ error. error ≡ Error.Memory) }
     {
-        // For its facts alone.
+        // Needed by the proof only.
         let _ = self.len_bytes();
         self.replace_chars(start, end, "")
     }
 
-    /// Removes a range of characters. Requires the range to start no later than it ends, and to end
-    /// at or before `len_chars()`. Errors: `Memory`. `O(log n)`.
+    /// Removes a range of characters. `O(log n)`.
+    ///
+    /// # Requires
+    ///
+    /// The range starts no later than it ends, and ends at or before `len_chars()`.
+    ///
+    /// # Errors
+    ///
+    /// `Memory`.
     pub fn remove<R: TextRange>(&mut self, char_range: R) -> Result<(), Error>
         requires { IsRangeIn (length (text_of self.old)) (R.ends char_range) }
         ensures text { OnOk result (text_of self.new ≡ with_removed (text_of self.old)
@@ -197,8 +213,12 @@ impl Rope {
         self.remove_chars(ends.start.unwrap_or(0), end)
     }
 
-    /// `remove` of any range. Errors: `CharRangeInvalid` where it starts above its end, else
-    /// `CharRangeOutOfBounds` where it goes past `len_chars()`; `Memory`.
+    /// Removes any range of characters, as [`remove`](Self::remove) does.
+    ///
+    /// # Errors
+    ///
+    /// `CharRangeInvalid` if the range starts past its end, else `CharRangeOutOfBounds` if it goes
+    /// past `len_chars()`; `Memory`.
     pub fn try_remove<R: TextRange>(&mut self, char_range: R) -> Result<(), Error>
         ensures range { OnOk result (IsRangeIn (length (text_of self.old)) (R.ends char_range)) }
         ensures text { OnOk result (text_of self.new ≡ with_removed (text_of self.old)
@@ -215,12 +235,21 @@ impl Rope {
         self.remove_chars(start, end)
     }
 
-    /// Replaces a range of characters by a text, in one edit: an empty range inserts it, and an
-    /// empty text removes the range. Requires the range to start no later than it ends, and to end
-    /// at or before `len_chars()`. `O(log n + m)` for m bytes of new text.
+    /// Replaces a range of characters by `text`, in one edit.
     ///
-    /// Errors: `Size` where the text would have more than `isize::MAX` bytes, before anything is
-    /// allocated; `Memory`.
+    /// An empty range inserts the text, and an empty text removes the range.
+    ///
+    /// # Requires
+    ///
+    /// The range starts no later than it ends, and ends at or before `len_chars()`.
+    ///
+    /// # Errors
+    ///
+    /// `Size` if the text would exceed `isize::MAX` bytes, before anything is allocated; `Memory`.
+    ///
+    /// # Complexity
+    ///
+    /// `O(log n + m)` for m bytes of new text.
     pub fn replace<R: TextRange>(&mut self, char_range: R, text: &str) -> Result<(), Error>
         requires { IsRangeIn (length (text_of self.old)) (R.ends char_range) }
         ensures text { OnOk result (text_of self.new ≡ with_replaced (text_of self.old)
@@ -237,9 +266,12 @@ impl Rope {
         self.replace_chars(ends.start.unwrap_or(0), end, text)
     }
 
-    /// `replace` of any range. Errors: `CharRangeInvalid` where it starts above its end, else
-    /// `CharRangeOutOfBounds` where it goes past `len_chars()`, before the size is asked; else as
-    /// `replace`.
+    /// Replaces any range of characters, as [`replace`](Self::replace) does.
+    ///
+    /// # Errors
+    ///
+    /// `CharRangeInvalid` if the range starts past its end, else `CharRangeOutOfBounds` if it goes
+    /// past `len_chars()`; else as `replace`.
     pub fn try_replace<R: TextRange>(&mut self, char_range: R, text: &str) -> Result<(), Error>
         ensures range { OnOk result (IsRangeIn (length (text_of self.old)) (R.ends char_range)) }
         ensures text { OnOk result (text_of self.new ≡ with_replaced (text_of self.old)
@@ -260,7 +292,7 @@ impl Rope {
         self.replace_chars(start, end, text)
     }
 
-    /// Replaces the bytes from one on, up to another, both between two characters, by a text.
+    /// Replaces the bytes from `start` to `end`, exclusive, both at character boundaries.
     fn replace_bytes(&mut self, start: usize, end: usize, text: &str) -> Result<(), Error>
         requires order { start ≤ end }
         requires starts { IsCharBoundary (text_bytes self.old) start }
@@ -274,17 +306,22 @@ impl Rope {
             (2 ^ 63 ≤ length (with_replaced (text_bytes self.old) start end text.now)) }
         ensures refused { IfErr result (λ error. (error ≡ Error.Size) ⊎ (error ≡ Error.Memory)) }
     {
-        // For its facts alone.
+        // Needed by the proof only.
         let _ = self.len_bytes();
         self.replace_between(start, end, text)
     }
 
-    /// Replaces a range of bytes by a text, as `replace` does, and converts no index. Requires the
-    /// range to start no later than it ends, to end at or before `len_bytes()`, and to start and
-    /// end at character boundaries.
+    /// Replaces a range of bytes by `text`, as [`replace`](Self::replace) does, without converting
+    /// indices.
     ///
-    /// Errors: `Size` where the text would have more than `isize::MAX` bytes, before anything is
-    /// allocated; `Memory`.
+    /// # Requires
+    ///
+    /// The range starts no later than it ends, ends at or before `len_bytes()`, and starts and ends
+    /// at character boundaries.
+    ///
+    /// # Errors
+    ///
+    /// `Size` if the text would exceed `isize::MAX` bytes, before anything is allocated; `Memory`.
     pub fn byte_replace<R: TextRange>(&mut self, byte_range: R, text: &str) -> Result<(), Error>
         requires { IsByteRangeIn (text_of self.old) (R.ends byte_range) }
         ensures text { OnOk result (IsReplaced (text_of self.old) (start_of (R.ends byte_range))
@@ -304,10 +341,13 @@ impl Rope {
         self.replace_bytes(ends.start.unwrap_or(0), end, text)
     }
 
-    /// `byte_replace` of any range. Errors: `ByteRangeInvalid` where it starts above its end, else
-    /// `ByteRangeOutOfBounds` where it goes past `len_bytes()`, else `ByteRangeNotCharBoundary`
-    /// where it starts or ends inside a character, before the size is asked; else as
-    /// `byte_replace`.
+    /// Replaces any range of bytes, as [`byte_replace`](Self::byte_replace) does.
+    ///
+    /// # Errors
+    ///
+    /// `ByteRangeInvalid` if the range starts past its end, else `ByteRangeOutOfBounds` if it goes
+    /// past `len_bytes()`, else `ByteRangeNotCharBoundary` if it starts or ends inside a character;
+    /// else as `byte_replace`.
     pub fn try_byte_replace<R: TextRange>(&mut self, byte_range: R, text: &str) -> Result<(), Error>
         ensures range { OnOk result (IsByteRangeIn (text_of self.old) (R.ends byte_range)) }
         ensures text { OnOk result (IsReplaced (text_of self.old) (start_of (R.ends byte_range))
@@ -331,7 +371,7 @@ impl Rope {
         self.replace_bytes(start, end, text)
     }
 
-    /// Splits the rope at a byte index between two characters.
+    /// Splits the rope at a byte index, which is a character boundary.
     fn split_off_at(&mut self, byte_idx: usize) -> Result<Rope, Error>
         requires { IsBoundaryOf (text_of self.old) byte_idx }
         ensures text { IfOk result (λ rest. text_of self.new ++ text_of rest ≡ text_of self.old) }
@@ -345,9 +385,19 @@ impl Rope {
         Ok(Rope::of_tree(alloc, halves.right))
     }
 
-    /// Splits the text before a character: the rope keeps what stands before it, and the rest is
-    /// returned, which shares its nodes and is empty for `len_chars()`. Requires
-    /// `char_idx <= len_chars()`. Errors: `Memory`. `O(log n)`.
+    /// Splits the rope before the character at `char_idx`, and returns the part from there on.
+    /// `O(log n)`.
+    ///
+    /// The rope keeps the text before it. The returned rope shares nodes with this one, and is
+    /// empty for `len_chars()`.
+    ///
+    /// # Requires
+    ///
+    /// `char_idx <= len_chars()`.
+    ///
+    /// # Errors
+    ///
+    /// `Memory`.
     pub fn split_off(&mut self, char_idx: usize) -> Result<Rope, Error>
         requires { char_idx ≤ length (text_of self.old) }
         ensures front { OnOk result (text_of self.new ≡ take char_idx (text_of self.old)) }
@@ -359,8 +409,11 @@ impl Rope {
         self.split_off_at(byte_idx)
     }
 
-    /// `split_off` at any index. Errors: `CharIndexOutOfBounds(char_idx, len_chars())` past
-    /// `len_chars()`; `Memory`.
+    /// Splits as [`split_off`](Self::split_off) does, at an index that may be out of bounds.
+    ///
+    /// # Errors
+    ///
+    /// `CharIndexOutOfBounds(char_idx, len_chars())` if `char_idx > len_chars()`; `Memory`.
     pub fn try_split_off(&mut self, char_idx: usize) -> Result<Rope, Error>
         ensures front { OnOk result (text_of self.new ≡ take char_idx (text_of self.old)) }
         ensures back { IfOk result (λ rest. text_of rest ≡ drop char_idx (text_of self.old)) }
@@ -376,11 +429,14 @@ impl Rope {
         self.split_off_at(byte_idx)
     }
 
-    /// Appends the text of another rope, whose nodes it shares. A CR and an LF that meet are in one
-    /// chunk then. `O(log n)`.
+    /// Appends the text of another rope, and shares its nodes. `O(log n)`.
     ///
-    /// Errors: `Size` where the text would have more than `isize::MAX` bytes, before anything is
-    /// allocated; `Memory`. Both drop the other rope.
+    /// A CR and an LF that meet are then in one chunk.
+    ///
+    /// # Errors
+    ///
+    /// `Size` if the text would exceed `isize::MAX` bytes, before anything is allocated; `Memory`.
+    /// Both drop `other`.
     pub fn append(&mut self, other: Rope) -> Result<(), Error>
         ensures text { OnOk result (text_of self.new ≡ text_of self.old ++ text_of other) }
         ensures kept { OnErr result (self.new ≡ self.old) }

@@ -1,4 +1,4 @@
-//! Texts that are edited, in a balanced tree of shared nodes, as the Rust crate `ropey` has them.
+//! A text that can be edited, in a balanced tree of shared nodes, like the Rust crate `ropey`.
 #![tactic(auto)]
 
 mod chunks;

@@ -1,24 +1,23 @@
-//! Why no rope was made of what a reader gives.
+//! The errors of reading a rope from a reader.
 
 use thiserror::Error;
 
-/// Why no rope was made of what a reader gives: the first of these that was met. What was read is
-/// lost.
+/// Why no rope was read: the first fault that was met. The bytes read so far are lost.
 #[derive(Clone, Copy, Debug, PartialEq, Eq, Error)]
 pub enum ReadFault {
-    /// A read failed, also where it was interrupted.
+    /// A read failed. `Interrupted` counts as a failure.
     #[error("a read failed")]
     Read,
-    /// No text begins with the bytes that came, or they ended inside a character.
+    /// The bytes so far begin no valid UTF-8, or the end came inside a character.
     #[error("the bytes are not UTF-8")]
     Utf8,
-    /// Memory was refused.
+    /// Out of memory.
     #[error("out of memory")]
     Memory,
-    /// The text would have more than `isize::MAX` bytes.
+    /// The text would exceed `isize::MAX` bytes.
     #[error("the text would be longer than isize::MAX bytes")]
     Size,
-    /// `2^62` reads didn't come to the end.
+    /// `2^62` reads didn't reach the end.
     #[error("the end didn't come in 2^62 reads")]
     Turns,
 }

@@ -1,4 +1,4 @@
-//! The fixed array that a reader is read through.
+//! The fixed buffer through which a reader is read.
 
 ghost use Rattle.std.specs.Prelude.{◌≡◌, ℕ, List, ◌<◌, ◌≤◌, ◌++◌, ◌==◌, [], length, take, Ok, Err, IfOk, OnOk, OnErr, IfErr, MatchBool};
 ghost use Rattle.std.specs.Prelude.{Option, encode_utf8_all};
@@ -13,13 +13,14 @@ use simdutf8::compat::from_utf8;
 use std::io::Read;
 use std::marker::Model;
 
-/// How many bytes are read at once, less those of a character that is cut.
+/// The size of the buffer in bytes. Bytes of a split character, kept from the last read, take part
+/// of it.
 const READ_LEN: usize = 4096;
 
-/// The most bytes of a character that is cut.
+/// The most bytes of a split character.
 const MOST_CUT: usize = 3;
 
-/// The bytes that were read and are no text yet. Contracts see them as a list.
+/// Bytes that were read but not yet added to the text. Contracts see them as a list.
 #[derive(Drop)]
 pub(crate) struct ReadWindow {
     bytes: [u8; READ_LEN],
@@ -37,7 +38,7 @@ impl Model for ReadWindow {
 }
 
 impl ReadWindow {
-    /// No byte yet.
+    /// Returns an empty window.
     pub(crate) fn new() -> Self
         ensures { result ≡ [] }
     {
@@ -47,14 +48,14 @@ impl ReadWindow {
         }
     }
 
-    /// Whether no byte is here.
+    /// Returns whether there are no bytes.
     pub(crate) fn is_empty(&self) -> bool
         ensures { result ≡ (length self.now == 0) }
     {
         self.len == 0
     }
 
-    /// Reads once, behind the bytes that are here, and answers whether some came: none is the end.
+    /// Reads once, appends the bytes, and returns whether there were any: none means the end.
     pub(crate) fn read<R: Read>(&mut self, reader: &mut R) -> Result<bool, ReadFault>
         requires { length self.old < 4 }
         ensures ok { IfOk result (λ some. MatchBool some
@@ -73,7 +74,8 @@ impl ReadWindow {
         }
     }
 
-    /// Appends the text that is here to a builder. What stays is a part of a character, or nothing.
+    /// Appends the longest valid text to the builder. What remains is empty or a part of a
+    /// character.
     pub(crate) fn give_text(&mut self, builder: &mut RopeBuilder) -> Result<(), ReadFault>
         requires { IsUtf8 (encode_utf8_all builder.old) }
         ensures text { OnOk result ((text : List ℕ) × IsCutAt self.old text self.new ×
@@ -88,7 +90,7 @@ impl ReadWindow {
             Err(Error::Size) => return Err(ReadFault::Size),
             Err(_) => return Err(ReadFault::Memory),
         }
-        // The part may lie over its new place.
+        // The old and the new range of the part may overlap.
         let part_len = self.len - end;
         let mut part = [0; MOST_CUT];
         part[..part_len].copy_from_slice(&self.bytes[end..self.len]);
@@ -98,8 +100,8 @@ impl ReadWindow {
     }
 }
 
-/// The longest text at the front of these bytes, where some text begins with them: behind it a
-/// character is cut.
+/// Returns the longest valid text at the front of bytes that some text begins with. What follows it
+/// is a part of a character.
 fn longest_text(bytes: &[u8]) -> Result<&str, ReadFault>
     ensures text { IfOk result (λ text. (rest : List ℕ) × IsCutAt bytes.now text.now rest) }
     ensures refused { IfErr result (λ fault. fault ≡ ReadFault.Utf8) }
@@ -111,7 +113,7 @@ fn longest_text(bytes: &[u8]) -> Result<&str, ReadFault>
             if error.error_len().is_some() {
                 return Err(ReadFault::Utf8);
             }
-            // It was just seen to be a text.
+            // SAFETY: `from_utf8` has found this prefix valid.
             Ok(unsafe { str::from_utf8_unchecked(&bytes[..error.valid_up_to()]) })
         }
     }

@@ -12,17 +12,23 @@ use crate::rope_builder::RopeBuilder;
 use std::alloc::Global;
 use std::io::Read;
 
-/// How often a reader is read before its end is given up.
+/// The number of reads after which reading is given up.
 const MOST_READS: u64 = 1 << 62;
 
 impl Rope {
-    /// Returns a rope of all bytes that a reader gives up to its end. They are read through an
-    /// array of 4,096 bytes, and a read may end inside a character. `O(n)`.
+    /// Returns a rope of all bytes of a reader, up to its end. `O(n)`.
     ///
-    /// Errors: the first of these that is met, and what was read is dropped: `Read` where a read
-    /// failed, also where it was interrupted; `Utf8` where no text begins with the bytes so far, or
-    /// they end inside a character; `Size` for more than `isize::MAX` bytes; `Memory`; `Turns`
-    /// where `2^62` reads didn't reach the end.
+    /// Reads into a buffer of 4,096 bytes. A read may end inside a character.
+    ///
+    /// # Errors
+    ///
+    /// The first of these that is met. The bytes read so far are lost.
+    ///
+    /// - `Read` if a read fails, also with `Interrupted`
+    /// - `Utf8` if the bytes so far begin no valid UTF-8, or the end comes inside a character
+    /// - `Size` for more than `isize::MAX` bytes
+    /// - `Memory`
+    /// - `Turns` if `2^62` reads don't reach the end
     pub fn from_reader<R: Read>(alloc: Global, reader: &mut R) -> Result<Self, ReadFault>
         ensures text { IfOk result (λ rope. GivesToEnd (R.remaining reader.old)
             (R.remaining reader.new) (text_bytes rope)) }

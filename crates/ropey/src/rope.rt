@@ -1,4 +1,4 @@
-//! A text in a balanced tree of shared nodes.
+//! The rope.
 
 ghost use Rattle.std.specs.Prelude.{◌≡◌, ℕ, List, ◌+◌, ◌-◌, ◌*◌, ◌^◌, ◌<◌, ◌≤◌, ◌⊎◌, ◌↔◌, min, [], length, Err, OnOk, OnErr, IfOk, IfErr, IfSome, IsNone, encode_utf8_all, string_bytes};
 ghost use Rattle.std.specs.Str.{chars, IsUtf8};
@@ -27,18 +27,38 @@ use std::rc::Rc;
 /// The most bytes of a text: `isize::MAX`.
 pub(crate) const MAX_TEXT_BYTES: usize = 0x7FFF_FFFF_FFFF_FFFF;
 
-/// A text in a balanced tree of shared nodes. Contracts see the pieces into which it is cut, its
-/// chunks.
+/// A text that can be edited, in a balanced tree of shared nodes. Contracts see its chunks.
 ///
-/// It keeps its allocator, and what it takes later it takes there. A clone shares all of its
-/// source, and neither changes the other; it takes no memory that grows with the text, and costs
-/// `O(1)`.
+/// A rope keeps its allocator and uses it for later allocations. Cloning takes `O(1)` time and
+/// memory: a clone shares all nodes, and neither rope changes the other.
+///
+/// # Examples
+///
+/// ```rust
+/// let rope = Rope::from_str(rt.alloc(), "one\r\ntwo🐸")?;
+/// assert_eq!(rt; rope.len_bytes(), 12);
+/// assert_eq!(rt; rope.len_chars(), 9);
+/// assert_eq!(rt; rope.len_utf16_cu(), 10);
+/// assert_eq!(rt; rope.len_lines(), 2);
+/// assert!(rt; rope.try_line_to_byte(1) == Ok(5));
+/// assert!(rt; rope.try_char_to_byte(9) == Ok(12));
+/// ```
+///
+/// ```rust
+/// let mut rope = Rope::from_str(rt.alloc(), "ab\r\ncd")?;
+/// rope.try_insert(3, "x")?;
+/// assert!(rt; rope.eq_str("ab\rx\ncd"));
+/// rope.try_remove(3..4)?;
+/// assert!(rt; rope.eq_str("ab\r\ncd"));
+/// rope.try_replace(2..4, "é")?;
+/// assert!(rt; rope.eq_str("abécd"));
+/// ```
 #[derive(Drop)]
 pub struct Rope {
     pub(crate) alloc: Global,
-    // A text with no character has no tree.
+    // An empty text has no tree.
     pub(crate) root: Option<Rc<Node>>,
-    // What the text counts.
+    // The counts of the text.
     counts: Counts,
 }
 
@@ -84,9 +104,11 @@ impl Rope {
         }
     }
 
-    /// Returns a rope of a text, which it copies. `O(n)`.
+    /// Returns a rope with a copy of `text`. `O(n)`.
     ///
-    /// Errors: `Size` for more than `isize::MAX` bytes, before anything is allocated; `Memory`.
+    /// # Errors
+    ///
+    /// `Size` for more than `isize::MAX` bytes, before anything is allocated; `Memory`.
     pub fn from_str(alloc: Global, text: &str) -> Result<Self, Error>
         ensures text { IfOk result (λ rope. text_of rope ≡ chars text.now) }
         ensures full { IfOk result (λ rope. AreFull rope) }
@@ -101,11 +123,16 @@ impl Rope {
         Ok(rope)
     }
 
-    /// Returns a rope of the texts that an iterator yields, joined. Requires an iterator that ends.
-    /// `O(n)`.
+    /// Returns a rope of the strings that an iterator yields, joined. `O(n)`.
     ///
-    /// Errors: `Size` once what has come is more than `isize::MAX` bytes; `Memory`. How far the
-    /// iterator has gone then isn't specified.
+    /// # Requires
+    ///
+    /// The iterator ends.
+    ///
+    /// # Errors
+    ///
+    /// `Size` once the strings have more than `isize::MAX` bytes together; `Memory`. How far the
+    /// iterator has then advanced isn't specified.
     pub fn from_chunks<'a, I: IntoIterator<Item = &'a str>>(
         alloc: Global,
         chunks: I,
@@ -127,7 +154,7 @@ impl Rope {
         Ok(rope)
     }
 
-    /// A rope over leaves.
+    /// Returns a rope with these leaves.
     pub(crate) fn from_leaves(alloc: Global, leaves: Vec<Rc<Node>>) -> Result<Self, AllocError>
         requires leaves { AreNodes 0 12 (views leaves.items) }
         requires text { IsRopeText (all_pieces (views leaves.items)) }
@@ -140,14 +167,14 @@ impl Rope {
         Ok(Rope::of_tree(alloc, Some(root)))
     }
 
-    /// A rope over a tree, or over none.
+    /// Returns a rope with this tree, or an empty one.
     pub(crate) fn of_tree(alloc: Global, root: Option<Rc<Node>>) -> Self
         ensures { result ≡ pieces_in root }
     {
         match root {
             None => Rope::new(alloc),
             Some(tree) => {
-                // For its facts alone.
+                // Needed by the proof only.
                 let _ = tree.height();
                 let counts = tree.counts();
                 Rope {
@@ -159,7 +186,7 @@ impl Rope {
         }
     }
 
-    /// The slice of the whole text.
+    /// Returns the slice of the whole text.
     pub(crate) fn whole(&self) -> RopeSlice<'_>
         ensures pieces { slice_pieces result ≡ self.now }
         ensures cut { IsRopeText self.now }
@@ -173,7 +200,7 @@ impl Rope {
         }
     }
 
-    /// Returns the length in bytes of UTF-8. `O(1)`.
+    /// Returns the number of bytes of UTF-8. `O(1)`.
     pub fn len_bytes(&self) -> usize
         ensures bytes { result ≡ byte_len (text_of self.now) }
         ensures fits { result < 2 ^ 63 }
@@ -182,7 +209,7 @@ impl Rope {
         self.whole().len_bytes()
     }
 
-    /// Returns the number of characters, Unicode scalar values. `O(1)`.
+    /// Returns the number of characters, which are Unicode scalar values. `O(1)`.
     pub fn len_chars(&self) -> usize
         ensures { result ≡ length (text_of self.now) }
     {
@@ -196,16 +223,21 @@ impl Rope {
         self.whole().len_utf16_cu()
     }
 
-    /// Returns the number of lines: line breaks plus one, CR LF being one break. `O(1)`.
+    /// Returns the number of lines: the line breaks plus one. CR LF is one break. `O(1)`.
     pub fn len_lines(&self) -> usize
         ensures { result ≡ line_breaks (text_of self.now) + 1 }
     {
         self.whole().len_lines()
     }
 
-    /// Returns the chunk that holds a byte, and the byte, character and line index at which the
-    /// chunk starts: the last chunk for `len_bytes()`, and an empty one at 0, 0, 0 of an empty
-    /// text. Requires `byte_idx <= len_bytes()`. `O(log n)`.
+    /// Returns the chunk that contains a byte, and the byte, character and line index of the
+    /// chunk's start. `O(log n)`.
+    ///
+    /// For `len_bytes()` this is the last chunk. For an empty text it is an empty chunk at 0, 0, 0.
+    ///
+    /// # Requires
+    ///
+    /// `byte_idx <= len_bytes()`.
     pub fn chunk_at_byte(&self, byte_idx: usize) -> (&str, usize, usize, usize)
         requires { byte_idx ≤ byte_len (text_of self.now) }
         ensures chunk { ShowsChunk self.now byte_len byte_idx (chars result.0.now) result.1 result.2
@@ -216,7 +248,8 @@ impl Rope {
         self.whole().chunk_at_byte(byte_idx)
     }
 
-    /// Returns `chunk_at_byte`, or `None` past `len_bytes()`. `O(log n)`.
+    /// Returns [`chunk_at_byte`](Self::chunk_at_byte), or `None` if `byte_idx > len_bytes()`.
+    /// `O(log n)`.
     pub fn get_chunk_at_byte(&self, byte_idx: usize) -> Option<(&str, usize, usize, usize)>
         ensures none { IsNone result ↔ (byte_len (text_of self.now) < byte_idx) }
         ensures chunk { IfSome result (λ shown. ShowsChunk self.now byte_len byte_idx
@@ -230,7 +263,11 @@ impl Rope {
         }
     }
 
-    /// Returns a copy of the whole text. Errors: `Memory`. `O(n)`.
+    /// Returns a copy of the whole text. `O(n)`.
+    ///
+    /// # Errors
+    ///
+    /// `Memory`.
     pub fn to_text(&self) -> Result<String, Error>
         ensures text { IfOk result (λ text. string_bytes text ≡
             encode_utf8_all (text_of self.now)) }
@@ -239,8 +276,12 @@ impl Rope {
         self.whole().to_text(self.alloc)
     }
 
-    /// Cuts the text anew into as few chunks as `from_str` does, of 980 bytes or more but for the
-    /// last. Errors: `Memory`, which leaves the rope as it was. `O(n)`.
+    /// Rebuilds the rope with as few chunks as `from_str` makes: all but the last have at least 980
+    /// bytes. `O(n)`.
+    ///
+    /// # Errors
+    ///
+    /// `Memory`, which leaves the rope unchanged.
     pub fn shrink_to_fit(&mut self) -> Result<(), Error>
         ensures text { text_of self.new ≡ text_of self.old }
         ensures full { OnOk result (AreFull self.new) }
@@ -252,8 +293,10 @@ impl Rope {
         Ok(())
     }
 
-    /// Returns how many bytes all chunks may have, `MAX_BYTES` each, and `usize::MAX` where it would
-    /// be more. A chunk takes no more memory than it has bytes. Goes over the chunks, in `O(n)`.
+    /// Returns the number of bytes that the chunks could hold, `MAX_BYTES` each, capped at
+    /// `usize::MAX`. `O(n)`.
+    ///
+    /// A chunk takes no more memory than it has bytes.
     pub fn capacity(&self) -> usize
         ensures { result ≡ min (984 * length self.now) (2 ^ 64 - 1) }
     {

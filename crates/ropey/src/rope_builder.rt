@@ -14,12 +14,23 @@ use std::alloc::{AllocError, Global};
 use std::marker::Model;
 use std::mem;
 
-/// A rope that is built of a text that comes in parts. The text lies in leaves but for its last
-/// part that fills none. Contracts see the text so far. It keeps its allocator.
+/// Builds a rope from a text that comes in parts. Contracts see the text so far.
+///
+/// The builder keeps its allocator. The text is already in leaves, except for a last part that
+/// fills none.
+///
+/// # Examples
+///
+/// ```rust
+/// let mut builder = RopeBuilder::new(alloc);
+/// builder.append("one\r")?;
+/// builder.append("\ntwo")?;
+/// builder.finish()
+/// ```
 #[derive(Drop)]
 pub struct RopeBuilder {
     text: Cutter,
-    // How many bytes the text has.
+    // The length of the text in bytes.
     len: usize,
 }
 
@@ -46,7 +57,7 @@ fn append_chunks(text: &mut Marked, slice: RopeSlice<'_>) -> Result<(), AllocErr
 }
 
 impl RopeBuilder {
-    /// Returns a builder with no text. Allocates nothing.
+    /// Returns an empty builder. Allocates nothing.
     pub fn new(alloc: Global) -> Self
         ensures { result ≡ [] }
     {
@@ -56,10 +67,12 @@ impl RopeBuilder {
         }
     }
 
-    /// Appends a text. `O(m)` for m bytes.
+    /// Appends text. `O(m)` for m bytes.
     ///
-    /// Errors, which leave the builder as it was: `Size` where there would be more than
-    /// `isize::MAX` bytes, before anything is allocated; `Memory`.
+    /// # Errors
+    ///
+    /// `Size` if the text would exceed `isize::MAX` bytes, before anything is allocated; `Memory`.
+    /// Both leave the builder unchanged.
     pub fn append(&mut self, text: &str) -> Result<(), Error>
         ensures text { OnOk result (self.new ≡ self.old ++ chars text.now) }
         ensures kept { OnErr result (self.new ≡ self.old) }
@@ -76,8 +89,10 @@ impl RopeBuilder {
 
     /// Appends the text of a slice, chunk by chunk. `O(m)` for m bytes.
     ///
-    /// Errors, which leave the builder as it was: `Size` where there would be more than
-    /// `isize::MAX` bytes, before anything is allocated; `Memory`.
+    /// # Errors
+    ///
+    /// `Size` if the text would exceed `isize::MAX` bytes, before anything is allocated; `Memory`.
+    /// Both leave the builder unchanged.
     pub fn append_slice(&mut self, slice: RopeSlice<'_>) -> Result<(), Error>
         ensures text { OnOk result (self.new ≡ self.old ++ slice_text slice.entry) }
         ensures kept { OnErr result (self.new ≡ self.old) }
@@ -104,7 +119,7 @@ impl RopeBuilder {
         }
     }
 
-    /// Returns the length in bytes of the text so far. `O(1)`.
+    /// Returns the number of bytes so far. `O(1)`.
     pub fn len_bytes(&self) -> usize
         ensures bytes { result ≡ byte_len self.now }
         ensures fits { result < 2 ^ 63 }
@@ -112,7 +127,7 @@ impl RopeBuilder {
         self.len
     }
 
-    /// `append`, for callers that see a part's characters alone.
+    /// Appends like `append`. Its contract names the part's characters only.
     pub(crate) fn append_part(&mut self, part: &str) -> Result<(), Error>
         ensures text { OnOk result (self.new ≡ self.old ++ chars part.now) }
         ensures size { (result ≡ Err Error.Size) → 2 ^ 63 ≤ byte_len (self.old ++ chars part.now) }
@@ -121,8 +136,11 @@ impl RopeBuilder {
         self.append(part)
     }
 
-    /// Returns the rope of the text, which isn't copied again. Errors: `Memory`, which drops the
-    /// text. `O(n)`.
+    /// Returns the rope of the text, without copying it again. `O(n)`.
+    ///
+    /// # Errors
+    ///
+    /// `Memory`, which drops the text.
     pub fn finish(self) -> Result<Rope, Error>
         ensures text { IfOk result (λ rope. text_of rope ≡ self) }
         ensures full { IfOk result (λ rope. AreFull rope) }

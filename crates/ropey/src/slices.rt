@@ -1,8 +1,8 @@
-//! Parts of a rope: its lines, and ranges of its characters and of its bytes; and ropes of parts.
+//! Parts of a rope: its lines, and ranges of its characters or bytes; and ropes made from parts.
 //!
-//! A part is a [`RopeSlice`], which borrows the rope and takes no memory. The plain form requires
-//! the line or the range to be inside the text. The `get_` form returns `None` exactly if it isn't,
-//! and the `try_` form says why.
+//! A part is a [`RopeSlice`], which borrows the rope and allocates nothing. The plain form of a
+//! call requires a line or a range inside the text. The `get_` form returns `None` exactly if it
+//! isn't, and the `try_` form says why.
 
 ghost use Rattle.std.specs.Prelude.{◌≡◌, ◌+◌, ◌<◌, ◌≤◌, ◌↔◌, length};
 ghost use Rattle.std.specs.Prelude.{IfSome, IsSome, IsNone, IfOk, IfErr, IsOk};
@@ -24,7 +24,7 @@ use ropey_walk::slice::RopeSlice;
 use std::alloc::Global;
 
 impl Rope {
-    /// Returns a rope of the text of a slice, which it copies: no node is shared. `O(n)`.
+    /// Returns a rope with a copy of a slice's text. No node is shared. `O(n)`.
     ///
     /// # Errors
     ///
@@ -34,7 +34,7 @@ impl Rope {
         ensures full { IfOk result (λ rope. AreFull rope) }
         ensures refused { IfErr result (λ error. error ≡ Error.Memory) }
     {
-        // For its facts alone.
+        // Needed by the proof only.
         let _ = slice.len_bytes();
         let mut builder = RopeBuilder::new(alloc);
         builder.append_slice(slice)?;
@@ -42,7 +42,7 @@ impl Rope {
         Ok(rope)
     }
 
-    /// Returns a line with the break that ends it. `O(log n)`.
+    /// Returns the line at `line_idx`, with the break that ends it. `O(log n)`.
     ///
     /// # Requires
     ///
@@ -54,7 +54,7 @@ impl Rope {
         self.whole().line(line_idx)
     }
 
-    /// Returns [`line`](Self::line), or `None` from `len_lines()` on. `O(log n)`.
+    /// Returns [`line`](Self::line), or `None` if `line_idx >= len_lines()`. `O(log n)`.
     pub fn get_line(&self, line_idx: usize) -> Option<RopeSlice<'_>>
         ensures none { IsNone result ↔ (line_breaks (text_of self.now) + 1 ≤ line_idx) }
         ensures line { IfSome result (λ line. slice_pieces line ≡ line_pieces self.now line_idx) }

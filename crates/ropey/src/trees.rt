@@ -1,5 +1,5 @@
-//! Edits of a rope's tree, by byte indices between two characters. No tree is changed: each edit
-//! answers a new one, and what both hold they share.
+//! Edits of a rope's tree, by byte indices at character boundaries. No tree is changed: each edit
+//! returns a new one, which shares nodes with the old.
 
 ghost use Rattle.std.specs.Prelude.{◌≡◌, ◌+◌, ◌-◌, ◌^◌, ◌<◌, ◌≤◌, [], ◌++◌, length, IfOk, IfSome};
 ghost use Rattle.std.specs.Str.{chars};
@@ -22,7 +22,7 @@ use ropey_tree::visits::Visits;
 use std::alloc::{AllocError, Global};
 use std::rc::Rc;
 
-/// The tree of a text.
+/// Returns the tree of a text.
 fn tree_of(alloc: Global, text: &str) -> Result<Option<Rc<Node>>, AllocError>
     requires fits { length text.now < 2 ^ 63 }
     ensures { IfOk result (λ tree. text_of (pieces_in tree) ≡ chars text.now) }
@@ -32,8 +32,8 @@ fn tree_of(alloc: Global, text: &str) -> Result<Option<Rc<Node>>, AllocError>
     Ok(rope.root)
 }
 
-/// The tree of a text with another one behind it. A text that fits into the last leaf, or into two
-/// in its place, costs the path to that, and an empty one nothing.
+/// Returns the tree with text appended. If the last leaf takes the text, or is split into two
+/// leaves that do, this copies the path to it. Empty text costs nothing.
 fn extended(
     alloc: Global,
     tree: Option<Rc<Node>>,
@@ -66,17 +66,17 @@ fn extended(
     Ok(longer)
 }
 
-/// How many bytes a leaf is to keep where so many give way to so many others: only one of which
-/// less is left than was there may come out too short.
+/// Returns the fewest bytes that an edited leaf may have. Only an edit that shrinks the leaf can
+/// make it too short.
 fn least_kept(gone: usize, come: usize) -> usize
     ensures { 1 ≤ result }
 {
     if come >= gone { 1 } else { MIN_BYTES }
 }
 
-/// The tree, of `len` bytes, with a text in the place of what stands from one byte index up to
-/// another, if both lie in one leaf that takes it and stays long enough: the path to that is
-/// copied.
+/// Returns the tree, of `len` bytes, with the text from one byte index to another replaced. `None`
+/// unless both are in one leaf that takes the new text and stays long enough. Copies the path to
+/// that leaf.
 fn replaced_in_leaf(
     alloc: Global,
     node: &Rc<Node>,
@@ -90,9 +90,9 @@ fn replaced_in_leaf(
     ensures edited { IfOk result (λ tree. IfSome tree (λ edited.
         IsEdited node.now.value from to (chars text.now) edited.value)) }
 {
-    // For its facts alone.
+    // Needed by the proof only.
     let _ = node.height();
-    // What goes isn't counted against what comes.
+    // A sufficient test: the bytes removed aren't counted.
     if text.len() > MAX_TEXT_BYTES - len {
         return Ok(None);
     }
@@ -109,7 +109,7 @@ fn replaced_in_leaf(
     Ok(tree)
 }
 
-/// The trees before one byte index and behind another.
+/// Returns the trees before one byte index and after another.
 fn around(alloc: Global, node: &Rc<Node>, from: usize, to: usize) -> Result<Halves, AllocError>
     requires order { from ≤ to }
     requires starts { IsBoundaryOf (text_of node.now.value.pieces) from }
@@ -127,10 +127,11 @@ fn around(alloc: Global, node: &Rc<Node>, from: usize, to: usize) -> Result<Halv
     Ok(Halves { left, right })
 }
 
-/// The tree, of `len` bytes, with a text in the place of what stands from one byte index up to
-/// another. Where both lie in one leaf that takes it, or two in its place, the path to that is
-/// copied; else the tree is split at both, and what is left of the first, the text, and what is
-/// right of the second are joined.
+/// Returns the tree, of `len` bytes, with the text from one byte index to another replaced.
+///
+/// If both are in one leaf that takes the new text, possibly as two leaves, this copies the path to
+/// it. Otherwise it splits the tree at both indices and joins the left part, the new text and the
+/// right part.
 pub(crate) fn replaced(
     alloc: Global,
     root: &Option<Rc<Node>>,
@@ -165,7 +166,7 @@ pub(crate) fn replaced(
     }
 }
 
-/// The trees before and after a byte index.
+/// Returns the trees before and after a byte index.
 pub(crate) fn halves_of(
     alloc: Global,
     root: &Option<Rc<Node>>,

@@ -9,7 +9,7 @@ use crate::rope::Rope;
 use std::io;
 use std::io::{ErrorKind, Write};
 
-/// Writes all of these bytes. After an error the writer took a front of them.
+/// Writes all bytes. After an error the writer has taken a prefix of them.
 fn write_bytes<W: Write>(writer: &mut W, bytes: &[u8]) -> io::Result<()>
     ensures ok { OnOk result
         (Appends (W.contents writer.old) (W.contents writer.new) bytes.now) }
@@ -27,11 +27,13 @@ fn write_bytes<W: Write>(writer: &mut W, bytes: &[u8]) -> io::Result<()>
 }
 
 impl Rope {
-    /// Writes the text's bytes to a writer, chunk by chunk, in as many writes as it takes. Doesn't
+    /// Writes the text's bytes to a writer, chunk by chunk, in as many writes as needed. Doesn't
     /// flush. `O(n)`.
     ///
-    /// Errors: the writer's first, also `Interrupted`, and `WriteZero` where it takes none of some
-    /// bytes. Nothing is written after an error; the writer has taken a front of the text's bytes,
+    /// # Errors
+    ///
+    /// The writer's first error, also `Interrupted`; `WriteZero` if it takes none of some bytes.
+    /// Nothing is written after an error. The writer has then taken a prefix of the text's bytes,
     /// which may end inside a character.
     pub fn write_to<W: Write>(&self, writer: &mut W) -> io::Result<()>
         ensures ok { OnOk result (Appends (W.contents writer.old) (W.contents writer.new)

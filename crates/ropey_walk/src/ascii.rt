@@ -1,5 +1,5 @@
-//! Conversions inside a chunk. Where each of its characters is known to be one byte, an index of a
-//! character or of a code unit is that of a byte, and nothing of the chunk is read.
+//! Conversions inside a chunk. If each of its characters is known to be one byte, character and
+//! code unit indices are byte indices, and the chunk is not read.
 
 ghost use Rattle.std.specs.Prelude.{◌≡◌, ◌≤◌, length, slice_index_or, true};
 ghost use Rattle.std.specs.Str.{chars};
@@ -10,7 +10,7 @@ use ropey_tree::breaks;
 use ropey_tree::counts::Counts;
 use str_indices::{chars, utf16};
 
-/// Where a character starts, or the text's end past the last.
+/// Returns the byte index of the start of a character, or the text's end past the last one.
 #[inline]
 pub(crate) fn byte_of_char(text: &str, is_ascii: bool, char_idx: usize) -> usize
     requires { is_ascii ≡ true → length (chars text.now) ≡ length text.now }
@@ -23,7 +23,8 @@ pub(crate) fn byte_of_char(text: &str, is_ascii: bool, char_idx: usize) -> usize
     }
 }
 
-/// Where the character starts that holds a code unit, or the text's end past the last.
+/// Returns the byte index of the start of the character that contains a code unit, or the text's
+/// end past the last one.
 #[inline]
 pub(crate) fn byte_of_unit(text: &str, is_ascii: bool, utf16_cu_idx: usize) -> usize
     requires { is_ascii ≡ true → length (chars text.now) ≡ length text.now }
@@ -37,7 +38,7 @@ pub(crate) fn byte_of_unit(text: &str, is_ascii: bool, utf16_cu_idx: usize) -> u
     }
 }
 
-/// How many characters end at or before a byte index.
+/// Returns the number of characters that end at or before a byte index.
 #[inline]
 pub(crate) fn char_of_byte(text: &str, is_ascii: bool, byte_idx: usize) -> usize
     requires one_byte { is_ascii ≡ true → length (chars text.now) ≡ length text.now }
@@ -51,7 +52,7 @@ pub(crate) fn char_of_byte(text: &str, is_ascii: bool, byte_idx: usize) -> usize
     }
 }
 
-/// How many code units the characters take that end at or before a byte index.
+/// Returns the number of code units of the characters that end at or before a byte index.
 #[inline]
 pub(crate) fn unit_of_byte(text: &str, is_ascii: bool, byte_idx: usize) -> usize
     requires one_byte { is_ascii ≡ true → length (chars text.now) ≡ length text.now }
@@ -65,7 +66,7 @@ pub(crate) fn unit_of_byte(text: &str, is_ascii: bool, byte_idx: usize) -> usize
     }
 }
 
-/// What a text counts in characters and in code units.
+/// Returns the number of characters and of code units.
 #[inline]
 pub(crate) fn chars_and_units(text: &str, is_ascii: bool) -> (usize, usize)
     requires { is_ascii ≡ true → length (chars text.now) ≡ length text.now }
@@ -79,7 +80,7 @@ pub(crate) fn chars_and_units(text: &str, is_ascii: bool) -> (usize, usize)
     }
 }
 
-/// What a text counts.
+/// Returns the counts of a text.
 pub(crate) fn counts(text: &str, is_ascii: bool) -> Counts
     requires { is_ascii ≡ true → length (chars text.now) ≡ length text.now }
     ensures { result ≡ counts_of (chars text.now) }

@@ -1,4 +1,4 @@
-//! Bytes, characters and chunks by index.
+//! Access to bytes, characters and chunks by index.
 
 ghost use Rattle.std.specs.Prelude.{◌≡◌, ◌+◌, ◌-◌, ◌<◌, ◌≤◌, ◌↔◌, length, slice_index, SomeIff, IfSome, IsSome, IsNone, IfOk, IfErr, IsOk, encode_utf8_all};
 ghost use Rattle.std.specs.Str.{chars, IsUtf8};
@@ -13,7 +13,11 @@ use ropey_tree::error::Error;
 impl<'a> RopeSlice<'a> {
     ghost use Rattle.ropey_walk.specs.Slices.{slice_pieces, slice_text};
 
-    /// The byte at an index. The byte index is below `len_bytes`. `O(log n)`.
+    /// Returns the byte at `byte_idx`. `O(log n)`.
+    ///
+    /// # Requires
+    ///
+    /// `byte_idx < len_bytes()`.
     pub fn byte(&self, byte_idx: usize) -> u8
         requires { byte_idx < byte_len (slice_text self.now) }
         ensures { result ≡ slice_index (encode_utf8_all (slice_text self.now)) byte_idx }
@@ -22,7 +26,7 @@ impl<'a> RopeSlice<'a> {
         chunk.text.as_bytes()[byte_idx - chunk.start.bytes]
     }
 
-    /// `byte`, and none from `len_bytes` on. `O(log n)`.
+    /// Returns [`byte`](Self::byte), or `None` if `byte_idx >= len_bytes()`. `O(log n)`.
     pub fn get_byte(&self, byte_idx: usize) -> Option<u8>
         ensures { SomeIff result (byte_idx < byte_len (slice_text self.now))
             (slice_index (encode_utf8_all (slice_text self.now)) byte_idx) }
@@ -34,7 +38,11 @@ impl<'a> RopeSlice<'a> {
         }
     }
 
-    /// The character at an index. The character index is below `len_chars`. `O(log n)`.
+    /// Returns the character at `char_idx`. `O(log n)`.
+    ///
+    /// # Requires
+    ///
+    /// `char_idx < len_chars()`.
     pub fn char(&self, char_idx: usize) -> char
         requires { char_idx < length (slice_text self.now) }
         ensures { result ≡ slice_index (slice_text self.now) char_idx }
@@ -47,7 +55,7 @@ impl<'a> RopeSlice<'a> {
         }
     }
 
-    /// `char`, and none from `len_chars` on. `O(log n)`.
+    /// Returns [`char`](Self::char), or `None` if `char_idx >= len_chars()`. `O(log n)`.
     pub fn get_char(&self, char_idx: usize) -> Option<char>
         ensures { SomeIff result (char_idx < length (slice_text self.now))
             (slice_index (slice_text self.now) char_idx) }
@@ -59,9 +67,14 @@ impl<'a> RopeSlice<'a> {
         }
     }
 
-    /// The chunk that holds a byte, and then the byte, the character and the line at which the
-    /// chunk starts. The byte index is at most `len_bytes`, and there it is the last chunk; an
-    /// empty text shows an empty one at 0, 0, 0. `O(log n)`.
+    /// Returns the chunk that contains a byte, and the byte, character and line index of the
+    /// chunk's start. `O(log n)`.
+    ///
+    /// For `len_bytes()` this is the last chunk. For an empty text it is an empty chunk at 0, 0, 0.
+    ///
+    /// # Requires
+    ///
+    /// `byte_idx <= len_bytes()`.
     pub fn chunk_at_byte(&self, byte_idx: usize) -> (&'a str, usize, usize, usize)
         requires { byte_idx ≤ byte_len (slice_text self.now) }
         ensures chunk { ShowsChunk (slice_pieces self.now) byte_len byte_idx (chars result.0.now)
@@ -78,8 +91,12 @@ impl<'a> RopeSlice<'a> {
         )
     }
 
-    /// `chunk_at_byte`, and past the length the error `ByteIndexOutOfBounds`, with the index and
-    /// that length. `O(log n)`.
+    /// Returns [`chunk_at_byte`](Self::chunk_at_byte) for an index that may be out of bounds.
+    /// `O(log n)`.
+    ///
+    /// # Errors
+    ///
+    /// `ByteIndexOutOfBounds(byte_idx, len_bytes())` if `byte_idx > len_bytes()`.
     pub fn try_chunk_at_byte(
         &self,
         byte_idx: usize,
@@ -95,7 +112,7 @@ impl<'a> RopeSlice<'a> {
         Ok(self.chunk_at_byte(byte_idx))
     }
 
-    /// The whole text, exactly where the slice has at most one chunk. `O(log n)`.
+    /// Returns the whole text if the slice has at most one chunk, else `None`. `O(log n)`.
     pub fn as_str(&self) -> Option<&'a str>
         ensures one { IsSome result ↔ (length (slice_pieces self.now) ≤ 1) }
         ensures text { IfSome result (λ text. chars text.now ≡ slice_text self.now) }
@@ -109,9 +126,14 @@ impl<'a> RopeSlice<'a> {
         }
     }
 
-    /// The chunk that holds a character, and then the byte, the character and the line at which the
-    /// chunk starts. The character index is at most `len_chars`, and there it is the last chunk; an
-    /// empty text shows an empty one at 0, 0, 0. `O(log n)`.
+    /// Returns the chunk that contains a character, and the byte, character and line index of the
+    /// chunk's start. `O(log n)`.
+    ///
+    /// For `len_chars()` this is the last chunk. For an empty text it is an empty chunk at 0, 0, 0.
+    ///
+    /// # Requires
+    ///
+    /// `char_idx <= len_chars()`.
     pub fn chunk_at_char(&self, char_idx: usize) -> (&'a str, usize, usize, usize)
         requires { char_idx ≤ length (slice_text self.now) }
         ensures chunk { ShowsChunk (slice_pieces self.now) length char_idx (chars result.0.now)
@@ -127,7 +149,8 @@ impl<'a> RopeSlice<'a> {
         )
     }
 
-    /// `chunk_at_char`, and none past `len_chars`. `O(log n)`.
+    /// Returns [`chunk_at_char`](Self::chunk_at_char), or `None` if `char_idx > len_chars()`.
+    /// `O(log n)`.
     pub fn get_chunk_at_char(&self, char_idx: usize) -> Option<(&'a str, usize, usize, usize)>
         ensures none { IsNone result ↔ (length (slice_text self.now) < char_idx) }
         ensures chunk { IfSome result (λ shown. ShowsChunk (slice_pieces self.now) length char_idx
@@ -141,9 +164,15 @@ impl<'a> RopeSlice<'a> {
         }
     }
 
-    /// The first chunk by whose end so many line breaks have ended, and then the byte, the
-    /// character and the line at which the chunk starts. The number is at most `len_lines`, and
-    /// there it is the last chunk; an empty text shows an empty one at 0, 0, 0. `O(log n)`.
+    /// Returns the chunk in which a line break ends, and the byte, character and line index of the
+    /// chunk's start. `O(log n)`.
+    ///
+    /// Line breaks count from 1. For 0 this is the first chunk, for `len_lines()` the last. For an
+    /// empty text it is an empty chunk at 0, 0, 0.
+    ///
+    /// # Requires
+    ///
+    /// `line_break_idx <= len_lines()`.
     pub fn chunk_at_line_break(&self, line_break_idx: usize) -> (&'a str, usize, usize, usize)
         requires { line_break_idx ≤ line_breaks (slice_text self.now) + 1 }
         ensures chunk { ShowsChunkOfBreak (slice_pieces self.now) line_break_idx
@@ -159,7 +188,8 @@ impl<'a> RopeSlice<'a> {
         )
     }
 
-    /// `chunk_at_line_break`, and none past `len_lines`. `O(log n)`.
+    /// Returns [`chunk_at_line_break`](Self::chunk_at_line_break), or `None` if
+    /// `line_break_idx > len_lines()`. `O(log n)`.
     pub fn get_chunk_at_line_break(
         &self,
         line_break_idx: usize,

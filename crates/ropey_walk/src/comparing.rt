@@ -1,5 +1,5 @@
-//! Slices compared with one another and with a `&str`, hashed and shown: each by its text alone,
-//! however that is cut into chunks.
+//! Comparing, hashing and displaying slices. Each uses the text alone, however it is split into
+//! chunks.
 
 ghost use Rattle.std.specs.Prelude.{◌≡◌, ◌≤◌, ◌↔◌, ◌++◌, [], drop, length, refl, IsTrue, Some};
 ghost use Rattle.std.specs.Str.{chars};
@@ -18,10 +18,10 @@ use std::cmp::Ordering;
 use std::fmt;
 use std::hash::{Hash, Hasher};
 
-/// How many bytes a hasher is given at once.
+/// The number of bytes that a hasher gets at once.
 const BLOCK_LEN: usize = 256;
 
-/// What is left of a part of a text behind some of its bytes, or the next chunk where nothing is.
+/// Returns a part without its first `len` bytes, or the next chunk if nothing is left.
 fn part_behind<'a>(part: &'a [u8], len: usize, chunks: &mut Chunks<'a>) -> &'a [u8]
     requires within { len ≤ length part.now }
     requires cut { IsRopeText chunks.old.ahead }
@@ -38,7 +38,7 @@ fn part_behind<'a>(part: &'a [u8], len: usize, chunks: &mut Chunks<'a>) -> &'a [
     }
 }
 
-/// The order of two texts by their bytes.
+/// Compares two texts by their bytes.
 fn compare(left: RopeSlice<'_>, right: RopeSlice<'_>) -> Ordering
     ensures { result ≡ slice_cmp nat_cmp (slice_bytes left.entry)
         (slice_bytes right.entry) }
@@ -59,7 +59,7 @@ fn compare(left: RopeSlice<'_>, right: RopeSlice<'_>) -> Ordering
     left_part.len().cmp(&right_part.len())
 }
 
-/// Copies the bytes that come next, and gives the part that is left behind them.
+/// Copies the next bytes, and returns the rest of the part after them.
 fn copy_next<'a>(block: &mut [u8], part: &'a [u8], chunks: &mut Chunks<'a>) -> &'a [u8]
     requires some { length block.old ≤ length (bytes_left part.now chunks.old) }
     requires part { part.now ≡ [] → chunks.old.ahead ≡ [] }
@@ -81,8 +81,7 @@ fn copy_next<'a>(block: &mut [u8], part: &'a [u8], chunks: &mut Chunks<'a>) -> &
     rest
 }
 
-/// Slices are equal where their texts are, however they are cut. `O(n)`, and `O(1)` where they
-/// have different lengths.
+/// Slices are equal if their texts are. `O(n)`, or `O(1)` if their lengths differ.
 impl<'a> PartialEq for RopeSlice<'a> {
     ghost eq = { on slice_bytes (pointwise nat_eq) };
 
@@ -107,7 +106,7 @@ impl<'a> PartialOrd for RopeSlice<'a> {
     }
 }
 
-/// Slices stand in the order of their texts' bytes, which is that of the scalar values. `O(n)`.
+/// Compares slices by the bytes of their texts, which is the order of the scalar values. `O(n)`.
 impl<'a> Ord for RopeSlice<'a> {
     ghost cmp = { on slice_bytes (slice_cmp nat_cmp) };
 
@@ -122,8 +121,8 @@ impl<'a> Ord for RopeSlice<'a> {
     }
 }
 
-/// A hasher is given the text in blocks of 256 bytes, the last one shorter and maybe empty, and
-/// then 0xFF: so that equal slices give the same writes, however they are cut. `O(n)`.
+/// Hashes the text in blocks of 256 bytes, the last one shorter and possibly empty, then 0xFF. So
+/// equal slices give the same writes, however they are split into chunks. `O(n)`.
 impl<'a> Hash for RopeSlice<'a> {
     ghost hash_input = { λ slice. hash_writes (slice_bytes slice) };
 
@@ -143,7 +142,7 @@ impl<'a> Hash for RopeSlice<'a> {
     }
 }
 
-/// The bytes of the text, chunk by chunk. `O(n)`.
+/// Writes the text's bytes, chunk by chunk. `O(n)`.
 impl<'a> fmt::Display for RopeSlice<'a> {
     ghost output = { λ slice. Some (slice_bytes slice) };
 
@@ -156,7 +155,7 @@ impl<'a> fmt::Display for RopeSlice<'a> {
 }
 
 impl<'a> RopeSlice<'a> {
-    /// Whether the text is that of a `&str`. `O(n)`, and `O(1)` where they have different lengths.
+    /// Returns whether the text equals `text`. `O(n)`, or `O(1)` if their lengths differ.
     pub fn eq_str(&self, text: &str) -> bool
         ensures { IsTrue result ↔ (slice_text self.now ≡ chars text.now) }
     {

@@ -1,9 +1,9 @@
 //! Conversions between indices of bytes, characters, UTF-16 code units and lines.
 //!
-//! All indices count from 0. An index equal to the length is accepted, for lines their number, and
-//! is the text's end. The plain form has the index in range as its condition; the `try_` form
-//! refuses it exactly past that, and tells the index and the length. Each call goes one way from
-//! the root to a leaf: it costs `O(log n)` and takes no memory.
+//! All indices count from 0. The end of the text has an index too: the length, or the number of
+//! lines. The plain form of a call requires an index in range. The `try_` form returns an error
+//! past that, with the index and the length. Each call descends once from the root to a leaf: it
+//! takes `O(log n)` and allocates nothing.
 
 ghost use Rattle.std.specs.Prelude.{◌≡◌, ◌+◌, ◌<◌, ◌≤◌, length, OkIff, IfErr, MatchResult};
 ghost use Rattle.str_indices.specs.Text.{units};
@@ -17,9 +17,12 @@ use ropey_tree::error::Error;
 impl<'a> RopeSlice<'a> {
     ghost use Rattle.ropey_walk.specs.Slices.{slice_text};
 
-    /// The index of the character in which a byte lies, or the number of characters at the text's
-    /// end. The byte index is at most `len_bytes`. A byte inside a character is of that character.
+    /// Returns the index of the character that contains a byte, or `len_chars()` for `len_bytes()`.
     /// `O(log n)`.
+    ///
+    /// # Requires
+    ///
+    /// `byte_idx <= len_bytes()`.
     pub fn byte_to_char(&self, byte_idx: usize) -> usize
         requires { byte_idx ≤ byte_len (slice_text self.now) }
         ensures { result ≡ char_of_byte (slice_text self.now) byte_idx }
@@ -27,9 +30,14 @@ impl<'a> RopeSlice<'a> {
         self.char_of(&self.place_of_byte(byte_idx))
     }
 
-    /// The index of the line in which a byte lies: the number of line breaks that end at or before
-    /// it. The byte index is at most `len_bytes`. Between the CR and the LF of a break it is still
-    /// the line that the break ends. `O(log n)`.
+    /// Returns the index of the line that contains a byte: the number of line breaks that end at or
+    /// before it. `O(log n)`.
+    ///
+    /// Between the CR and the LF of a break this is still the line that the break ends.
+    ///
+    /// # Requires
+    ///
+    /// `byte_idx <= len_bytes()`.
     pub fn byte_to_line(&self, byte_idx: usize) -> usize
         requires { byte_idx ≤ byte_len (slice_text self.now) }
         ensures { result ≡ line_of_byte (slice_text self.now) byte_idx }
@@ -37,8 +45,12 @@ impl<'a> RopeSlice<'a> {
         self.line_of(&self.place_of_byte(byte_idx))
     }
 
-    /// The byte index at which a character starts, or the text's end for `len_chars`. The character
-    /// index is at most `len_chars`. `O(log n)`.
+    /// Returns the byte index of the start of a character, or `len_bytes()` for `len_chars()`.
+    /// `O(log n)`.
+    ///
+    /// # Requires
+    ///
+    /// `char_idx <= len_chars()`.
     pub fn char_to_byte(&self, char_idx: usize) -> usize
         requires { char_idx ≤ length (slice_text self.now) }
         ensures { result ≡ byte_of_char (slice_text self.now) char_idx }
@@ -46,8 +58,12 @@ impl<'a> RopeSlice<'a> {
         self.byte_of(&self.place_of_char(char_idx))
     }
 
-    /// The index of the line in which a character lies, or of the last line for `len_chars`. The
-    /// character index is at most `len_chars`. `O(log n)`.
+    /// Returns the index of the line that contains a character, or of the last line for
+    /// `len_chars()`. `O(log n)`.
+    ///
+    /// # Requires
+    ///
+    /// `char_idx <= len_chars()`.
     pub fn char_to_line(&self, char_idx: usize) -> usize
         requires { char_idx ≤ length (slice_text self.now) }
         ensures { result ≡ line_of_byte (slice_text self.now)
@@ -56,8 +72,12 @@ impl<'a> RopeSlice<'a> {
         self.line_of(&self.place_of_char(char_idx))
     }
 
-    /// The UTF-16 code unit index at which a character starts: how many units the characters before
-    /// it take. The character index is at most `len_chars`. `O(log n)`.
+    /// Returns the UTF-16 code unit index of a character: the number of code units before it.
+    /// `O(log n)`.
+    ///
+    /// # Requires
+    ///
+    /// `char_idx <= len_chars()`.
     pub fn char_to_utf16_cu(&self, char_idx: usize) -> usize
         requires { char_idx ≤ length (slice_text self.now) }
         ensures { result ≡ unit_of_byte (slice_text self.now)
@@ -66,9 +86,14 @@ impl<'a> RopeSlice<'a> {
         self.unit_of(&self.place_of_char(char_idx))
     }
 
-    /// The index of the character that holds a UTF-16 code unit, or the number of characters for
-    /// `len_utf16_cu`. The unit index is at most `len_utf16_cu`. The second unit of a pair is of
-    /// the character that the pair spells. `O(log n)`.
+    /// Returns the index of the character that contains a UTF-16 code unit, or `len_chars()` for
+    /// `len_utf16_cu()`. `O(log n)`.
+    ///
+    /// Both units of a surrogate pair belong to one character.
+    ///
+    /// # Requires
+    ///
+    /// `utf16_cu_idx <= len_utf16_cu()`.
     pub fn utf16_cu_to_char(&self, utf16_cu_idx: usize) -> usize
         requires { utf16_cu_idx ≤ units (slice_text self.now) }
         ensures { result ≡ char_of_byte (slice_text self.now)
@@ -77,8 +102,12 @@ impl<'a> RopeSlice<'a> {
         self.char_of(&self.place_of_unit(utf16_cu_idx))
     }
 
-    /// The byte index at which a line starts, or the text's end for `len_lines`. The line index is
-    /// at most `len_lines`. `O(log n)`.
+    /// Returns the byte index of the start of a line, or `len_bytes()` for `len_lines()`.
+    /// `O(log n)`.
+    ///
+    /// # Requires
+    ///
+    /// `line_idx <= len_lines()`.
     pub fn line_to_byte(&self, line_idx: usize) -> usize
         requires { line_idx ≤ line_breaks (slice_text self.now) + 1 }
         ensures { result ≡ byte_of_line (slice_text self.now) line_idx }
@@ -86,8 +115,12 @@ impl<'a> RopeSlice<'a> {
         self.byte_of(&self.place_of_line(line_idx))
     }
 
-    /// The index of the character with which a line starts, or the number of characters for
-    /// `len_lines`. The line index is at most `len_lines`. `O(log n)`.
+    /// Returns the character index of the start of a line, or `len_chars()` for `len_lines()`.
+    /// `O(log n)`.
+    ///
+    /// # Requires
+    ///
+    /// `line_idx <= len_lines()`.
     pub fn line_to_char(&self, line_idx: usize) -> usize
         requires { line_idx ≤ line_breaks (slice_text self.now) + 1 }
         ensures { result ≡ char_of_byte (slice_text self.now)
@@ -148,8 +181,12 @@ impl<'a> RopeSlice<'a> {
         }
     }
 
-    /// `byte_to_char`, and past the length the error
-    /// `ByteIndexOutOfBounds`, with the index and that length. `O(log n)`.
+    /// Returns [`byte_to_char`](Self::byte_to_char) for an index that may be out of bounds.
+    /// `O(log n)`.
+    ///
+    /// # Errors
+    ///
+    /// `ByteIndexOutOfBounds(byte_idx, len_bytes())` if `byte_idx > len_bytes()`.
     pub fn try_byte_to_char(&self, byte_idx: usize) -> Result<usize, Error>
         ensures value { OkIff result (byte_idx ≤ byte_len (slice_text self.now))
             (char_of_byte (slice_text self.now) byte_idx) }
@@ -160,8 +197,12 @@ impl<'a> RopeSlice<'a> {
         Ok(self.byte_to_char(byte_idx))
     }
 
-    /// `byte_to_line`, and past the length the error
-    /// `ByteIndexOutOfBounds`, with the index and that length. `O(log n)`.
+    /// Returns [`byte_to_line`](Self::byte_to_line) for an index that may be out of bounds.
+    /// `O(log n)`.
+    ///
+    /// # Errors
+    ///
+    /// `ByteIndexOutOfBounds(byte_idx, len_bytes())` if `byte_idx > len_bytes()`.
     pub fn try_byte_to_line(&self, byte_idx: usize) -> Result<usize, Error>
         ensures value { OkIff result (byte_idx ≤ byte_len (slice_text self.now))
             (line_of_byte (slice_text self.now) byte_idx) }
@@ -172,8 +213,12 @@ impl<'a> RopeSlice<'a> {
         Ok(self.byte_to_line(byte_idx))
     }
 
-    /// `char_to_byte`, and past the number of characters the error
-    /// `CharIndexOutOfBounds`, with the index and that length. `O(log n)`.
+    /// Returns [`char_to_byte`](Self::char_to_byte) for an index that may be out of bounds.
+    /// `O(log n)`.
+    ///
+    /// # Errors
+    ///
+    /// `CharIndexOutOfBounds(char_idx, len_chars())` if `char_idx > len_chars()`.
     pub fn try_char_to_byte(&self, char_idx: usize) -> Result<usize, Error>
         ensures value { OkIff result (char_idx ≤ length (slice_text self.now))
             (byte_of_char (slice_text self.now) char_idx) }
@@ -184,8 +229,12 @@ impl<'a> RopeSlice<'a> {
         Ok(self.char_to_byte(char_idx))
     }
 
-    /// `char_to_line`, and past the number of characters the error
-    /// `CharIndexOutOfBounds`, with the index and that length. `O(log n)`.
+    /// Returns [`char_to_line`](Self::char_to_line) for an index that may be out of bounds.
+    /// `O(log n)`.
+    ///
+    /// # Errors
+    ///
+    /// `CharIndexOutOfBounds(char_idx, len_chars())` if `char_idx > len_chars()`.
     pub fn try_char_to_line(&self, char_idx: usize) -> Result<usize, Error>
         ensures value { OkIff result (char_idx ≤ length (slice_text self.now))
             (line_of_byte (slice_text self.now) (byte_of_char (slice_text self.now) char_idx)) }
@@ -196,8 +245,12 @@ impl<'a> RopeSlice<'a> {
         Ok(self.char_to_line(char_idx))
     }
 
-    /// `char_to_utf16_cu`, and past the number of characters the error
-    /// `CharIndexOutOfBounds`, with the index and that length. `O(log n)`.
+    /// Returns [`char_to_utf16_cu`](Self::char_to_utf16_cu) for an index that may be out of bounds.
+    /// `O(log n)`.
+    ///
+    /// # Errors
+    ///
+    /// `CharIndexOutOfBounds(char_idx, len_chars())` if `char_idx > len_chars()`.
     pub fn try_char_to_utf16_cu(&self, char_idx: usize) -> Result<usize, Error>
         ensures value { OkIff result (char_idx ≤ length (slice_text self.now))
             (unit_of_byte (slice_text self.now) (byte_of_char (slice_text self.now) char_idx)) }
@@ -208,8 +261,12 @@ impl<'a> RopeSlice<'a> {
         Ok(self.char_to_utf16_cu(char_idx))
     }
 
-    /// `utf16_cu_to_char`, and past the number of code units the error
-    /// `Utf16IndexOutOfBounds`, with the index and that length. `O(log n)`.
+    /// Returns [`utf16_cu_to_char`](Self::utf16_cu_to_char) for an index that may be out of bounds.
+    /// `O(log n)`.
+    ///
+    /// # Errors
+    ///
+    /// `Utf16IndexOutOfBounds(utf16_cu_idx, len_utf16_cu())` if `utf16_cu_idx > len_utf16_cu()`.
     pub fn try_utf16_cu_to_char(&self, utf16_cu_idx: usize) -> Result<usize, Error>
         ensures value { OkIff result (utf16_cu_idx ≤ units (slice_text self.now))
             (char_of_byte (slice_text self.now) (byte_of_unit (slice_text self.now) utf16_cu_idx)) }
@@ -220,8 +277,12 @@ impl<'a> RopeSlice<'a> {
         Ok(self.utf16_cu_to_char(utf16_cu_idx))
     }
 
-    /// `line_to_byte`, and past the number of lines the error
-    /// `LineIndexOutOfBounds`, with the index and that length. `O(log n)`.
+    /// Returns [`line_to_byte`](Self::line_to_byte) for an index that may be out of bounds.
+    /// `O(log n)`.
+    ///
+    /// # Errors
+    ///
+    /// `LineIndexOutOfBounds(line_idx, len_lines())` if `line_idx > len_lines()`.
     pub fn try_line_to_byte(&self, line_idx: usize) -> Result<usize, Error>
         ensures value { OkIff result (line_idx ≤ line_breaks (slice_text self.now) + 1)
             (byte_of_line (slice_text self.now) line_idx) }
@@ -232,8 +293,12 @@ impl<'a> RopeSlice<'a> {
         Ok(self.line_to_byte(line_idx))
     }
 
-    /// `line_to_char`, and past the number of lines the error
-    /// `LineIndexOutOfBounds`, with the index and that length. `O(log n)`.
+    /// Returns [`line_to_char`](Self::line_to_char) for an index that may be out of bounds.
+    /// `O(log n)`.
+    ///
+    /// # Errors
+    ///
+    /// `LineIndexOutOfBounds(line_idx, len_lines())` if `line_idx > len_lines()`.
     pub fn try_line_to_char(&self, line_idx: usize) -> Result<usize, Error>
         ensures value { OkIff result (line_idx ≤ line_breaks (slice_text self.now) + 1)
             (char_of_byte (slice_text self.now) (byte_of_line (slice_text self.now) line_idx)) }

@@ -1,11 +1,11 @@
-//! Iterators over a text: its bytes, its characters, its lines and its chunks.
+//! Iterators over the bytes, characters, lines and chunks of a text.
 //!
-//! An iterator stands between two items, or before the first or behind the last. `next` gives the
-//! item ahead and moves behind it, `prev` gives the item behind and moves before it, and `reverse`
-//! turns the iterator round: what lay behind it comes ahead. Where no item comes, it gives none and
-//! stays. Contracts see the items ahead and those behind, each from the nearest on.
+//! An iterator is before the first item, between two items, or after the last. `next` returns the
+//! following item and advances past it, `prev` returns the preceding item and moves back before it,
+//! and `reverse` swaps the two directions. If there is no item, they return `None` and the iterator
+//! stays. Contracts see the items on both sides, each list from the nearest on.
 //!
-//! No iterator takes memory. A clone has the same place and direction, and goes its own way.
+//! No iterator allocates. A clone has the same position and direction, and moves independently.
 
 ghost use Rattle.std.specs.Prelude.{◌≡◌, ◌+◌, ◌-◌, ◌<◌, ◌≤◌, ◌↔◌, length, SomeIff, IfOk, IfErr, IfSome, IsNone, encode_utf8_all, string_bytes};
 ghost use Rattle.str_indices.specs.Text.{byte_len};
@@ -31,15 +31,18 @@ use ropey_tree::error::Error;
 use std::alloc::Global;
 
 impl<'a> RopeSlice<'a> {
-    /// The bytes, from the first on.
+    /// Returns an iterator over the bytes, from the start.
     pub fn bytes(&self) -> Bytes<'a>
         ensures { result ≡ before_item 0 (encode_utf8_all (slice_text self.now)) }
     {
         Bytes::at(*self, 0)
     }
 
-    /// The bytes, from the place before one of them; at `len_bytes` from behind the last. The byte
-    /// index is at most `len_bytes`. `O(log n)`.
+    /// Returns an iterator over the bytes from `byte_idx`, which may be `len_bytes()`. `O(log n)`.
+    ///
+    /// # Requires
+    ///
+    /// `byte_idx <= len_bytes()`.
     pub fn bytes_at(&self, byte_idx: usize) -> Bytes<'a>
         requires { byte_idx ≤ byte_len (slice_text self.now) }
         ensures { result ≡ before_item byte_idx (encode_utf8_all (slice_text self.now)) }
@@ -47,7 +50,7 @@ impl<'a> RopeSlice<'a> {
         Bytes::at(*self, byte_idx)
     }
 
-    /// `bytes_at`, and none past `len_bytes`. `O(log n)`.
+    /// Returns [`bytes_at`](Self::bytes_at), or `None` if `byte_idx > len_bytes()`. `O(log n)`.
     pub fn get_bytes_at(&self, byte_idx: usize) -> Option<Bytes<'a>>
         ensures { SomeIff result (byte_idx ≤ byte_len (slice_text self.now))
             (before_item byte_idx (encode_utf8_all (slice_text self.now))) }
@@ -59,15 +62,19 @@ impl<'a> RopeSlice<'a> {
         }
     }
 
-    /// The characters, from the first on.
+    /// Returns an iterator over the characters, from the start.
     pub fn chars(&self) -> Chars<'a>
         ensures { result ≡ before_item 0 (slice_text self.now) }
     {
         Chars::at(*self, 0)
     }
 
-    /// The characters, from the place before one of them; at `len_chars` from behind the last. The
-    /// character index is at most `len_chars`. `O(log n)`.
+    /// Returns an iterator over the characters from `char_idx`, which may be `len_chars()`.
+    /// `O(log n)`.
+    ///
+    /// # Requires
+    ///
+    /// `char_idx <= len_chars()`.
     pub fn chars_at(&self, char_idx: usize) -> Chars<'a>
         requires { char_idx ≤ length (slice_text self.now) }
         ensures { result ≡ before_item char_idx (slice_text self.now) }
@@ -75,7 +82,7 @@ impl<'a> RopeSlice<'a> {
         Chars::at(*self, char_idx)
     }
 
-    /// `chars_at`, and none past `len_chars`. `O(log n)`.
+    /// Returns [`chars_at`](Self::chars_at), or `None` if `char_idx > len_chars()`. `O(log n)`.
     pub fn get_chars_at(&self, char_idx: usize) -> Option<Chars<'a>>
         ensures { SomeIff result (char_idx ≤ length (slice_text self.now))
             (before_item char_idx (slice_text self.now)) }
@@ -87,16 +94,20 @@ impl<'a> RopeSlice<'a> {
         }
     }
 
-    /// The lines, from the first on: `len_lines` slices, each with the break that ends it. The last
-    /// has no break, and may be empty. `O(log n)`.
+    /// Returns an iterator over the lines, from the start: `len_lines()` slices. `O(log n)`.
+    ///
+    /// Each line has the break that ends it. The last has none, and may be empty.
     pub fn lines(&self) -> Lines<'a>
         ensures { result ≡ before_item 0 (lines_of (slice_pieces self.now)) }
     {
         Lines::at(*self, 0)
     }
 
-    /// The lines, from the place before one of them; at `len_lines` from behind the last. The line
-    /// index is at most `len_lines`. `O(log n)`.
+    /// Returns an iterator over the lines from `line_idx`, which may be `len_lines()`. `O(log n)`.
+    ///
+    /// # Requires
+    ///
+    /// `line_idx <= len_lines()`.
     pub fn lines_at(&self, line_idx: usize) -> Lines<'a>
         requires { line_idx ≤ line_breaks (slice_text self.now) + 1 }
         ensures { result ≡ before_item line_idx (lines_of (slice_pieces self.now)) }
@@ -104,7 +115,7 @@ impl<'a> RopeSlice<'a> {
         Lines::at(*self, line_idx)
     }
 
-    /// `lines_at`, and none past `len_lines`. `O(log n)`.
+    /// Returns [`lines_at`](Self::lines_at), or `None` if `line_idx > len_lines()`. `O(log n)`.
     pub fn get_lines_at(&self, line_idx: usize) -> Option<Lines<'a>>
         ensures { SomeIff result (line_idx ≤ line_breaks (slice_text self.now) + 1)
             (before_item line_idx (lines_of (slice_pieces self.now))) }
@@ -116,8 +127,10 @@ impl<'a> RopeSlice<'a> {
         }
     }
 
-    /// The chunks, from the first on: texts of 1 to 984 bytes, which are the text together, with no
-    /// character and no CR LF cut between them. A text of no characters has none.
+    /// Returns an iterator over the chunks, from the start.
+    ///
+    /// Chunks have 1 to 984 bytes; joined they are the text. No character and no CR LF is split
+    /// between two of them. An empty text has none.
     pub fn chunks(&self) -> Chunks<'a>
         ensures pieces { result ≡ before_item 0 (slice_pieces self.now) }
         ensures cut { IsRopeText (slice_pieces self.now) }
@@ -126,9 +139,9 @@ impl<'a> RopeSlice<'a> {
         Chunks::at(*self, 0)
     }
 
-    /// The chunks, from the place before the one in which place `i` of a measure lies, or from
-    /// behind the last where no more than `i` stand in all; and the byte, the character and the
-    /// line there.
+    /// Returns an iterator over the chunks from the one that contains index `i` in units of `by`,
+    /// or after the last one if there is none, and the byte, character and line index of its
+    /// position.
     fn chunks_at(&self, by: By, i: usize) -> (Chunks<'a>, usize, usize, usize)
         ensures { StandsBefore (slice_pieces self.now) (λ text. amount by (counts_of text)) i
             result.0 result.1 result.2 result.3 }
@@ -151,9 +164,14 @@ impl<'a> RopeSlice<'a> {
         )
     }
 
-    /// The chunks, from the place before the one that holds a byte, or at `len_bytes` from behind
-    /// the last; and then the byte, the character and the line there. The byte index is at most
-    /// `len_bytes`. `O(log n)`.
+    /// Returns an iterator over the chunks from the one that contains a byte, and the byte,
+    /// character and line index of its position. `O(log n)`.
+    ///
+    /// For `len_bytes()` it is after the last chunk.
+    ///
+    /// # Requires
+    ///
+    /// `byte_idx <= len_bytes()`.
     pub fn chunks_at_byte(&self, byte_idx: usize) -> (Chunks<'a>, usize, usize, usize)
         requires { byte_idx ≤ byte_len (slice_text self.now) }
         ensures { StandsBefore (slice_pieces self.now) byte_len byte_idx result.0 result.1 result.2
@@ -162,7 +180,8 @@ impl<'a> RopeSlice<'a> {
         self.chunks_at(By::Bytes, byte_idx)
     }
 
-    /// `chunks_at_byte`, and none past `len_bytes`. `O(log n)`.
+    /// Returns [`chunks_at_byte`](Self::chunks_at_byte), or `None` if `byte_idx > len_bytes()`.
+    /// `O(log n)`.
     pub fn get_chunks_at_byte(&self, byte_idx: usize) -> Option<(Chunks<'a>, usize, usize, usize)>
         ensures none { IsNone result ↔ (byte_len (slice_text self.now) < byte_idx) }
         ensures chunks { IfSome result (λ from. StandsBefore (slice_pieces self.now) byte_len
@@ -175,9 +194,14 @@ impl<'a> RopeSlice<'a> {
         }
     }
 
-    /// The chunks, from the place before the one that holds a character, or at `len_chars` from
-    /// behind the last; and then the byte, the character and the line there. The character index is
-    /// at most `len_chars`. `O(log n)`.
+    /// Returns an iterator over the chunks from the one that contains a character, and the byte,
+    /// character and line index of its position. `O(log n)`.
+    ///
+    /// For `len_chars()` it is after the last chunk.
+    ///
+    /// # Requires
+    ///
+    /// `char_idx <= len_chars()`.
     pub fn chunks_at_char(&self, char_idx: usize) -> (Chunks<'a>, usize, usize, usize)
         requires { char_idx ≤ length (slice_text self.now) }
         ensures { StandsBefore (slice_pieces self.now) length char_idx result.0 result.1 result.2
@@ -186,7 +210,8 @@ impl<'a> RopeSlice<'a> {
         self.chunks_at(By::Chars, char_idx)
     }
 
-    /// `chunks_at_char`, and none past `len_chars`. `O(log n)`.
+    /// Returns [`chunks_at_char`](Self::chunks_at_char), or `None` if `char_idx > len_chars()`.
+    /// `O(log n)`.
     pub fn get_chunks_at_char(&self, char_idx: usize) -> Option<(Chunks<'a>, usize, usize, usize)>
         ensures none { IsNone result ↔ (length (slice_text self.now) < char_idx) }
         ensures chunks { IfSome result (λ from. StandsBefore (slice_pieces self.now) length
@@ -199,9 +224,15 @@ impl<'a> RopeSlice<'a> {
         }
     }
 
-    /// The chunks, from the place before the first one by whose end so many line breaks have ended,
-    /// or at `len_lines` from behind the last; and then the byte, the character and the line there.
-    /// The number is at most `len_lines`. `O(log n)`.
+    /// Returns an iterator over the chunks from the one in which a line break ends, and the byte,
+    /// character and line index of its position. `O(log n)`.
+    ///
+    /// Line breaks count from 1. For 0 it is before the first chunk, for `len_lines()` after the
+    /// last.
+    ///
+    /// # Requires
+    ///
+    /// `line_break_idx <= len_lines()`.
     pub fn chunks_at_line_break(&self, line_break_idx: usize) -> (Chunks<'a>, usize, usize, usize)
         requires { line_break_idx ≤ line_breaks (slice_text self.now) + 1 }
         ensures { StandsBeforeBreak (slice_pieces self.now) line_break_idx result }
@@ -213,7 +244,8 @@ impl<'a> RopeSlice<'a> {
         }
     }
 
-    /// `chunks_at_line_break`, and none past `len_lines`. `O(log n)`.
+    /// Returns [`chunks_at_line_break`](Self::chunks_at_line_break), or `None` if
+    /// `line_break_idx > len_lines()`. `O(log n)`.
     pub fn get_chunks_at_line_break(
         &self,
         line_break_idx: usize,
@@ -229,7 +261,11 @@ impl<'a> RopeSlice<'a> {
         }
     }
 
-    /// The whole text, in memory of an allocator. The one refusal is `Memory`. `O(n)`.
+    /// Returns a copy of the whole text, allocated in `alloc`. `O(n)`.
+    ///
+    /// # Errors
+    ///
+    /// `Memory`.
     pub fn to_text(&self, alloc: Global) -> Result<String, Error>
         ensures text { IfOk result (λ text. string_bytes text ≡
             encode_utf8_all (slice_text self.now)) }

@@ -1,4 +1,4 @@
-//! Parts of a rope that act as texts of their own, as the slices of the Rust crate `ropey` do.
+//! Slices of a rope, and what can be read from them, like `RopeSlice` of the Rust crate `ropey`.
 #![tactic(auto)]
 
 mod ascii;

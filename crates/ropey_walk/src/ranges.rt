@@ -8,18 +8,18 @@ ghost use Rattle.ropey_walk.specs.declared.ranges.Ends.{Ends};
 
 use std::ops::{Range, RangeFrom, RangeFull, RangeInclusive, RangeTo, RangeToInclusive};
 
-/// The ends of a range of indices. One that the range leaves open is none: such a range starts with
-/// the text, or goes up to its end.
+/// The ends of a range of indices, `None` if open. An open range starts at the start of the text,
+/// or ends at its end.
 #[derive(Clone, Copy, Debug, PartialEq, Eq)]
 pub struct Ends {
     /// The first index.
     pub start: Option<usize>,
-    /// The index behind the last.
+    /// The index after the last.
     pub end: Option<usize>,
 }
 
 impl Ends {
-    /// Both ends are given, and the start lies above the end.
+    /// Returns whether both ends are given and the start is past the end.
     pub(crate) fn is_backwards(&self) -> bool
         ensures { IsTrue result ↔ IsBackwards self.now.start self.now.end }
     {
@@ -30,13 +30,14 @@ impl Ends {
     }
 }
 
-/// A range of indices, of bytes or of characters: one of the six range types of std.
+/// A range of byte or character indices: one of the six range types of std.
 pub trait TextRange: Drop {
     ghost ends: { Self → Ends };
 
-    /// The range's ends. Behind the greatest `usize` there is no index, and a range up to and with
-    /// it ends there, which no text reaches. A range `a..=b` that was iterated to its end is empty
-    /// and lies before `b`.
+    /// Returns the ends of the range.
+    ///
+    /// A range that includes `usize::MAX` ends there, which no text reaches. A range `a..=b` that
+    /// was iterated to its end is empty and ends at `b`.
     fn ends(&self) -> Ends
         ensures { result ≡ ends self.now };
 }

@@ -1,10 +1,9 @@
-//! Parts of a slice: its lines, and ranges of its characters and of its bytes.
+//! Parts of a slice: its lines, and ranges of its characters or bytes.
 //!
-//! A part is a slice as well, and takes no memory. An index counts from the start of the slice that
-//! the call is made on. The plain form has the range inside the text as its condition; the `get_`
-//! form answers none exactly where a range is refused, and the `try_` form tells why: a range that
-//! starts above its end is refused first, then one that goes past the length, then one of bytes
-//! that starts or ends inside a character.
+//! A part is a slice too, and allocates nothing. Indices count from the start of the slice that the
+//! call is made on. The plain form of a call requires a range inside the text. The `get_` form
+//! returns `None` exactly if it isn't, and the `try_` form says why: the range starts past its end,
+//! else it goes past the length, else, for bytes, it starts or ends inside a character.
 
 ghost use Rattle.std.specs.Prelude.{◌≡◌, ◌+◌, ◌<◌, ◌≤◌, ◌↔◌, length, take, MatchResult};
 ghost use Rattle.std.specs.Prelude.{IfSome, IsSome, IsNone, IfOk, IfErr, IsOk};
@@ -27,8 +26,8 @@ use crate::slice::{Chunk, RopeSlice};
 use ropey_tree::counts::Counts;
 use ropey_tree::error::Error;
 
-/// An end of a part: what is counted up to it, and the chunk in which it was looked up, or an empty
-/// one where it wasn't.
+/// One end of a part: the counts up to it, and the chunk in which it was looked up, or an empty one
+/// if it wasn't.
 #[derive(Clone, Copy)]
 struct Edge<'a> {
     counts: Counts,
@@ -39,8 +38,8 @@ impl<'a> RopeSlice<'a> {
     ghost use Rattle.ropey_walk.specs.Slices.{slice_pieces, slice_text};
     ghost use Rattle.ropey_walk.specs.Comparing.{slice_bytes};
 
-    /// The part from where `start` stands before it up to where `end` is what the text up to there
-    /// counts by itself. Where it lies in the chunk, it is a part of that alone. `O(1)`.
+    /// Returns the part between two ends, given the counts before the start, and the counts of the
+    /// text up to the end. If it is inside the chunk, it is a part of the chunk alone. `O(1)`.
     #[inline]
     pub(crate) fn between(&self, chunk: &Chunk<'a>, start: Counts, end: Counts) -> Self
         requires order { start.chars ≤ end.chars }
@@ -58,7 +57,7 @@ impl<'a> RopeSlice<'a> {
         self.part(chunk, start, end.saturating_sub(start))
     }
 
-    /// The part from one place between two characters to another.
+    /// Returns the part between two places at character boundaries.
     fn between_places(&self, from: &Place<'a>, to: &Place<'_>) -> Self
         requires from { IsPlaceIn (slice_text self.now) (chars from.now.text.now) from.now.start
             from.now.at }
@@ -81,7 +80,11 @@ impl<'a> RopeSlice<'a> {
         self.between(&from.chunk(), self.standing_at(from), self.counted_to(to))
     }
 
-    /// A line, with the break that ends it. The line index is below `len_lines`. `O(log n)`.
+    /// Returns the line at `line_idx`, with the break that ends it. `O(log n)`.
+    ///
+    /// # Requires
+    ///
+    /// `line_idx < len_lines()`.
     pub fn line(&self, line_idx: usize) -> Self
         requires { line_idx < line_breaks (slice_text self.now) + 1 }
         ensures { slice_pieces result ≡ line_pieces (slice_pieces self.now) line_idx }
@@ -91,7 +94,7 @@ impl<'a> RopeSlice<'a> {
         start.line_to(end, self)
     }
 
-    /// `line`, and none from `len_lines` on. `O(log n)`.
+    /// Returns [`line`](Self::line), or `None` if `line_idx >= len_lines()`. `O(log n)`.
     pub fn get_line(&self, line_idx: usize) -> Option<Self>
         ensures none { IsNone result ↔ (line_breaks (slice_text self.now) + 1 ≤ line_idx) }
         ensures line { IfSome result (λ line. slice_pieces line ≡
@@ -104,7 +107,7 @@ impl<'a> RopeSlice<'a> {
         }
     }
 
-    /// What stands before a character. Before the first it is nothing, which isn't looked up.
+    /// Returns the counts before a character. Before the first they are 0, without a look-up.
     fn start_at_char(&self, char_idx: usize) -> Edge<'a>
         requires { char_idx ≤ length (slice_text self.now) }
         ensures chars { result.counts.chars ≡ char_idx }
@@ -126,8 +129,8 @@ impl<'a> RopeSlice<'a> {
         }
     }
 
-    /// What the text up to a character counts by itself. Up to the end it is what the slice counts,
-    /// which isn't looked up.
+    /// Returns the counts of the text up to a character. Up to the end they are the slice's,
+    /// without a look-up.
     fn end_at_char(&self, char_idx: usize) -> Edge<'a>
         requires { char_idx ≤ length (slice_text self.now) }
         ensures chars { result.counts.chars ≡ char_idx }
@@ -150,7 +153,7 @@ impl<'a> RopeSlice<'a> {
         }
     }
 
-    /// The part from one character up to another.
+    /// Returns the part from one character to another.
     fn chars_between(&self, start: usize, end: usize) -> Self
         requires order { start ≤ end }
         requires within { end ≤ length (slice_text self.now) }
@@ -158,12 +161,15 @@ impl<'a> RopeSlice<'a> {
     {
         let from = self.start_at_char(start);
         let to = self.end_at_char(end);
-        // The chunk of a character's place holds the character before it.
+        // The chunk found for a character contains the character before it.
         self.between(&to.chunk.or(from.chunk), from.counts, to.counts)
     }
 
-    /// Where a range of characters starts and ends, or why it is refused, as in `try_slice`.
-    /// `O(1)`.
+    /// Returns the start and the end of a range of characters. `O(1)`.
+    ///
+    /// # Errors
+    ///
+    /// Those of [`try_slice`](Self::try_slice).
     pub fn char_indices(&self, ends: Ends) -> Result<(usize, usize), Error>
         ensures { MatchResult result
             (λ indices. IsRangeIn (length (slice_text self.now)) ends ×
@@ -184,8 +190,11 @@ impl<'a> RopeSlice<'a> {
         Ok((start, end))
     }
 
-    /// A range of characters. It lies inside the text: it starts no later than it ends, and ends at
-    /// most at `len_chars`. `O(log n)`.
+    /// Returns the slice of a range of characters. `O(log n)`.
+    ///
+    /// # Requires
+    ///
+    /// The range starts no later than it ends, and ends at or before `len_chars()`.
     pub fn slice<R: TextRange>(&self, char_range: R) -> Self
         requires { IsRangeIn (length (slice_text self.now)) (R.ends char_range) }
         ensures { slice_pieces result ≡ chars_in (R.ends char_range) (slice_pieces self.now) }
@@ -195,8 +204,12 @@ impl<'a> RopeSlice<'a> {
         self.chars_between(ends.start.unwrap_or(0), end)
     }
 
-    /// `slice`, or why the range is refused: `CharRangeInvalid` where it starts above its end, else
-    /// `CharRangeOutOfBounds` where it goes past `len_chars`. `O(log n)`.
+    /// Returns [`slice`](Self::slice), or why the range is refused. `O(log n)`.
+    ///
+    /// # Errors
+    ///
+    /// `CharRangeInvalid` if the range starts past its end, else `CharRangeOutOfBounds` if it goes
+    /// past `len_chars()`.
     pub fn try_slice<R: TextRange>(&self, char_range: R) -> Result<Self, Error>
         ensures ok { IsOk result ↔ IsRangeIn (length (slice_text self.now)) (R.ends char_range) }
         ensures slice { IfOk result (λ slice. slice_pieces slice ≡
@@ -208,7 +221,7 @@ impl<'a> RopeSlice<'a> {
         Ok(self.chars_between(start, end))
     }
 
-    /// `slice`, and none where the range doesn't lie inside the text. `O(log n)`.
+    /// Returns [`slice`](Self::slice), or `None` if the range isn't inside the text. `O(log n)`.
     pub fn get_slice<R: TextRange>(&self, char_range: R) -> Option<Self>
         ensures some { IsSome result ↔
             IsRangeIn (length (slice_text self.now)) (R.ends char_range) }
@@ -221,8 +234,8 @@ impl<'a> RopeSlice<'a> {
         }
     }
 
-    /// Where a range of bytes starts and ends, or why it is refused: as in `try_byte_slice`, but
-    /// not for a character that it cuts.
+    /// Returns the start and the end of a range of bytes, with the errors of `try_byte_slice`
+    /// except that of a split character.
     fn bytes_within(&self, ends: Ends) -> Result<(usize, usize), Error>
         ensures { MatchResult result
             (λ indices. IsRangeIn (byte_len (slice_text self.now)) ends ×
@@ -243,8 +256,11 @@ impl<'a> RopeSlice<'a> {
         Ok((start, end))
     }
 
-    /// Where a range of bytes starts and ends, or why it is refused, as in `try_byte_slice`.
-    /// `O(log n)`.
+    /// Returns the start and the end of a range of bytes. `O(log n)`.
+    ///
+    /// # Errors
+    ///
+    /// Those of [`try_byte_slice`](Self::try_byte_slice).
     pub fn byte_indices(&self, ends: Ends) -> Result<(usize, usize), Error>
         ensures { MatchResult result
             (λ indices. IsByteRangeIn (slice_text self.now) ends ×
@@ -261,7 +277,7 @@ impl<'a> RopeSlice<'a> {
         }
     }
 
-    /// `start_at_char` of a byte between two characters.
+    /// `start_at_char` for a byte index, which is a character boundary.
     fn start_at_byte(&self, byte_idx: usize) -> Edge<'a>
         requires { IsCharBoundary (slice_bytes self.now) byte_idx }
         ensures chars { result.counts.chars ≡ char_of_byte (slice_text self.now) byte_idx }
@@ -283,7 +299,7 @@ impl<'a> RopeSlice<'a> {
         }
     }
 
-    /// `end_at_char` of a byte between two characters.
+    /// `end_at_char` for a byte index, which is a character boundary.
     fn end_at_byte(&self, byte_idx: usize) -> Edge<'a>
         requires { IsCharBoundary (slice_bytes self.now) byte_idx }
         ensures chars { result.counts.chars ≡ char_of_byte (slice_text self.now) byte_idx }
@@ -307,7 +323,7 @@ impl<'a> RopeSlice<'a> {
         }
     }
 
-    /// The part from one byte up to another, both between two characters.
+    /// Returns the part between two byte indices, both character boundaries.
     fn bytes_between(&self, start: usize, end: usize) -> Self
         requires order { start ≤ end }
         requires starts { IsCharBoundary (slice_bytes self.now) start }
@@ -316,16 +332,20 @@ impl<'a> RopeSlice<'a> {
             (char_of_byte (slice_text self.now) end) (slice_pieces self.now) }
         ensures bytes { slice_bytes result ≡ between start end (slice_bytes self.now) }
     {
-        // Laws, and the text's facts, for the proof alone.
+        // Needed by the proof only.
         let _ = self.len_bytes();
         let from = self.start_at_byte(start);
         let to = self.end_at_byte(end);
-        // The chunk of a byte's place holds the byte behind it.
+        // The chunk found for a byte contains the byte after it.
         self.between(&from.chunk.or(to.chunk), from.counts, to.counts)
     }
 
-    /// A range of bytes. It lies inside the text: it starts no later than it ends, ends at most at
-    /// `len_bytes`, and neither inside a character. `O(log n)`.
+    /// Returns the slice of a range of bytes. `O(log n)`.
+    ///
+    /// # Requires
+    ///
+    /// The range starts no later than it ends, ends at or before `len_bytes()`, and starts and ends
+    /// at character boundaries.
     pub fn byte_slice<R: TextRange>(&self, byte_range: R) -> Self
         requires { IsByteRangeIn (slice_text self.now) (R.ends byte_range) }
         ensures pieces { slice_pieces result ≡
@@ -338,9 +358,12 @@ impl<'a> RopeSlice<'a> {
         self.bytes_between(ends.start.unwrap_or(0), end)
     }
 
-    /// `byte_slice`, or why the range is refused: `ByteRangeInvalid` where it starts above its end,
-    /// else `ByteRangeOutOfBounds` where it goes past `len_bytes`, else `ByteRangeNotCharBoundary`
-    /// where it starts or ends inside a character. `O(log n)`.
+    /// Returns [`byte_slice`](Self::byte_slice), or why the range is refused. `O(log n)`.
+    ///
+    /// # Errors
+    ///
+    /// `ByteRangeInvalid` if the range starts past its end, else `ByteRangeOutOfBounds` if it goes
+    /// past `len_bytes()`, else `ByteRangeNotCharBoundary` if it starts or ends inside a character.
     pub fn try_byte_slice<R: TextRange>(&self, byte_range: R) -> Result<Self, Error>
         ensures ok { IsOk result ↔ IsByteRangeIn (slice_text self.now) (R.ends byte_range) }
         ensures slice { IfOk result (λ slice. slice_pieces slice ≡
@@ -362,8 +385,8 @@ impl<'a> RopeSlice<'a> {
         Ok(self.between_places(&from, &to))
     }
 
-    /// `byte_slice`, and none where the range doesn't lie inside the text, or cuts a character.
-    /// `O(log n)`.
+    /// Returns [`byte_slice`](Self::byte_slice), or `None` if the range isn't inside the text or
+    /// splits a character. `O(log n)`.
     pub fn get_byte_slice<R: TextRange>(&self, byte_range: R) -> Option<Self>
         ensures some { IsSome result ↔ IsByteRangeIn (slice_text self.now) (R.ends byte_range) }
         ensures slice { IfSome result (λ slice. slice_pieces slice ≡

@@ -1,4 +1,4 @@
--- What a PikeVM is, of what it was built, and what it finds.
+-- What a PikeVM is, what it was built from, and what it finds.
 use Rattle.std.specs.Prelude.{◌≡◌, ◌↔◌, ℕ, ◌+◌, ◌*◌, Bool, true, false, is_some, IsTrue, IsSome, List, [], ◌∷◌, length, Option, Some, None, option_map}
 use Rattle.unicode.specs.Perl.{is_word_char}
 use Rattle.rx_util.specs.declared.search.MatchKind.{MatchKind}
@@ -16,27 +16,26 @@ use Rattle.rx_program.specs.Programs.{ByteProgram, character_program}
 use Rattle.rx_steps.specs.Searching.{IsFirstEnd, answer_slots}
 use Rattle.rx_steps.specs.Standing.{StopsAt}
 use Rattle.rx_steps.specs.Threads.{no_slots}
--- a PikeVM is seen as what it holds of its patterns
+-- contracts see a PikeVM as what it holds of its patterns
 pub use Rattle.rx_engine.specs.Engines.{Engine, EngineSettings, Wanted, nothing_set, size_limit_of, settings_over, by_default, AreNamesOf, AreGroupNamesOf, IsOfTrees, IsEngine, IsBuiltOfTrees, IsBuiltOf, IsBuiltOfAll, AreRefused, IsRefused, IsRefusedOfAll, refusal_of}
 
--- the places that are noted in the two slots of a pattern's group 0
+-- the offsets in the two slots of a pattern's group 0
 abbrev pub start_noted : ℕ → List (Option ℕ) → Option ℕ
 start_noted pattern slots = place_in slots (2 * pattern)
 
 abbrev pub end_noted : ℕ → List (Option ℕ) → Option ℕ
 end_noted pattern slots = place_in slots (2 * pattern + 1)
 
--- its whole match, by these
+-- its whole match, from these
 abbrev pub whole_span : ℕ → List (Option ℕ) → Option Span
 whole_span pattern slots = span_between (start_noted pattern slots) (end_noted pattern slots)
 
--- what is found by the program: the leftmost match, and of those that start there the one that is
--- preferred
+-- what the program finds: the leftmost match, and of those that start there the preferred one
 abbrev pub Finds : ByteProgram → Search → Option (Outcome Notes) → Type 0
 Finds p s out = ProgramFinds is_in is_word_char (character_program p) s out
 
--- a match of which the whole match is noted, in the two slots of its pattern's group 0, and no other
--- group
+-- a match with the offsets of the whole match in the two slots of its pattern's group 0, and of no
+-- other group
 abbrev pub noted_whole : PatternMatch → Outcome Notes
 noted_whole a = record {
   pattern = a.pattern;
@@ -47,15 +46,15 @@ noted_whole a = record {
   };
 }
 
--- what is found by it where all matches are wanted: of all of them one with the greatest end, then
--- with the least start, then of the least pattern
+-- what the program finds among all matches: one with the greatest end, then with the least start,
+-- then of the least pattern
 pub record FindsAmongAll (p : ByteProgram) (s : Search) (out : Option (Outcome Notes))
     : Type 0 where
   pub found : Option PatternMatch
   pub finds : ProgramFindsAll is_in is_word_char (character_program p) s found
   pub out_is : out ≡ option_map noted_whole found
 
--- what is found of this kind
+-- what the program finds for this match kind
 abbrev pub FindsOfKind : MatchKind → ByteProgram → Finding
 FindsOfKind LeftmostFirst p = Finds p
 FindsOfKind All p = FindsAmongAll p
@@ -64,24 +63,24 @@ FindsOfKind All p = FindsAmongAll p
 abbrev pub EngineFinds : Engine → Finding
 EngineFinds e = FindsOfKind e.match_kind e.program
 
--- the match that a walk came to
+-- the match of a walk
 abbrev pub match_of : Outcome Notes → Found
 match_of t = record {
   pattern = t.pattern;
   span = record { start = start_of t; end = end_of t };
 }
 
--- a search finds something, or nothing
+-- whether a search finds a match
 abbrev pub TellsWhether : Finding → Search → Bool → Type 0
 TellsWhether finding s is_there =
     (out : Option (Outcome Notes)) × finding s out × (IsTrue is_there ↔ IsSome out)
 
--- what a search finds, without its groups
+-- the match that a search finds, without its groups
 abbrev pub IsFound : Finding → Search → Option Found → Type 0
 IsFound finding s found =
     (out : Option (Outcome Notes)) × finding s out × (found ≡ option_map match_of out)
 
--- what a search answers: the pattern that it finds, and its slots, as many as are asked for
+-- the result of a search: the pattern that it finds, and its slots, as many as requested
 pub record IsAnswer (finding : Finding) (s : Search) (pattern : Option ℕ)
     (slots : List (Option ℕ)) : Type 0 where
   pub found : Option (Outcome Notes)
@@ -89,21 +88,21 @@ pub record IsAnswer (finding : Finding) (s : Search) (pattern : Option ℕ)
   pub pattern_is : pattern ≡ option_map (λ t. t.pattern) found
   pub slots_are : slots ≡ answer_slots (length slots) found
 
--- a search tells whether there is a match; and which one it is, unless any will do
+-- whether there is a match; and which one, unless any may be reported
 pub record TellsMatch (earliest : Bool) (finding : Finding) (s : Search) (found : Option Found)
     : Type 0 where
   pub whether : TellsWhether finding s (is_some found)
   pub exact : earliest ≡ false → IsFound finding s found
 
--- the same of the pattern and of the places that are noted in slots; none is where nothing is found
+-- the same for the pattern and the offsets in slots; they are none if nothing is found
 pub record TellsSlots (earliest : Bool) (finding : Finding) (s : Search) (pattern : Option ℕ)
     (slots : List (Option ℕ)) : Type 0 where
   pub whether : TellsWhether finding s (is_some pattern)
   pub exact : earliest ≡ false → IsAnswer finding s pattern slots
   pub none : pattern ≡ None → slots ≡ no_slots (length slots)
 
--- ---- what a search with an engine that stands at a place then tells: what is found; or, if any
--- match will do and there is one, what is found up to this place, which is the first end of one
+-- ---- the result of a search that stops at an offset: what it finds; or, if any match may be
+-- reported and there is one, what it finds up to this offset, which is the first end of a match
 
 -- as a match
 abbrev pub IsFoundAt : Bool → Engine → Search → ℕ → Option Found → Type 0
@@ -119,8 +118,9 @@ IsAnswerAt true e s i None slots = IsAnswer (EngineFinds e) s None slots
 IsAnswerAt true e s i (Some k) slots =
     IsFirstEnd e.program s i × IsAnswer (EngineFinds e) (up_to_place s i) (Some k) slots
 
--- where it stands that found a match: where all matches are wanted, and any will do, at the first
--- end of one; leftmost first where a walk stands that began there or before
+-- the offset at which a search that found a match stops: for the leftmost, one reached by a walk
+-- that started at the first end of a match or before it, and that end itself if any match may be
+-- reported; for all matches, the first end of one if any may be reported
 abbrev pub StopsAs : MatchKind → Bool → ByteProgram → Search → ℕ → Type 0
 StopsAs LeftmostFirst earliest p s i = StopsAt earliest p s i
 StopsAs All earliest p s i = earliest ≡ true → IsFirstEnd p s i

@@ -1,4 +1,4 @@
--- What an iterator over an engine's matches has left, and the cache that it was lent.
+-- What an iterator over an engine's matches has left, and the cache that it borrows.
 use Rattle.std.specs.Prelude.{◌≡◌, Option, Result}
 use Rattle.std.specs.Borrow.{MutBor}
 use Rattle.rx_util.specs.declared.search.MatchError.{MatchError}
@@ -23,7 +23,7 @@ engine_of m = m.vm.now
 abbrev pub cache_of : {C : Type 0} {cursor : Ghosts C} → FindMatches C cursor → MutBor CacheView
 cache_of m = m.cache
 
--- a step of the iterator, which searches with the same engine and the same cache on
+-- a step of the iterator, which keeps its engine and its cache
 pub record Gives {C : Type 0} {cursor : Ghosts C} (m : FindMatches C cursor)
     (item : Option (Result Found MatchError)) (n : FindMatches C cursor) : Type 0 where
   pub next : GivesNext (EngineFinds (engine_of m)) match_of (left_of m) item (left_of n)

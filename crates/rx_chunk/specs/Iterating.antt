@@ -1,4 +1,4 @@
--- What comes next in an input, and what an iterator over the matches of a program gives.
+-- The next match in an input, and the items of an iterator over the matches of a program.
 use Rattle.std.specs.Prelude.{◌≡◌, ◌⊎◌, ℕ, ◌+◌, ◌-◌, ◌<◌, ◌≤◌, ◌==◌, Bool, false, true, List, [], ◌∷◌, ◌++◌, map, length, Option, Some, None, option_map, Result, Err, IfSome, IfErr}
 use Rattle.std.specs.Iterator.{Count, Yields, Drains, at_most, size}
 use Rattle.rx_util.specs.declared.search.MatchError.{MatchError}
@@ -21,17 +21,17 @@ pub use Rattle.rx_walks.specs.Iterating.{MatchesLeft, matches_from}
 use Rattle.rx_steps.specs.Searching.{answer_slots}
 use Rattle.rx_chunk.specs.Engines.{Engine, EngineFinds, match_of}
 
--- what a search finds next where the last match, if there was one, ended at `last`: an empty match
--- there is passed over
+-- what a search finds after a match that ended at `last`, if there was one: an empty match there is
+-- skipped
 abbrev pub ComesNext : Finding → Search → Option ℕ → Option (Outcome Notes) → Type 0
 ComesNext finding s last out = FindsNext finding s last out
 
--- that, without its groups
+-- that match, without its groups
 abbrev pub IsFoundNext : Finding → Search → Option ℕ → Option Found → Type 0
 IsFoundNext finding s last found = (out : Option (Outcome Notes)) × ComesNext finding s last out
     × (found ≡ option_map match_of out)
 
--- that as a search answers it: its pattern, and its places in so many slots
+-- the result of a search for it: its pattern, and its offsets in as many slots as there are
 pub record IsNextAnswer (finding : Finding) (s : Search) (last pattern : Option ℕ)
     (slots : List (Option ℕ)) : Type 0 where
   pub out : Option (Outcome Notes)
@@ -39,36 +39,35 @@ pub record IsNextAnswer (finding : Finding) (s : Search) (last pattern : Option 
   pub pattern_is : pattern ≡ option_map (λ t. t.pattern) out
   pub slots_are : slots ≡ answer_slots (length slots) out
 
--- an input over the same content, of which the same is asked but that its span starts here
+-- an input over the same haystack with the same settings, except that its span starts here
 pub record StartsFrom (old new : InputState) (start : ℕ) : Type 0 where
   pub same : IsSameContent old.cursor new.cursor
   pub asked : new.asked ≡ record old.asked { span = record old.asked.span { start = start } }
 
--- the span of an input starts where it did, or one byte further on
+-- the span of an input starts where it did, or one byte later
 abbrev pub StartsThereOrNext : InputState → InputState → Type 0
 StartsThereOrNext old new = (new.asked.span.start ≡ old.asked.span.start)
     ⊎ (new.asked.span.start ≡ old.asked.span.start + 1)
 
--- a refusal is want of memory
+-- an error is out of memory
 abbrev pub IsWantOfMemory : {A : Type 0} → Option (Result A MatchError) → Type 0
 IsWantOfMemory item = IfSome item (λ answer. IfErr answer (λ error. error ≡ Memory))
 
--- a step of an iterator over matches, of each of which it tells something; none comes where nothing
--- more is found, and after a refusal
+-- a step of an iterator over matches, with an item for each: none if no match follows, and none
+-- after an error
 pub record GivesNext {A : Type 0} (finding : Finding) (item_of : Outcome Notes → A)
     (m : MatchesLeft) (item : Option (Result A MatchError)) (n : MatchesLeft) : Type 0 where
   pub gives : GivesMatch finding item_of m item n
   pub refused : IsWantOfMemory item
 
--- a match that comes next ends in the span, not before its start, and behind that where the last
--- one ended there
+-- a next match ends in the span, not before its start, and after that if the last one ended there
 pub record EndsAhead (last : Option ℕ) (s : Search) (end : ℕ) : Type 0 where
   pub on : s.start ≤ end
   pub further : is_last_end last s.start ≡ true → s.start < end
   pub in_span : end ≤ s.end
   pub in_content : end ≤ length s.content
 
--- what is left behind a match that ends there
+-- what is left after a match that ends there
 abbrev pub left_behind : MatchesLeft → ℕ → MatchesLeft
 left_behind m end = record {
   search = from_place_on m.search end;
@@ -76,12 +75,12 @@ left_behind m end = record {
   is_over = false;
 }
 
--- at most so many items come: each match but the first ends further on than the one before
+-- the greatest number of further items: each match but the first ends after the one before
 abbrev pub matches_left : MatchesLeft → Count
 matches_left m = at_most (items_at_most m.is_over (is_last_end m.last_end m.search.start)
     (length m.search.content - m.search.start))
 
--- fewer are left behind a match, and where no more come
+-- fewer are left after a match, and when the iterator has ended
 pub record FewerAreLeft : Type 0 where
   pub behind : (m : MatchesLeft) (end : ℕ) → m.is_over ≡ false
       → EndsAhead m.last_end m.search end
@@ -91,21 +90,21 @@ pub record FewerAreLeft : Type 0 where
 
 -- ---- all matches of an engine
 
--- they are, in order, what is found from each place on
+-- they are, in order, what is found from each offset on
 abbrev pub EngineMatches : Engine → Search → List (Outcome Notes) → Type 0
 EngineMatches e s ms = Matches (finds_on (EngineFinds e) s) s.start ms
 
--- the first members of that list: more may come
+-- the first members of that list, possibly all
 abbrev pub FirstEngineMatches : Engine → Search → List (Outcome Notes) → Type 0
 FirstEngineMatches e s ms = FirstMatches (finds_on (EngineFinds e) s) s.start ms
 
--- what comes next in it behind these, or that none comes
+-- the member after these, or none
 abbrev pub EngineComesNext : Engine → Search → List (Outcome Notes) → Option (Outcome Notes)
     → Type 0
 EngineComesNext e s ms out = matches.ComesNext (finds_on (EngineFinds e) s) s.start ms out
 
--- what an iterator gives from a search on: before a refusal and before it is drained the first
--- matches, drained all of them, and nothing after a refusal
+-- the items of an iterator from a search on: before an error and before its end the first matches,
+-- at its end all of them, and nothing after an error
 pub record GivesInOrder {A F : Type 0} (e : Engine) (item_of : Outcome Notes → A)
     (gives : F → Option (Result A MatchError) → F → Type 0) (s : Search) (m : F) : Type 0 where
   pub first : (n : F) (items : List A) → Yields gives m (not_refused items) n
@@ -116,8 +115,8 @@ pub record GivesInOrder {A F : Type 0} (e : Engine) (item_of : Outcome Notes →
       (others : List (Result A MatchError))
       → Yields gives m (not_refused items ++ Err error ∷ others) n → others ≡ []
 
--- an iterator over the matches of any engine gives them in order; `left` tells what it has left,
--- `item_of` what it tells of each, and `gives` its steps
+-- an iterator over the matches of any engine gives them in order; `left` is what it has left,
+-- `item_of` its item for a match, and `gives` its steps
 abbrev pub GivesByAnyEngine : {A F : Type 0} → (Outcome Notes → A) → (F → MatchesLeft)
     → (F → Option (Result A MatchError) → F → Type 0) → Type 0
 GivesByAnyEngine {A} {F} item_of left gives = (e : Engine)
@@ -125,7 +124,7 @@ GivesByAnyEngine {A} {F} item_of left gives = (e : Engine)
     → GivesMatch (EngineFinds e) item_of (left m) item (left n))
     → (s : Search) (m : F) → left m ≡ matches_from s → GivesInOrder e item_of gives s m
 
--- what is noted of a match in captures of these groups with so many slots
+-- captures of a match, of these groups and with `len` slots
 abbrev pub captured_of : GroupNames → ℕ → Outcome Notes → Captured
 captured_of groups len t = record {
   groups = groups;
@@ -133,12 +132,12 @@ captured_of groups len t = record {
   slots = answer_slots len (Some t);
 }
 
--- and what is noted where nothing is found
+-- captures of what is found, or of no match
 abbrev pub captured_by : GroupNames → ℕ → Option (Outcome Notes) → Captured
 captured_by groups len None = nothing_noted groups len
 captured_by groups len (Some t) = captured_of groups len t
 
--- captures have noted what comes next, and tell the match
+-- captures store the next match
 pub record HasNotedNext (finding : Finding) (s : Search) (last : Option ℕ) (caps : Captured)
     : Type 0 where
   pub out : Option (Outcome Notes)

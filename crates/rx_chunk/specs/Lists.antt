@@ -9,8 +9,8 @@ use Rattle.rx_walks.specs.MatchLaws.{AreInOrder}
 use Rattle.rx_chunk.specs.Engines.{Engine, EngineFinds}
 use Rattle.rx_chunk.specs.Iterating.{EngineComesNext, EngineMatches, FirstEngineMatches}
 
--- what the first members of the list of all matches are: none are; with what comes next they are one
--- more; and they are all where none comes next
+-- the first members of the list of all matches: none are; together with the next one they are one
+-- more; and they are all if no next one follows
 pub record HasFirstMatches (e : Engine) (s : Search) : Type 0 where
   pub none : FirstEngineMatches e s []
   pub one_more : (ms : List (Outcome Notes)) (t : Outcome Notes)
@@ -23,8 +23,8 @@ pub record HasFirstMatches (e : Engine) (s : Search) : Type 0 where
   pub next_is_one : (ms : List (Outcome Notes)) (out out' : Option (Outcome Notes))
       → EngineComesNext e s ms out → EngineComesNext e s ms out' → out ≡ out'
 
--- an engine, whichever match it finds, finds exactly one thing in each search, a match or none, and
--- has exactly one list of matches; they lie inside, rise and don't overlap
+-- an engine finds exactly one thing in each search, a match or none, and has exactly one list of
+-- matches, whichever match it reports; they are in the span, in order, and don't overlap
 pub record HasFinds (e : Engine) : Type 0 where
   pub one_find : (s : Search) (out out' : Option (Outcome Notes)) → EngineFinds e s out
       → EngineFinds e s out' → out ≡ out'

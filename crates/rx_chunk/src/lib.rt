@@ -1,6 +1,6 @@
-//! Engines that search content which lies in pieces for a pattern, and what they are called with:
-//! cursors and inputs (of `rx_input`), and the step that takes the nodes at one place to those at
-//! the next, `Stepper::next_list` (of `rx_steps`).
+//! The PikeVM, an engine that searches haystacks in chunks. Cursors and inputs are those of
+//! `rx_input`, and the step from the nodes at one offset to those at the next,
+//! `Stepper::next_list`, is that of `rx_steps`.
 #![tactic(auto)]
 
 pub mod laws;

@@ -1,4 +1,6 @@
-//! The engine that follows all walks through a program side by side.
+//! The engine that follows all paths through a program at once.
+//!
+//! Each search requires a cache for its engine, and `Memory` is its only error.
 
 ghost use Rattle.std.specs.Prelude.{◌≡◌, ℕ, ◌+◌, ◌*◌, ◌<◌, ◌≤◌, ◌^◌, map, IfOk, IfErr, IsTrue, OnOk, OnErr, None, Some, length, option_map, true, false};
 ghost use Rattle.std.specs.Option.{ForSome};
@@ -36,7 +38,7 @@ mod find_matches;
 pub use config::Config;
 pub use find_matches::FindMatches;
 
-/// Builds a `PikeVM` of a pattern, or of several.
+/// Builds a `PikeVM` from a pattern, or from several.
 #[derive(Debug, Drop)]
 pub struct Builder {
     builder: rx_engine::Builder,
@@ -51,7 +53,7 @@ impl Model for Builder {
 }
 
 impl Builder {
-    /// Returns a builder in which nothing is set.
+    /// Returns a builder with default settings.
     pub fn new() -> Builder
         ensures { result ≡ record { settings = nothing_set; syntax = default_settings } }
     {
@@ -60,7 +62,7 @@ impl Builder {
         }
     }
 
-    /// Returns a builder in which the same is set. The one error is `Memory`.
+    /// Returns a copy. The only error is `Memory`.
     pub fn clone(&self) -> Result<Builder, MatchError>
         ensures same { IfOk result (λ builder. builder ≡ self.now) }
         ensures refused { IfErr result (λ error. error ≡ MatchError.Memory) }
@@ -70,8 +72,8 @@ impl Builder {
         })
     }
 
-    /// Takes over the settings that are set in these, and leaves the others. It drops a prefilter:
-    /// a PikeVM goes by none.
+    /// Sets the settings that are set in `config`, and keeps the others. Drops a prefilter, because
+    /// a PikeVM uses none.
     pub fn configure(&mut self, config: Config) -> &mut Builder
         ensures set { result.now ≡ record self.old {
           settings = settings_over config.engine self.old.settings;
@@ -82,7 +84,7 @@ impl Builder {
         self
     }
 
-    /// Takes these settings of the syntax in place of all that it has.
+    /// Replaces all settings of the syntax.
     pub fn syntax(&mut self, config: syntax::Config) -> &mut Builder
         ensures set { result.now ≡ record self.old { syntax = config } }
         ensures same_reference { result.ghost_name ≡ self.entry.ghost_name }
@@ -91,13 +93,17 @@ impl Builder {
         self
     }
 
-    /// Returns the engine for a pattern. It takes time and memory in proportion to the pattern's
-    /// weight and to the automata of its sets.
+    /// Builds the engine of a pattern, in time and memory proportional to its weight and to the
+    /// automata of its sets.
     ///
-    /// Errors: `TooLong` for a pattern of more than 65,536 bytes, `Nesting` for one that would be a
-    /// pattern at a greater nest limit, `Outside` for one outside the grammar, and `Size` for one
-    /// that is too large for the limit that is set, or, where none is, weighs more than
-    /// 2,147,483,646. `Memory` may come in place of any answer.
+    /// # Errors
+    ///
+    /// - `TooLong` for a pattern of more than 65,536 bytes
+    /// - `Nesting` for a text that is a pattern only with a greater nest limit
+    /// - `Outside` for a text outside the grammar
+    /// - `Size` for a pattern that exceeds the size limit, or, without one, a weight of
+    ///   2,147,483,646
+    /// - `Memory`, which may replace any result
     pub fn build(&self, alloc: Global, pattern: &str) -> Result<PikeVM, BuildError>
         ensures built { IfOk result (λ vm. IsBuiltOf pattern.now self.now vm) }
         ensures refused { IfErr result (λ error. IsRefused pattern.now self.now error) }
@@ -107,12 +113,14 @@ impl Builder {
         })
     }
 
-    /// Returns the engine for patterns that are searched for together: where matches of several
-    /// start at one place, those of an earlier pattern are preferred. With no pattern it never
-    /// finds a match. Time and memory are those of all patterns.
+    /// Builds the engine of patterns that are searched for together, in time and memory as for all
+    /// of them. If matches of several start at the same offset, the earliest pattern is preferred.
+    /// Without a pattern there is never a match.
     ///
-    /// Errors: those of `build`, for the first pattern whose text is refused; and then `Size` where
-    /// the patterns together, and 1 more unless there is exactly one, weigh too much.
+    /// # Errors
+    ///
+    /// Those of [`build`](Self::build), for the first pattern that is refused; then `Size` if the
+    /// patterns together, plus 1 unless there is exactly one, weigh too much.
     pub fn build_many(&self, alloc: Global, patterns: &[&str]) -> Result<PikeVM, BuildError>
         ensures built { IfOk result
             (λ vm. IsBuiltOfAll (map (λ text. text.now) patterns.now) self.now vm) }
@@ -124,10 +132,12 @@ impl Builder {
         })
     }
 
-    /// Returns the engine for what patterns spell, as `build_many` does. The settings of the syntax
-    /// are those that they were parsed with.
+    /// Builds the engine from syntax trees, as [`build_many`](Self::build_many) does from patterns.
+    /// The settings of the syntax are those with which they were parsed.
     ///
-    /// Errors: `Size` where they are too large, and else perhaps `Memory`.
+    /// # Errors
+    ///
+    /// `Size` if they are too large; `Memory`.
     pub fn build_many_from_hir(&self, alloc: Global, hirs: &[&Hir]) -> Result<PikeVM, BuildError>
         ensures built { IfOk result (λ vm. IsBuiltOfTrees
             (map (λ hir. tree_of hir.now) hirs.now) self.now.settings vm) }
@@ -141,14 +151,25 @@ impl Builder {
 }
 
 /// An engine that searches for a pattern, or for several. Contracts see their program, which match
-/// it finds, those of their groups that are noted, and whether it passes over empty matches inside
-/// a character.
+/// it reports, the groups that it captures, and whether it skips empty matches inside a character.
+///
+/// # Examples
+///
+/// ```rust
+/// let vm = PikeVM::new(rt.alloc(), r"(?<name>\w+)@(\w+)")?;
+/// let mut cache = vm.create_cache()?;
+/// let mut caps = vm.create_captures()?;
+/// let pieces: [&[u8]; 3] = [b"a frog@pond, ", b"to", b"ad@road"];
+/// let mut input = Input::new(ChunkCursor::new(&pieces));
+/// pikevm::search(&vm, &mut cache, &mut input, &mut caps)?;
+/// assert_eq!(rt; caps.get_group(0), Some(Span { start: 2, end: 11 }));
+/// ```
 #[derive(Debug)]
 pub struct PikeVM {
     compiled: Compiled,
 }
 
-// Written out, so that no crate above proves anew how what it holds is let go.
+// Written out, so that crates above needn't prove how the fields are dropped.
 impl Drop for PikeVM {
     fn drop(self) {
         let PikeVM {
@@ -166,8 +187,8 @@ impl Model for PikeVM {
 }
 
 impl PikeVM {
-    /// Returns the engine for a pattern, under default settings. Errors are those of
-    /// `Builder::build`.
+    /// Builds the engine of a pattern with default settings. Errors are those of
+    /// [`Builder::build`].
     pub fn new(alloc: Global, pattern: &str) -> Result<PikeVM, BuildError>
         ensures built { IfOk result (λ vm. IsBuiltOf pattern.now by_default vm) }
         ensures refused { IfErr result (λ error. IsRefused pattern.now by_default error) }
@@ -175,8 +196,8 @@ impl PikeVM {
         Builder::new().build(alloc, pattern)
     }
 
-    /// Returns the engine for patterns that are searched for together, under default settings.
-    /// Errors are those of `Builder::build_many`.
+    /// Builds the engine of patterns that are searched for together, with default settings. Errors
+    /// are those of [`Builder::build_many`].
     pub fn new_many(alloc: Global, patterns: &[&str]) -> Result<PikeVM, BuildError>
         ensures built { IfOk result
             (λ vm. IsBuiltOfAll (map (λ text. text.now) patterns.now) by_default vm) }
@@ -186,7 +207,7 @@ impl PikeVM {
         Builder::new().build_many(alloc, patterns)
     }
 
-    /// Returns the same engine, which shares program and groups. The one error is `Memory`. `O(1)`.
+    /// Returns a copy that shares program and groups. `O(1)`. The only error is `Memory`.
     pub fn clone(&self) -> Result<PikeVM, MatchError>
         ensures same { IfOk result (λ vm. vm ≡ self.now) }
         ensures refused { IfErr result (λ error. error ≡ MatchError.Memory) }
@@ -196,8 +217,8 @@ impl PikeVM {
         })
     }
 
-    /// Returns a cache for searches with it, which takes memory in proportion to the program's
-    /// states and those of their automata. The one error is `Memory`.
+    /// Returns a cache for searches with this engine. Its memory is proportional to the program's
+    /// states and those of their automata. The only error is `Memory`.
     pub fn create_cache(&self) -> Result<Cache, MatchError>
         ensures made { IfOk result (λ cache. IsCacheOf self.now.program cache) }
         ensures refused { IfErr result (λ error. error ≡ MatchError.Memory) }
@@ -205,8 +226,8 @@ impl PikeVM {
         Cache::new(self.program().allocator(), self)
     }
 
-    /// Returns captures with slots for all groups, in which nothing is noted. The one error is
-    /// `Memory`. `O(n)` in the number of groups.
+    /// Returns captures of no match, with slots for all groups. `O(n)` in the number of groups. The
+    /// only error is `Memory`.
     pub fn create_captures(&self) -> Result<Captures, MatchError>
         ensures made { IfOk result (λ caps. caps
             ≡ nothing_noted self.now.groups (slot_len self.now.groups)) }
@@ -226,7 +247,7 @@ impl PikeVM {
         self.compiled.group_info()
     }
 
-    /// Returns the program that it searches for, for the engines that search by it too. `O(1)`.
+    /// Returns the program, which other engines share. `O(1)`.
     pub fn program(&self) -> &Program
         ensures program { result.now ≡ self.now.program }
         ensures engine { IsEngine self.now }
@@ -234,8 +255,8 @@ impl PikeVM {
         self.compiled.program()
     }
 
-    /// Returns how many groups its patterns have together, the whole match of each among them,
-    /// whether they are noted or not. `O(1)`.
+    /// Returns the number of groups of its patterns, captured or not, including the whole match of
+    /// each. `O(1)`.
     pub fn captures_len(&self) -> usize
         ensures len { result ≡ self.now.captures_len }
         ensures engine { IsEngine self.now }
@@ -243,8 +264,8 @@ impl PikeVM {
         self.compiled.captures_len()
     }
 
-    /// Returns how many groups stand in each match, the whole match among them and whether they are
-    /// noted or not, and `None` where matches differ in that, or where there is no pattern. `O(1)`.
+    /// Returns the number of groups in every match, captured or not, including the whole match.
+    /// `None` if matches differ in that, or if there is no pattern. `O(1)`.
     pub fn static_captures_len(&self) -> Option<usize>
         ensures len { result ≡ self.now.static_captures_len }
         ensures engine { IsEngine self.now }
@@ -252,14 +273,15 @@ impl PikeVM {
         self.compiled.static_captures_len()
     }
 
-    /// Returns which of all matches it finds. `O(1)`.
+    /// Returns which of all matches it reports. `O(1)`.
     pub fn match_kind(&self) -> MatchKind
         ensures { result ≡ self.now.match_kind }
     {
         self.compiled.match_kind()
     }
 
-    /// Returns whether empty matches inside a character are passed over, for these engines too.
+    /// Returns whether empty matches inside a character are skipped, also by the engines that share
+    /// the program.
     pub fn utf8_empty(&self) -> bool
         ensures { result ≡ self.now.utf8_empty }
     {
@@ -267,8 +289,8 @@ impl PikeVM {
     }
 }
 
-/// What searches with an engine keep from one to the next, so that they ask for memory once. It
-/// serves the engine that it was made for or reset for, after each search again, refused or not.
+/// Memory that searches with an engine reuse. It is for the engine that it was made or reset for,
+/// and remains usable after each search, also after an error.
 #[derive(Debug)]
 pub struct Cache {
     room: search::Cache,
@@ -276,7 +298,7 @@ pub struct Cache {
     places: Vec<Option<NonMaxUsize>>,
 }
 
-// Written out, so that no crate above proves anew how what it holds is let go.
+// Written out, so that crates above needn't prove how the fields are dropped.
 impl Drop for Cache {
     fn drop(self) {
         let Cache {
@@ -295,7 +317,7 @@ impl Model for Cache {
 }
 
 impl Cache {
-    /// Returns a cache for searches with an engine, as `create_cache` does.
+    /// Returns a cache for searches with an engine, as [`PikeVM::create_cache`] does.
     pub fn new(alloc: Global, vm: &PikeVM) -> Result<Cache, MatchError>
         ensures made { IfOk result (λ cache. IsCacheOf vm.now.program cache) }
         ensures refused { IfErr result (λ error. error ≡ MatchError.Memory) }
@@ -305,7 +327,7 @@ impl Cache {
         Ok(Cache { room, places })
     }
 
-    /// Returns a cache for the same engine, which knows what this one knows. The one error is
+    /// Returns a copy for the same engine, with what this one has cached. The only error is
     /// `Memory`.
     pub fn clone(&self) -> Result<Cache, MatchError>
         ensures same { IfOk result (λ cache. cache ≡ record self.now { followed = 0 }) }
@@ -316,8 +338,8 @@ impl Cache {
         Ok(Cache { room, places })
     }
 
-    /// Makes the cache one for searches with this engine. The one error is `Memory`, which leaves
-    /// the cache as it was.
+    /// Makes this a cache for searches with another engine. The only error is `Memory`, which
+    /// leaves the cache unchanged.
     pub fn reset(&mut self, vm: &PikeVM) -> Result<(), MatchError>
         ensures made { OnOk result (IsCacheOf vm.now.program self.new) }
         ensures kept { OnErr result (self.new ≡ self.old) }
@@ -331,26 +353,34 @@ impl Cache {
         made
     }
 
-    /// Returns about how many bytes its lists take: a count that no contract fixes.
+    /// Returns the approximate number of bytes of its lists. No contract fixes it.
     pub fn memory_usage(&self) -> usize {
         self.room.memory_usage()
     }
 }
 
-/// Returns the pattern of the match that is found, if there is one, and puts its places into the
-/// slots, as many as there are; all others hold none. Of a single pattern those of group k are 2k
-/// and 2k + 1; of several those of pattern p's group 0 are 2p and 2p + 1, and those of its further
-/// groups stand behind these of all patterns, as `group_info` tells. Where `earliest` of the input
-/// is set, it stops at the first end of a match: what is in the slots is what is found up to there.
-/// The input asks for the same afterwards.
+/// Searches for a match, returns its pattern, and writes its offsets into the slots, as many as
+/// there are. All other slots become `None`.
 ///
-/// The one error is `Memory`: then no slot holds a place. Requires that the cache is one for the
-/// engine, as it is afterwards too.
+/// With one pattern, the slots of group k are 2k and 2k + 1. With several, those of pattern p's
+/// group 0 are 2p and 2p + 1, and those of the other groups follow these of all patterns, as
+/// `group_info` reports. If the input is set to `earliest`, the search stops at the first end of a
+/// match, and the slots are those of what is found up to there. The settings of the input stay.
 ///
-/// It stops where a match is found and no walk is left to follow. An engine for all matches goes
-/// through all of the span unless it is anchored; of groups it notes the whole match alone. Each
-/// node of the program is followed once at most at each place (`serves`), which takes time in
-/// proportion to the program times the content, and, but for all matches, times the slots.
+/// # Requires
+///
+/// The cache is for this engine, which it remains.
+///
+/// # Errors
+///
+/// `Memory`; all slots are then `None`.
+///
+/// # Complexity
+///
+/// The search stops once a match is found and no path is left to follow. An engine for all matches
+/// searches the whole span unless it is anchored, and captures only the whole match. Each node of
+/// the program is followed at most once at each offset (`serves`). That takes time proportional to
+/// the program times the haystack, and, except for all matches, times the slots.
 pub fn search_slots<C: Cursor>(
     vm: &PikeVM,
     cache: &mut Cache,
@@ -372,7 +402,7 @@ pub fn search_slots<C: Cursor>(
     seek(vm, &mut cache.room, input, earliest, slots)
 }
 
-/// Searches as `search_slots` does, with `earliest` as it is said here.
+/// Searches as `search_slots` does, with this `earliest`.
 fn seek<C: Cursor>(
     vm: &PikeVM,
     cache: &mut search::Cache,
@@ -399,7 +429,7 @@ fn seek<C: Cursor>(
     }
 }
 
-/// Searches for the leftmost match, whichever the engine finds, with `earliest` as it is said here.
+/// Searches for the leftmost match, whatever the engine's match kind, with this `earliest`.
 fn seek_first<C: Cursor>(
     vm: &PikeVM,
     cache: &mut search::Cache,
@@ -424,10 +454,18 @@ fn seek_first<C: Cursor>(
     search::search_slots(vm.program(), cache, input, utf8_empty, earliest, slots)
 }
 
-/// Notes what is found in captures, as `search_slots` does in slots, and under its condition. In
-/// captures that the engine made, or others of its groups with two slots for each pattern and more,
-/// group 0 is then the whole match. The one error is `Memory`: then no pattern is noted, and no
-/// slot holds a place.
+/// Searches for a match and stores it in captures, as [`search_slots`] does in slots.
+///
+/// Group 0 is the whole match if the captures have the engine's groups and at least two slots for
+/// each pattern, as those that the engine makes.
+///
+/// # Requires
+///
+/// The cache is for this engine.
+///
+/// # Errors
+///
+/// `Memory`; the captures are then of no match, and all slots are `None`.
 pub fn search<C: Cursor>(
     vm: &PikeVM,
     cache: &mut Cache,
@@ -453,7 +491,7 @@ pub fn search<C: Cursor>(
     note(vm, cache, input, earliest, caps)
 }
 
-/// Notes what is found, as `search` does, with `earliest` as it is said here.
+/// Searches as `search` does, with this `earliest`.
 fn note<C: Cursor>(
     vm: &PikeVM,
     cache: &mut Cache,
@@ -483,9 +521,9 @@ fn note<C: Cursor>(
     Ok(())
 }
 
-/// Returns whether there is a match. It stops at the first end of one, and takes time in proportion
-/// to the program times the content at most. The one error is `Memory`. Requires that the cache is
-/// one for the engine.
+/// Returns whether there is a match. Stops at the first end of one, and takes time at most
+/// proportional to the program times the haystack. Requires a cache for this engine. The only error
+/// is `Memory`.
 pub fn is_match<C: Cursor>(
     vm: &PikeVM,
     cache: &mut Cache,
@@ -504,8 +542,7 @@ pub fn is_match<C: Cursor>(
     Ok(pattern.is_some())
 }
 
-/// Slots for the whole match of each pattern of the engine: those at hand, or, where these are too
-/// few, so many as are needed.
+/// Returns slots for the whole match of each pattern: `slots`, grown if there are too few.
 fn whole_slots<'s>(
     vm: &PikeVM,
     slots: &'s mut Vec<Option<NonMaxUsize>>,
@@ -519,7 +556,7 @@ fn whole_slots<'s>(
     Ok(slots)
 }
 
-/// The place noted in a slot, if there is one.
+/// Returns the offset in a slot.
 fn place_in(slots: &[Option<NonMaxUsize>], slot: usize) -> Option<usize>
     ensures { result ≡ place_in slots.now slot }
 {
@@ -529,7 +566,7 @@ fn place_in(slots: &[Option<NonMaxUsize>], slot: usize) -> Option<usize>
     }
 }
 
-/// The places noted in the two slots of a pattern's group 0, if they are there.
+/// Returns the offsets in the two slots of a pattern's group 0.
 fn whole_places(pattern: PatternID, slots: &[Option<NonMaxUsize>]) -> (Option<usize>, Option<usize>)
     ensures { result ≡ (start_noted pattern slots.now, end_noted pattern slots.now) }
 {
@@ -540,9 +577,8 @@ fn whole_places(pattern: PatternID, slots: &[Option<NonMaxUsize>]) -> (Option<us
     (place_in(slots, 2 * number), place_in(slots, 2 * number + 1))
 }
 
-/// Returns the match of a pattern by the two slots of its group 0, from the place in the first to
-/// that in the second, if both are there. Requires that the second isn't before the first, as it
-/// isn't where a search put them there.
+/// Returns the match of a pattern, given the slots of its group 0, or `None` if one of them is
+/// empty. Requires a match that doesn't end before it starts, as after a search.
 pub fn match_in(pattern: PatternID, slots: &[Option<NonMaxUsize>]) -> Option<Match>
     requires ordered { ForSome (whole_span pattern slots.now) (λ span. span.start ≤ span.end) }
     ensures { result ≡ option_map (λ span. record { pattern = pattern; span = span })
@@ -554,8 +590,8 @@ pub fn match_in(pattern: PatternID, slots: &[Option<NonMaxUsize>]) -> Option<Mat
     }
 }
 
-/// Returns the match that is found, as `search` notes it: it ends in the span. The one error is
-/// `Memory`. Requires that the cache is one for the engine.
+/// Searches for a match and returns it. It ends in the span. Requires a cache for this engine. The
+/// only error is `Memory`.
 pub fn find<C: Cursor>(
     vm: &PikeVM,
     cache: &mut Cache,
@@ -575,7 +611,7 @@ pub fn find<C: Cursor>(
     look_for(vm, cache, input, earliest)
 }
 
-/// The match that is found, as `find` answers it, with `earliest` as it is said here.
+/// Searches as `find` does, with this `earliest`.
 fn look_for<C: Cursor>(
     vm: &PikeVM,
     cache: &mut Cache,
@@ -600,8 +636,7 @@ fn look_for<C: Cursor>(
     Ok(match_in(pattern, slots))
 }
 
-/// Whether the match of a pattern whose places stand in the slots is an empty one where the last
-/// one ended.
+/// Returns whether the match of a pattern in the slots is empty and at the end of the last one.
 fn is_empty_at_last(
     pattern: PatternID,
     slots: &[Option<NonMaxUsize>],
@@ -617,12 +652,19 @@ fn is_empty_at_last(
     start == end && last_match_end == end
 }
 
-/// Returns the pattern of the match that comes next where the last one, if there was one, ended at
-/// `last_match_end`, and puts its places into the slots, as many as there are; all others hold
-/// none. An empty match there is passed over, and the search goes on one byte further than the span
-/// starts. It is a whole match, also where `earliest` is set. The one error is `Memory`: then no
-/// slot holds a place. Requires that the cache is one for the engine, and two slots for each of its
-/// patterns or more.
+/// Searches for the next match after one that ended at `last_match_end`, returns its pattern, and
+/// writes its offsets into the slots, as many as there are. All other slots become `None`.
+///
+/// An empty match there is skipped, and the search continues one byte after the start of the span.
+/// The whole match is reported even if the input is set to `earliest`.
+///
+/// # Requires
+///
+/// The cache is for this engine, and there are at least two slots for each of its patterns.
+///
+/// # Errors
+///
+/// `Memory`; all slots are then `None`.
 pub fn next_slots<C: Cursor>(
     vm: &PikeVM,
     cache: &mut Cache,
@@ -644,7 +686,7 @@ pub fn next_slots<C: Cursor>(
     next_in(vm, &mut cache.room, input, slots, last_match_end)
 }
 
-/// What comes next, as `next_slots` finds it.
+/// Searches as `next_slots` does.
 fn next_in<C: Cursor>(
     vm: &PikeVM,
     cache: &mut search::Cache,
@@ -674,8 +716,8 @@ fn next_in<C: Cursor>(
     seek(vm, cache, input, false, slots)
 }
 
-/// Returns the match that comes next, as `next_slots` finds it. The one error is `Memory`. Requires
-/// that the cache is one for the engine.
+/// Returns the next match, as [`next_slots`] finds it. Requires a cache for this engine. The only
+/// error is `Memory`.
 pub fn find_next<C: Cursor>(
     vm: &PikeVM,
     cache: &mut Cache,
@@ -699,9 +741,9 @@ pub fn find_next<C: Cursor>(
     Ok(match_in(pattern, slots))
 }
 
-/// Notes the match that comes next, as `next_slots` finds it, with all its groups. The one error is
-/// `Memory`: then no pattern is noted. Requires that the cache is one for the engine, and the
-/// captures of its groups, with two slots or more.
+/// Stores the next match in captures with all its groups, as [`next_slots`] finds it. Requires a
+/// cache for this engine, and captures of its groups with at least two slots for each pattern. The
+/// only error is `Memory`; the captures are then of no match.
 pub fn search_next<C: Cursor>(
     vm: &PikeVM,
     cache: &mut Cache,
@@ -732,9 +774,9 @@ pub fn search_next<C: Cursor>(
     Ok(())
 }
 
-/// Returns an iterator over the matches in an input, one after the other. An empty match where the
-/// one before ended is passed over. Requires that the cache is one for the engine; once the
-/// iterator is dropped it serves again.
+/// Returns an iterator over the matches in an input. An empty match at the end of the previous one
+/// is skipped. Requires a cache for this engine, which is usable again once the iterator is
+/// dropped.
 pub fn find_iter<'r, 'c, C: Cursor>(
     vm: &'r PikeVM,
     cache: &'c mut Cache,

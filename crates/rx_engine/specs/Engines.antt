@@ -1,4 +1,4 @@
--- What an engine holds of patterns, and of what that was built.
+-- What an engine holds of patterns, and what it was built from.
 use Rattle.std.specs.Prelude.{◌≡◌, ◌↔◌, ◌<◌, ◌≤◌, ℕ, ◌+◌, Bool, true, List, [], ◌∷◌, All, length, take, sum_by, Option, Some, None, slice_get, unwrap_or}
 use Rattle.std.specs.Option.{option_or}
 use Rattle.std.specs.Str.{chars}
@@ -20,9 +20,9 @@ use Rattle.rx_program.specs.Code.{program_of}
 use Rattle.rx_program.specs.Programs.{ByteProgram, character_program}
 use Rattle.rx_program.specs.Sizes.{IsTooLarge, told_limit, weight_of_all}
 
--- a program, which match is found, the groups of its patterns that are noted, which ones these are,
--- how many there are with those that aren't, how many of them stand in each match where that is one
--- number, and whether it passes over empty matches inside a character
+-- a program, which match is reported, the groups of its patterns that are captured, which kind
+-- these are, the number of all groups, the number of groups in every match if it is the same for
+-- all, and whether empty matches inside a character are skipped
 pub record Engine : Type 0 where
   pub program : ByteProgram
   pub match_kind : MatchKind
@@ -32,12 +32,12 @@ pub record Engine : Type 0 where
   pub static_captures_len : Option ℕ
   pub utf8_empty : Bool
 
--- settings that were set; the others are the defaults
+-- settings that were set; the others have their defaults
 pub record EngineSettings : Type 0 where
   pub match_kind : Option MatchKind
   pub utf8_empty : Option Bool
   pub line_terminator : Option ℕ
-  -- how many bytes of upstream's measure a program may take; or without a limit
+  -- the size limit of a program in bytes, as upstream measures it, or no limit
   pub nfa_size_limit : Option (Option ℕ)
   pub which_captures : Option WhichCaptures
 
@@ -50,11 +50,11 @@ nothing_set = record {
   which_captures = None;
 }
 
--- the limit that was set; without one a program may weigh as much as numbers of states allow
+-- the limit that was set; without one a program may weigh as much as state numbers allow
 abbrev pub size_limit_of : EngineSettings → Option ℕ
 size_limit_of settings = unwrap_or settings.nfa_size_limit None
 
--- settings that are set in the first, and else those of the second
+-- the settings of the first, with those of the second where they aren't set
 abbrev pub settings_over : EngineSettings → EngineSettings → EngineSettings
 settings_over new old = record {
   match_kind = option_or new.match_kind old.match_kind;
@@ -79,25 +79,25 @@ pub record AreNamesOf (tree : Tree) (names : List (Option Name)) : Type 0 where
   pub named : (k : ℕ) (name : Name)
       → (slice_get names k ≡ Some (Some name)) ↔ HasName tree (k + 1) name
 
--- the groups of trees that stand beside one another, those of each from group 1 on
+-- the groups of several trees, those of each from group 1 on
 abbrev pub AreGroupNamesOf : List Tree → GroupNames → Type 0
 AreGroupNamesOf [] groups = groups ≡ []
 AreGroupNamesOf (tree ∷ trees) [] = ⊥
 AreGroupNamesOf (tree ∷ trees) (names ∷ groups) = AreNamesOf tree names
     × AreGroupNamesOf trees groups
 
--- those of them that are noted: all, or the groups 0 alone
+-- the groups that are captured: all, or only the groups 0
 pub record AreNotedOf (which : WhichCaptures) (trees : List Tree)
     (groups : GroupNames) : Type 0 where
   pub all_groups : GroupNames
   pub are_groups : AreGroupNamesOf trees all_groups
   pub noted : groups ≡ noted_groups which all_groups
 
--- how many groups trees have together, the whole match of each among them
+-- the number of groups of all trees, including the whole match of each
 abbrev pub captures_len_of : List Tree → ℕ
 captures_len_of trees = sum_by (λ tree. length (numbers_of tree) + 1) trees
 
--- the program and the groups of an engine are those of trees, which are such as texts may spell
+-- the program and the groups of an engine are those of these well-formed trees
 pub record IsOfTrees (e : Engine) (trees : List Tree) : Type 0 where
   pub well_formed : All IsWellFormed trees
   pub program : character_program e.program ≡ program_of trees e.program.line_terminator
@@ -108,7 +108,7 @@ pub record IsOfTrees (e : Engine) (trees : List Tree) : Type 0 where
 abbrev pub IsEngine : Engine → Type 0
 IsEngine e = (trees : List Tree) × IsOfTrees e trees
 
--- it was built of these trees, which together aren't too large
+-- it was built from these trees, which together aren't too large
 pub record IsBuiltOfTrees (trees : List Tree) (settings : EngineSettings) (e : Engine)
     : Type 0 where
   pub fits : IsTooLarge (size_limit_of settings) (weight_of_all trees) → ⊥
@@ -118,26 +118,26 @@ pub record IsBuiltOfTrees (trees : List Tree) (settings : EngineSettings) (e : E
   pub utf8_empty : e.utf8_empty ≡ unwrap_or settings.utf8_empty true
   pub which_captures : e.which_captures ≡ unwrap_or settings.which_captures which.All
 
--- it was built of a pattern: of the tree that the pattern spells
+-- it was built from a pattern: from the tree of its text
 pub record IsBuiltOf (text : List ℕ) (wanted : Wanted) (e : Engine) : Type 0 where
   pub tree : Tree
   pub spells : Spells (chars text) wanted.syntax tree
   pub built : IsBuiltOfTrees (tree ∷ []) wanted.settings e
 
--- each text, given as its bytes, spells the tree beside it
+-- each text, given as bytes, has the tree at the same index
 abbrev pub Spell : List (List ℕ) → Settings → List Tree → Type 0
 Spell [] syntax trees = trees ≡ []
 Spell (text ∷ texts) syntax [] = ⊥
 Spell (text ∷ texts) syntax (tree ∷ trees) =
     Spells (chars text) syntax tree × Spell texts syntax trees
 
--- it was built of patterns: of the trees that they spell
+-- it was built from patterns: from the trees of their texts
 pub record IsBuiltOfAll (texts : List (List ℕ)) (wanted : Wanted) (e : Engine) : Type 0 where
   pub trees : List Tree
   pub spell : Spell texts wanted.syntax trees
   pub built : IsBuiltOfTrees trees wanted.settings e
 
--- why a text spells no tree
+-- why a text has no tree
 pub data IsRefusedText (text : List ℕ) (syntax : Settings) : SyntaxError → Type 0 where
   too_long : 65536 < length text → IsRefusedText text syntax errors.TooLong
   nesting : IsTooDeep (chars text) syntax → IsRefusedText text syntax errors.Nesting
@@ -150,7 +150,7 @@ pub data AreRefused (trees : List Tree) (settings : EngineSettings) : BuildError
       → AreRefused trees settings (build.Size (told_limit (size_limit_of settings)))
   no_memory : AreRefused trees settings build.Memory
 
--- why a pattern, given as its bytes, has no engine with these settings
+-- why a pattern, given as bytes, has no engine with these settings
 pub data IsRefused (text : List ℕ) (wanted : Wanted) : BuildError → Type 0 where
   by_text : {error : SyntaxError} → IsRefusedText text wanted.syntax error
       → IsRefused text wanted (build.Syntax 0 error)
@@ -158,8 +158,8 @@ pub data IsRefused (text : List ℕ) (wanted : Wanted) : BuildError → Type 0 w
       → AreRefused (tree ∷ []) wanted.settings error → IsRefused text wanted error
   memory : IsRefused text wanted build.Memory
 
--- why patterns have no engine: the text of one is refused, and each before it spells a tree; or all
--- spell trees, and these are refused
+-- why patterns have no engine: one is refused and each before it has a tree; or all have trees, and
+-- these are refused
 pub data IsRefusedOfAll (texts : List (List ℕ)) (wanted : Wanted) : BuildError → Type 0 where
   by_first_text : {k : ℕ} {error : SyntaxError} (text : List ℕ) (trees : List Tree)
       → slice_get texts k ≡ Some text → Spell (take k texts) wanted.syntax trees
@@ -169,13 +169,13 @@ pub data IsRefusedOfAll (texts : List (List ℕ)) (wanted : Wanted) : BuildError
       → AreRefused trees wanted.settings error → IsRefusedOfAll texts wanted error
   want_of_memory : IsRefusedOfAll texts wanted build.Memory
 
--- why the pattern with this number has no engine: its text is refused, or there was no memory
+-- why the pattern with this number has no engine: its text is refused, or memory ran out
 pub data IsRefusedAt (k : ℕ) (text : List ℕ) (syntax : Settings) : BuildError → Type 0 where
   text_there : {error : SyntaxError} → IsRefusedText text syntax error
       → IsRefusedAt k text syntax (build.Syntax k error)
   memory_there : IsRefusedAt k text syntax build.Memory
 
--- what a refusal of the text of the pattern with this number is as one of an engine
+-- the error of building for an error of parsing the pattern with this number
 abbrev pub refusal_of : ℕ → SyntaxError → BuildError
 refusal_of k errors.Memory = build.Memory
 refusal_of k error = build.Syntax k error

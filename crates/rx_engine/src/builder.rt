@@ -1,4 +1,4 @@
-//! What builds what an engine holds of patterns.
+//! Building what an engine holds of patterns.
 
 ghost use Rattle.std.specs.Prelude.{◌≡◌, ◌<◌, [], ◌∷◌, IfOk, IfErr, Some, length, map, slice_get};
 ghost use Rattle.std.specs.Str.{chars};
@@ -34,7 +34,7 @@ impl Model for Builder {
 }
 
 impl Builder {
-    /// Returns a builder in which nothing is set.
+    /// Returns a builder with default settings.
     pub fn new() -> Builder
         ensures { result ≡ record { settings = nothing_set; syntax = default_settings } }
     {
@@ -44,7 +44,11 @@ impl Builder {
         }
     }
 
-    /// Returns a builder in which the same is set. The one error is `Memory`.
+    /// Returns a copy.
+    ///
+    /// # Errors
+    ///
+    /// `Memory`.
     pub fn clone(&self) -> Result<Builder, MatchError>
         ensures same { IfOk result (λ builder. builder ≡ self.now) }
         ensures refused { IfErr result (λ error. error ≡ MatchError.Memory) }
@@ -55,7 +59,7 @@ impl Builder {
         })
     }
 
-    /// Takes over the settings that are set in these, and leaves the others.
+    /// Sets the settings that are set in `config`, and keeps the others.
     pub fn configure(&mut self, config: Config) -> &mut Builder
         ensures set { result.now ≡ record self.old {
           settings = settings_over config self.old.settings;
@@ -66,7 +70,7 @@ impl Builder {
         self
     }
 
-    /// Takes these settings of the syntax in place of all that it has.
+    /// Replaces all settings of the syntax.
     pub fn syntax(&mut self, config: syntax::Config) -> &mut Builder
         ensures set { result.now ≡ record self.old { syntax = config } }
         ensures same_reference { result.ghost_name ≡ self.entry.ghost_name }
@@ -75,13 +79,20 @@ impl Builder {
         self
     }
 
-    /// Returns what an engine holds of a pattern. It takes time and memory in proportion to the
-    /// pattern's weight and to the automata of its sets.
+    /// Builds what an engine holds of a pattern.
     ///
-    /// Errors: `TooLong` for a pattern of more than 65,536 bytes, `Nesting` for one that would be a
-    /// pattern at a greater nest limit, `Outside` for one outside the grammar, and `Size` for one
-    /// that is too large for the limit that is set, or, where none is, weighs more than
-    /// 2,147,483,646. `Memory` may come in place of any answer.
+    /// # Errors
+    ///
+    /// - `TooLong` for a pattern of more than 65,536 bytes
+    /// - `Nesting` for a text that is a pattern only with a greater nest limit
+    /// - `Outside` for a text outside the grammar
+    /// - `Size` for a pattern that exceeds the size limit, or, without one, a weight of
+    ///   2,147,483,646
+    /// - `Memory`, which may replace any result
+    ///
+    /// # Complexity
+    ///
+    /// Time and memory proportional to the pattern's weight and to the automata of its sets.
     pub fn build(&self, alloc: Global, pattern: &str) -> Result<Compiled, BuildError>
         ensures built { IfOk result (λ compiled. IsBuiltOf pattern.now self.now compiled) }
         ensures refused { IfErr result (λ error. IsRefused pattern.now self.now error) }
@@ -89,12 +100,18 @@ impl Builder {
         self.build_many(alloc, &[pattern])
     }
 
-    /// Returns what an engine holds of patterns that are searched for together: where matches of
-    /// several start at one place, those of an earlier pattern are preferred. With no pattern it
-    /// never finds a match. Time and memory are those of all patterns.
+    /// Builds what an engine holds of patterns that are searched for together. If matches of
+    /// several start at the same offset, the earliest pattern is preferred. Without a pattern there
+    /// is never a match.
     ///
-    /// Errors: those of `build`, for the first pattern whose text is refused; and then `Size` where
-    /// the patterns together, and 1 more unless there is exactly one, weigh too much.
+    /// # Errors
+    ///
+    /// Those of [`build`](Self::build), for the first pattern that is refused; then `Size` if the
+    /// patterns together, plus 1 unless there is exactly one, weigh too much.
+    ///
+    /// # Complexity
+    ///
+    /// As for `build`, over all patterns.
     pub fn build_many(&self, alloc: Global, patterns: &[&str]) -> Result<Compiled, BuildError>
         ensures built { IfOk result (λ compiled.
             IsBuiltOfAll (map (λ text. text.now) patterns.now) self.now compiled) }
@@ -106,10 +123,12 @@ impl Builder {
         self.build_many_from_hir(alloc, &borrowed)
     }
 
-    /// Returns what an engine holds of what a pattern spells, as `build` does. The settings of the
-    /// syntax are those that it was parsed with.
+    /// Builds from a syntax tree, as [`build`](Self::build) does from a pattern. The settings of
+    /// the syntax are those with which it was parsed.
     ///
-    /// Errors: `Size` where it is too large, and else perhaps `Memory`.
+    /// # Errors
+    ///
+    /// `Size` if it is too large; `Memory`.
     pub fn build_from_hir(&self, alloc: Global, hir: &Hir) -> Result<Compiled, BuildError>
         ensures built { IfOk result (λ compiled.
             IsBuiltOfTrees (tree_of hir.now ∷ []) self.now.settings compiled) }
@@ -119,8 +138,11 @@ impl Builder {
         self.build_many_from_hir(alloc, &[hir])
     }
 
-    /// Returns what an engine holds of what patterns spell, as `build_many` does, with the errors
-    /// of `build_from_hir`.
+    /// Builds from syntax trees, as [`build_many`](Self::build_many) does from patterns.
+    ///
+    /// # Errors
+    ///
+    /// Those of [`build_from_hir`](Self::build_from_hir).
     pub fn build_many_from_hir(&self, alloc: Global, hirs: &[&Hir]) -> Result<Compiled, BuildError>
         ensures built { IfOk result (λ compiled. IsBuiltOfTrees
             (map (λ hir. tree_of hir.now) hirs.now) self.now.settings compiled) }
@@ -147,7 +169,7 @@ impl Builder {
     }
 }
 
-/// Why patterns have no engine where the text of one, which has this number, is refused.
+/// Returns the error of building, given the error of parsing the pattern with this number.
 fn refusal(number: usize, error: SyntaxError) -> BuildError
     ensures { result ≡ refusal_of number error }
 {
@@ -160,8 +182,7 @@ fn refusal(number: usize, error: SyntaxError) -> BuildError
     }
 }
 
-/// What a text spells under these settings, or why it has no engine as the pattern with this
-/// number.
+/// Parses the pattern with this number.
 fn tree(
     alloc: Global,
     number: usize,
@@ -177,7 +198,7 @@ fn tree(
     }
 }
 
-/// The text of the pattern with this number.
+/// Returns the text of the pattern with this number.
 fn text_at<'p>(patterns: &[&'p str], number: usize) -> &'p str
     requires { number < length patterns.now }
     ensures { slice_get (map (λ text. text.now) patterns.now) number ≡ Some result.now }
@@ -185,7 +206,8 @@ fn text_at<'p>(patterns: &[&'p str], number: usize) -> &'p str
     patterns[number]
 }
 
-/// What patterns spell under these settings; or why they have no engine, whatever its own settings.
+/// Parses patterns with these settings. Its errors are those of building with any settings of the
+/// engine.
 pub fn spelled(
     alloc: Global,
     patterns: &[&str],
@@ -207,7 +229,7 @@ pub fn spelled(
     Ok(hirs)
 }
 
-/// These, each borrowed.
+/// Returns a reference to each tree.
 pub fn borrowed<'h>(alloc: Global, hirs: &'h [Hir]) -> Result<Vec<&'h Hir>, AllocError>
     ensures { IfOk result (λ borrowed.
         map (λ hir. tree_of hir.now) borrowed.items ≡ map tree_of hirs.now) }
@@ -219,7 +241,7 @@ pub fn borrowed<'h>(alloc: Global, hirs: &'h [Hir]) -> Result<Vec<&'h Hir>, Allo
     Ok(borrowed)
 }
 
-/// A program, to be shared by clones.
+/// Returns a program that clones share.
 fn shared(alloc: Global, program: Program) -> Result<Rc<Program>, AllocError>
     ensures { IfOk result (λ rc. rc.value ≡ program) }
 {

@@ -13,9 +13,9 @@ use std::alloc::Global;
 use std::marker::Model;
 use std::rc::Rc;
 
-/// Patterns as engines hold them. Contracts see their program, which match is found, those of their
-/// groups that are noted, which ones these are, how many groups there are with the others, how many
-/// stand in each match, and whether empty matches inside a character are passed over.
+/// Patterns as engines hold them. Contracts see their program, which match is reported, the groups
+/// that are captured and which kind these are, the number of all groups, the number of groups in
+/// every match, and whether empty matches inside a character are skipped.
 #[derive(Debug, Drop)]
 pub struct Compiled {
     pub(crate) program: Rc<Program>,
@@ -54,8 +54,11 @@ impl Model for Compiled {
 }
 
 impl Compiled {
-    /// Returns what an engine holds of a pattern under default settings. Errors are those of
-    /// `Builder::build`.
+    /// Compiles a pattern with default settings.
+    ///
+    /// # Errors
+    ///
+    /// Those of [`Builder::build`](crate::Builder::build).
     pub fn new(alloc: Global, pattern: &str) -> Result<Compiled, BuildError>
         ensures built { IfOk result (λ compiled. IsBuiltOf pattern.now by_default compiled) }
         ensures refused { IfErr result (λ error. IsRefused pattern.now by_default error) }
@@ -63,8 +66,11 @@ impl Compiled {
         Builder::new().build(alloc, pattern)
     }
 
-    /// Returns what an engine holds of patterns that are searched for together, under default
-    /// settings. Errors are those of `Builder::build_many`.
+    /// Compiles patterns that are searched for together, with default settings.
+    ///
+    /// # Errors
+    ///
+    /// Those of [`Builder::build_many`](crate::Builder::build_many).
     pub fn new_many(alloc: Global, patterns: &[&str]) -> Result<Compiled, BuildError>
         ensures built { IfOk result (λ compiled.
             IsBuiltOfAll (map (λ text. text.now) patterns.now) by_default compiled) }
@@ -74,7 +80,11 @@ impl Compiled {
         Builder::new().build_many(alloc, patterns)
     }
 
-    /// Returns the same, which shares program and groups. The one error is `Memory`. `O(1)`.
+    /// Returns a copy that shares program and groups. `O(1)`.
+    ///
+    /// # Errors
+    ///
+    /// `Memory`.
     pub fn clone(&self) -> Result<Compiled, MatchError>
         ensures same { IfOk result (λ compiled. compiled ≡ self.now) }
         ensures refused { IfErr result (λ error. error ≡ MatchError.Memory) }
@@ -98,14 +108,14 @@ impl Compiled {
         &self.program
     }
 
-    /// Returns which of all matches a search finds. `O(1)`.
+    /// Returns which of all matches a search reports. `O(1)`.
     pub fn match_kind(&self) -> MatchKind
         ensures { result ≡ self.now.match_kind }
     {
         self.match_kind
     }
 
-    /// Returns the groups that are noted. `O(1)`.
+    /// Returns the groups that are captured. `O(1)`.
     pub fn group_info(&self) -> &GroupInfo
         ensures groups { result.now ≡ self.now.groups }
         ensures engine { IsEngine self.now }
@@ -114,8 +124,8 @@ impl Compiled {
         &self.groups
     }
 
-    /// Returns how many groups the patterns have together, the whole match of each among them,
-    /// whether they are noted or not. `O(1)`.
+    /// Returns the number of groups of all patterns, captured or not, including the whole match of
+    /// each. `O(1)`.
     pub fn captures_len(&self) -> usize
         ensures len { result ≡ self.now.captures_len }
         ensures engine { IsEngine self.now }
@@ -123,8 +133,8 @@ impl Compiled {
         self.captures_len
     }
 
-    /// Returns how many groups stand in each match, the whole match among them and whether they are
-    /// noted or not, and `None` where matches differ in that, or where there is no pattern. `O(1)`.
+    /// Returns the number of groups in every match, captured or not, including the whole match.
+    /// `None` if matches differ in that, or if there is no pattern. `O(1)`.
     pub fn static_captures_len(&self) -> Option<usize>
         ensures len { result ≡ self.now.static_captures_len }
         ensures engine { IsEngine self.now }
@@ -132,15 +142,19 @@ impl Compiled {
         self.static_captures_len
     }
 
-    /// Returns whether empty matches inside a character are passed over.
+    /// Returns whether empty matches inside a character are skipped.
     pub fn utf8_empty(&self) -> bool
         ensures { result ≡ self.now.utf8_empty }
     {
         self.utf8_empty
     }
 
-    /// Returns captures with slots for all groups that are noted, in which nothing is noted yet.
-    /// The one error is `Memory`. `O(n)` in the number of groups.
+    /// Returns captures of no match, with slots for all groups that are captured. `O(n)` in the
+    /// number of groups.
+    ///
+    /// # Errors
+    ///
+    /// `Memory`.
     pub fn create_captures(&self) -> Result<Captures, MatchError>
         ensures made { IfOk result (λ caps. caps
             ≡ nothing_noted self.now.groups (slot_len self.now.groups)) }

@@ -9,7 +9,7 @@ ghost use Rattle.rx_engine.specs.Engines.{nothing_set, settings_over, size_limit
 use rx_util::{MatchError, MatchKind, WhichCaptures};
 use std::marker::Model;
 
-/// Settings of an engine. One that wasn't set is the default.
+/// Settings of an engine. A setting that isn't set has its default.
 #[derive(Debug, Drop, PartialEq, Eq)]
 pub struct Config {
     match_kind: Option<MatchKind>,
@@ -55,7 +55,11 @@ impl Config {
         }
     }
 
-    /// Returns the same settings. The one error is `Memory`.
+    /// Returns a copy.
+    ///
+    /// # Errors
+    ///
+    /// `Memory`.
     pub fn clone(&self) -> Result<Config, MatchError>
         ensures same { IfOk result (λ config. config ≡ self.now) }
         ensures refused { IfErr result (λ error. error ≡ MatchError.Memory) }
@@ -69,7 +73,7 @@ impl Config {
         })
     }
 
-    /// Sets which of all matches a search finds.
+    /// Sets which of all matches a search reports.
     pub fn match_kind(mut self, kind: MatchKind) -> Config
         ensures { result ≡ record self { match_kind = Some kind } }
     {
@@ -77,7 +81,7 @@ impl Config {
         self
     }
 
-    /// Sets whether empty matches inside a character are passed over.
+    /// Sets whether empty matches inside a character are skipped.
     pub fn utf8_empty(mut self, yes: bool) -> Config
         ensures { result ≡ record self { utf8_empty = Some yes } }
     {
@@ -85,8 +89,8 @@ impl Config {
         self
     }
 
-    /// Sets the byte at which lines end for `^` and `$` under `(?m)`. The one that `.` doesn't
-    /// match is a setting of the syntax.
+    /// Sets the byte that ends lines for `^` and `$` with `(?m)`. For `.` it is a setting of the
+    /// syntax.
     pub fn line_terminator(mut self, byte: u8) -> Config
         ensures { result ≡ record self { line_terminator = Some byte } }
     {
@@ -94,8 +98,8 @@ impl Config {
         self
     }
 
-    /// Sets how large a program may be: a pattern is refused where 40 times its weight is above the
-    /// limit. Without one it is where the weight is above 2,147,483,646.
+    /// Sets the size limit of programs: a pattern is refused if 40 times its weight exceeds it.
+    /// Without a limit, the weight may be at most 2,147,483,646.
     pub fn nfa_size_limit(mut self, limit: Option<usize>) -> Config
         ensures { result ≡ record self { nfa_size_limit = Some limit } }
     {
@@ -103,10 +107,11 @@ impl Config {
         self
     }
 
-    /// Sets which groups are noted: those of the engine, and so of captures, are then all groups of
-    /// its patterns, or under `Implicit` and `None` alike group 0 of each alone. A pattern weighs
-    /// the same. A search notes places in as many slots as it is given: what stands in those behind
-    /// the slots of the engine's groups has no meaning.
+    /// Sets which groups are captured: all, or for `Implicit` and `None` only group 0 of each
+    /// pattern.
+    ///
+    /// The weight of a pattern is the same. A search writes as many slots as it is given; slots
+    /// past those of the captured groups have no meaning.
     pub fn which_captures(mut self, which: WhichCaptures) -> Config
         ensures { result ≡ record self { which_captures = Some which } }
     {
@@ -114,42 +119,42 @@ impl Config {
         self
     }
 
-    /// Returns which of all matches a search finds: by default the leftmost one.
+    /// Returns which of all matches a search reports, by default the leftmost.
     pub fn get_match_kind(&self) -> MatchKind
         ensures { result ≡ unwrap_or self.now.match_kind MatchKind.LeftmostFirst }
     {
         self.match_kind.unwrap_or(MatchKind::LeftmostFirst)
     }
 
-    /// Returns whether empty matches inside a character are passed over: by default they are.
+    /// Returns whether empty matches inside a character are skipped, by default true.
     pub fn get_utf8_empty(&self) -> bool
         ensures { result ≡ unwrap_or self.now.utf8_empty true }
     {
         self.utf8_empty.unwrap_or(true)
     }
 
-    /// Returns the byte at which lines end for `^` and `$` under `(?m)`: by default LF.
+    /// Returns the byte that ends lines for `^` and `$` with `(?m)`, by default LF.
     pub fn get_line_terminator(&self) -> u8
         ensures { result ≡ unwrap_or self.now.line_terminator 10 }
     {
         self.line_terminator.unwrap_or(b'\n')
     }
 
-    /// Returns how large a program may be: by default without a limit.
+    /// Returns the size limit of programs, by default none.
     pub fn get_nfa_size_limit(&self) -> Option<usize>
         ensures { result ≡ size_limit_of self.now }
     {
         self.nfa_size_limit.unwrap_or(None)
     }
 
-    /// Returns which groups are noted: by default all.
+    /// Returns which groups are captured, by default all.
     pub fn get_which_captures(&self) -> WhichCaptures
         ensures { result ≡ unwrap_or self.now.which_captures WhichCaptures.All }
     {
         self.which_captures.unwrap_or(WhichCaptures::All)
     }
 
-    /// These settings, and where one isn't set that of the others.
+    /// Returns these settings, with those of `others` where they aren't set.
     pub(crate) fn or(&self, others: &Config) -> Config
         ensures { result ≡ settings_over self.now others.now }
     {

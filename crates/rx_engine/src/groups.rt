@@ -1,4 +1,4 @@
-//! The groups of patterns, and their names.
+//! The groups of patterns and their names.
 
 ghost use Rattle.std.specs.Prelude.{◌≡◌, ◌<◌, All, IfOk, IfSome, OnOk, None, Some, MatchOption, [], map, replicate, set, vec_len};
 ghost use Rattle.rx_util.specs.Groups.{named_groups, names_of};
@@ -12,7 +12,7 @@ use rx_grammar::{Hir, Node};
 use rx_util::{GroupInfo, WhichCaptures};
 use std::alloc::{AllocError, Global};
 
-/// The number and the name of a group that has a name.
+/// Returns the number and the name of a named group.
 fn named_group(node: &Node) -> Option<(usize, &str)>
     ensures { MatchOption result (own_names (kind_of node.now) ≡ [])
         (λ group. kind_of node.now ≡ a_group group.0 (Some group.1.now)) }
@@ -23,7 +23,7 @@ fn named_group(node: &Node) -> Option<(usize, &str)>
     }
 }
 
-/// The names of so many groups, none of which has one.
+/// Returns the names of `count` groups without a name.
 fn nameless(alloc: Global, count: usize) -> Result<Vec<Option<String>>, AllocError>
     ensures { IfOk result (λ names. names.items ≡ replicate count None) }
 {
@@ -34,7 +34,7 @@ fn nameless(alloc: Global, count: usize) -> Result<Vec<Option<String>>, AllocErr
     Ok(names)
 }
 
-/// Notes the name of a group.
+/// Records the name of a group.
 fn note_name(names: &mut Vec<Option<String>>, index: usize, name: String)
     requires { index < vec_len names.old }
     ensures { names.new.items ≡ set names.old.items index (Some name) }
@@ -42,8 +42,8 @@ fn note_name(names: &mut Vec<Option<String>>, index: usize, name: String)
     names[index] = Some(name);
 }
 
-/// The names of a pattern's groups, from group 1 on. `O(n)` in the number of nodes, and in the
-/// lengths of the names.
+/// Returns the names of a pattern's groups, from group 1 on. `O(n)` in the number of nodes and in
+/// the lengths of the names.
 fn group_names(alloc: Global, hir: &Hir) -> Result<Vec<Option<String>>, AllocError>
     ensures names { IfOk result (λ names. AreNamesOf (tree_of hir.now) (names_of names.items)) }
     ensures well_formed { IsWellFormed (tree_of hir.now) }
@@ -58,7 +58,7 @@ fn group_names(alloc: Global, hir: &Hir) -> Result<Vec<Option<String>>, AllocErr
     Ok(names)
 }
 
-/// The names of patterns' groups, of each from group 1 on.
+/// Returns for each pattern the names of its groups, from group 1 on.
 fn all_names(alloc: Global, hirs: &[&Hir]) -> Result<Vec<Vec<Option<String>>>, AllocError>
     ensures groups { IfOk result (λ names.
         AreGroupNamesOf (map (λ hir. tree_of hir.now) hirs.now) (named_groups names.items)) }
@@ -72,7 +72,7 @@ fn all_names(alloc: Global, hirs: &[&Hir]) -> Result<Vec<Vec<Option<String>>>, A
     Ok(patterns)
 }
 
-/// The groups of patterns that are noted.
+/// Returns the groups of patterns that are captured.
 pub(crate) fn groups_of(
     alloc: Global,
     hirs: &[&Hir],
@@ -86,8 +86,8 @@ pub(crate) fn groups_of(
     GroupInfo::noted(alloc, which, all_names(alloc, hirs)?)
 }
 
-/// How many groups patterns have together, the whole match of each among them, if a `usize` tells
-/// it.
+/// Returns the number of groups of all patterns, including the whole match of each, or `None` if it
+/// exceeds `usize::MAX`.
 pub(crate) fn count_groups(hirs: &[&Hir]) -> Option<usize>
     ensures { IfSome result
         (λ len. len ≡ captures_len_of (map (λ hir. tree_of hir.now) hirs.now)) }
@@ -99,8 +99,8 @@ pub(crate) fn count_groups(hirs: &[&Hir]) -> Option<usize>
     Some(len)
 }
 
-/// How many groups stand in each match of patterns, the whole match among them, and `None` where
-/// matches differ in that, or where there is no pattern.
+/// Returns the number of groups in every match of patterns, including the whole match. `None` if
+/// matches differ in that, or if there is no pattern.
 pub(crate) fn static_captures_len(hirs: &[&Hir]) -> Option<usize>
     ensures { result ≡ static_captures_of_all (map (λ hir. tree_of hir.now) hirs.now) }
 {

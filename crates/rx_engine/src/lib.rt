@@ -1,4 +1,4 @@
-//! What engines hold of patterns: the program that they compile to, their groups, and a setting.
+//! What engines hold of patterns: the program, the groups, and the settings.
 #![tactic(auto)]
 
 mod builder;

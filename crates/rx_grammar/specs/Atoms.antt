@@ -1,4 +1,4 @@
--- What a reader of an atom that is no group finds.
+-- What a parser of an atom other than a group finds.
 use Rattle.std.specs.Prelude.{◌≡◌, ℕ, Bool, List}
 use Rattle.rx_sets.specs.declared.items.ClassItem.{ClassItem}
 use Rattle.rx_grammar.specs.declared.atoms.AtomTree.{AtomTree}
@@ -13,7 +13,7 @@ abbrev pub atom_tree : AtomTree → Tree
 atom_tree (atom.Set set) = one_of set.value
 atom_tree (atom.Look look) = look_at look
 
--- a class, after its [, and what it stands for
+-- a class, after its [, and its set
 pub record ClassAtom (s : Settings) (t : List ℕ) (tree : Tree) (u : List ℕ) : Type 0 where
   pub negated : Bool
   pub items : List ClassItem
@@ -22,7 +22,7 @@ pub record ClassAtom (s : Settings) (t : List ℕ) (tree : Tree) (u : List ℕ) 
   pub is_set : IsSetOf ranges (InClass s negated items)
   pub tree_is : tree ≡ one_of ranges
 
--- no such thing stands at the start of the text
+-- the text doesn't start with an escape
 abbrev pub NoEscape : Settings → List ℕ → Type 0
 NoEscape s t = (tree : Tree) (u : List ℕ) → Escape s t tree u → ⊥
 

@@ -1,4 +1,4 @@
--- What small texts spell, each by the cases of the grammar.
+-- The trees of small texts, by the cases of the grammar.
 use Rattle.std.specs.Prelude.{◌≡◌, ℕ, ◌+◌, ◌-◌, ◌^◌, true, false, [], ◌∷◌, Some, None, codes, refl}
 use Rattle.std.proofs.lemmas.Bool.{eqb-false}
 use Rattle.rx_grammar.specs.declared.hir.Look.TheVariants.{Start, EndLine}
@@ -10,11 +10,11 @@ use Rattle.rx_grammar.specs.Escapes.{EscapedCharacter, control, itself, escaped_
 use Rattle.rx_grammar.specs.Repetitions.{star, plus, Postfix, alone, marked, repetition}
 use Rattle.rx_grammar.specs.Grammar.{PlainAtom, caret, dollar, Items, ended, is_literal}
 
--- the last scalar value before the surrogates and the first behind them are neighbours
+-- the last scalar value before the surrogates and the first after them are neighbours
 neighbours : ordinal 0xE000 ≡ ordinal 0xD7FF + 1
 neighbours = refl
 
--- \v is U+000B, \- is a hyphen, and \< is nothing
+-- \v is U+000B, \- is a hyphen, and \< is no escape
 vertical_tab : EscapedCharacter (codes "vx") 0x0B (codes "x")
 vertical_tab = control 118 refl refl
 
@@ -31,7 +31,7 @@ brackets = refl
 brace : is_literal 123 ≡ false
 brace = refl
 
--- `*` is greedy, and `*?` lazy; under `U` it is the other way round
+-- `*` is greedy, and `*?` lazy; `U` swaps them
 greedy : Postfix false (codes "*a") (repetition 0 None true) (codes "a")
 greedy = alone (star refl) (eqb-false 97 63 refl)
 
@@ -41,7 +41,7 @@ lazy = marked (star refl) refl
 swapped : Postfix true (codes "+?") (repetition 1 None true) []
 swapped = marked (plus refl) refl
 
--- ^ is the start of the text, and under `m` $ is the end of a line
+-- ^ is the start of the text; with `m`, $ is the end of a line
 start_of_text : PlainAtom default_settings (codes "^a") (look_at Start) (codes "a")
 start_of_text = caret refl
 
@@ -51,7 +51,7 @@ lines = record default_settings { multi_line = true }
 end_of_line : PlainAtom lines (codes "$") (look_at EndLine) []
 end_of_line = dollar refl
 
--- the empty pattern is no item
+-- the empty pattern has no item
 nothing : Items default_settings 0 [] [] 0 default_settings 0 []
 nothing = ended tt
 
@@ -83,7 +83,7 @@ weight_of_branches = refl
 weight_of_copies : pattern_weight (repeated (repetition 2 (Some 4) true) letters) ≡ 13
 weight_of_copies = refl
 
--- (?:a*)*: the inner loop may be empty, and so the outer one is an optional loop
+-- (?:a*)*: the inner loop may be empty, so the outer one is an optional loop
 weight_of_loops : pattern_weight (loop (loop letter)) ≡ 8
 weight_of_loops = refl
 
@@ -102,7 +102,8 @@ weight_of_at_least = refl
 weight_at_the_limit : pattern_weight (concat (more (look_at Start) (two (times 65535 letter) (times 65535 letter)))) ≡ 262144
 weight_at_the_limit = refl
 
--- a{65535}{65535}{0} weighs as no item, and a{65535}{65535}{65535}{65535} more than is kept
+-- a{65535}{65535}{0} weighs as much as the empty pattern; a{65535}{65535}{65535}{65535} exceeds the
+-- greatest weight stored
 weight_of_none : pattern_weight (times 0 (times 65535 (times 65535 letter))) ≡ 4
 weight_of_none = refl
 

@@ -1,4 +1,4 @@
--- The grammar of patterns: what a text spells.
+-- The grammar of patterns: the tree of a text.
 use Rattle.std.specs.Prelude.{◌≡◌, ◌≢◌, ℕ, ◌+◌, ◌≤◌, ◌<◌, Bool, true, false, not, ◌==◌, ◌||◌, List, [], ◌∷◌, Some, max, AllPairs, length, encode_utf8_all, if◌then◌else◌}
 use Rattle.rx_sets.specs.declared.items.ClassPerlKind.{ClassPerlKind}
 use Rattle.rx_grammar.specs.declared.hir.Look.{Look}
@@ -17,15 +17,15 @@ use Rattle.rx_grammar.specs.Groups.{Setting, Capture, Opening, opened, grouped}
 abbrev pub is_literal : ℕ → Bool
 is_literal c = not ((c == 92) || (c == 46) || (c == 43) || (c == 42) || (c == 63) || (c == 40) || (c == 41) || (c == 124) || (c == 91) || (c == 123) || (c == 94) || (c == 36))
 
--- what `.` stands for: any character but the line terminator, and under `s` any
+-- the characters of `.`: any but the line terminator, and with `s` any
 abbrev pub InDot : Settings → ℕ → Type 0
 InDot settings c = elim settings.dot_matches_new_line [ true ↦ Unit {0} | false ↦ c ≢ settings.line_terminator ]
 
--- under `s` no terminator stands in the way; else one that is no ASCII byte puts `.` outside
+-- `.` is allowed with `s`, or if the line terminator is an ASCII byte
 abbrev pub IsDotAllowed : Settings → Type 0
 IsDotAllowed settings = elim settings.dot_matches_new_line [ true ↦ Unit {0} | false ↦ settings.line_terminator < 128 ]
 
--- after a backslash: a tree and u after it
+-- an escape after its backslash: its tree, and u after it
 pub data Escape : Settings → List ℕ → Tree → List ℕ → Type 0 where
   character : {s : Settings} {t u : List ℕ} {c : ℕ} {ranges : List Range} → EscapedCharacter t c u → IsSetOf ranges (Folded s (λ d. d ≡ c)) → Escape s t (one_of ranges) u
   -- \d \D \s \S \w \W
@@ -33,7 +33,7 @@ pub data Escape : Settings → List ℕ → Tree → List ℕ → Type 0 where
   -- \A \z \b \B
   look : {s : Settings} {t u : List ℕ} {asked : Look} (letter : ℕ) → t ≡ letter ∷ u → look_of letter ≡ Some asked → Escape s t (look_at asked) u
 
--- an atom that is no group: a tree and u after it
+-- an atom other than a group: its tree, and u after it
 pub data PlainAtom : Settings → List ℕ → Tree → List ℕ → Type 0 where
   literal : {s : Settings} {t u : List ℕ} {c : ℕ} {ranges : List Range} → t ≡ c ∷ u → is_literal c ≡ true → IsSetOf ranges (Folded s (λ d. d ≡ c)) → PlainAtom s t (one_of ranges) u
   dot : {s : Settings} {t u : List ℕ} {ranges : List Range} → t ≡ 46 ∷ u → IsDotAllowed s → IsSetOf ranges (InDot s) → PlainAtom s t (one_of ranges) u
@@ -50,27 +50,27 @@ abbrev pub goes_on_in_branches : ℕ → Bool
 goes_on_in_branches c = not (c == 41)
 
 mutual
-  -- an atom: of settings, the number of groups opened before it, and a text, the tree that it spells,
-  -- its depth, the number of groups opened after it, and the rest of the text
+  -- an atom: the settings, the number of groups opened before it, and a text; its tree, its depth,
+  -- the number of groups opened after it, and the rest of the text
   pub data Atom : Settings → ℕ → List ℕ → Tree → ℕ → ℕ → List ℕ → Type 0 where
     plain_atom : {s : Settings} {m : ℕ} {t u : List ℕ} {h : Tree} → PlainAtom s t h u → Atom s m t h 0 m u
     group : {s s' s'' : Settings} {m n d : ℕ} {t u v w : List ℕ} {h : Tree} {hs : List Tree} {k : Capture} → Opening s t s' k v
         → Branches s' (opened m k) v h hs d s'' n w → w ≡ 41 ∷ u → Atom s m t (grouped m k (alternation_of h hs)) (d + 1) n u
 
-  -- a concatenation: likewise, with its trees in a row and the settings after it
+  -- a concatenation, like an atom, with its trees and the settings after it
   pub data Items : Settings → ℕ → List ℕ → List Tree → ℕ → Settings → ℕ → List ℕ → Type 0 where
     ended : {s : Settings} {m : ℕ} {t : List ℕ} → Stops goes_on t → Items s m t [] 0 s m t
     setting : {s s' s'' : Settings} {m n d : ℕ} {t u v : List ℕ} {hs : List Tree} → Setting s t s' v → Items s' m v hs d s'' n u → Items s m t hs d s'' n u
     item : {s s' : Settings} {m n k d e f : ℕ} {t u v w : List ℕ} {h g : Tree} {hs : List Tree} → Atom s m t h d k v
         → Postfixes s.swap_greed h d v g e w → Items s k w hs f s' n u → Items s m t (g ∷ hs) (max e f) s' n u
 
-  -- the branches of an alternation, of which there is at least one
+  -- the branches of an alternation, at least one
   pub data Branches : Settings → ℕ → List ℕ → Tree → List Tree → ℕ → Settings → ℕ → List ℕ → Type 0 where
     last : {s s' : Settings} {m n d : ℕ} {t u : List ℕ} {hs : List Tree} → Items s m t hs d s' n u → Stops goes_on_in_branches u → Branches s m t (concat_of hs) [] d s' n u
     bar : {s s' s'' : Settings} {m n k d e : ℕ} {t u v w : List ℕ} {g : Tree} {hs gs : List Tree} → Items s m t hs d s' k v → v ≡ 124 ∷ w
         → Branches s' k w g gs e s'' n u → Branches s m t (concat_of hs) (g ∷ gs) (max d e) s'' n u
 
--- under these settings the text, of at most 65,536 bytes of UTF-8, spells the tree
+-- with these settings the text, of at most 65,536 bytes of UTF-8, has this tree
 pub record Spells (text : List ℕ) (settings : Settings) (tree : Tree) : Type 0 where
   pub first : Tree
   pub others : List Tree
@@ -83,19 +83,19 @@ pub record Spells (text : List ℕ) (settings : Settings) (tree : Tree) : Type 0
   pub names : AllPairs (λ a b. a ≢ b) (names_of tree)
   pub size : length (encode_utf8_all text) ≤ 65536
 
--- the text spells no tree
+-- the text has no tree
 abbrev pub SpellsNothing : List ℕ → Settings → Type 0
 SpellsNothing text settings = (tree : Tree) → Spells text settings tree → ⊥
 
--- the same settings, but for how deep groups and repetitions may stand in one another
+-- the same settings with another nest limit
 abbrev pub with_limit : ℕ → Settings → Settings
 with_limit limit settings = record settings { nest_limit = limit }
 
--- the text spells no tree, however deep groups and repetitions may stand in one another
+-- the text has no tree with any nest limit
 abbrev pub NeverSpells : List ℕ → Settings → Type 0
 NeverSpells text settings = (limit : ℕ) → SpellsNothing text (with_limit limit settings)
 
--- the text spells no tree, but it would where groups and repetitions might stand deeper in one another
+-- the text has no tree, but has one with a greater nest limit
 pub record IsTooDeep (text : List ℕ) (settings : Settings) : Type 0 where
   pub nothing : SpellsNothing text settings
   pub limit : ℕ

@@ -1,4 +1,4 @@
--- What a group or a setting opens with.
+-- Heads of groups, and settings.
 use Rattle.std.specs.Prelude.{◌≡◌, ◌≢◌, ℕ, ◌+◌, ◌≤◌, Bool, true, false, ◌==◌, ◌||◌, List, [], ◌∷◌, ◌++◌, length, map, codes, Option, Some, None, AllPairs}
 use Rattle.std.specs.Char.{is_ascii_alphabetic, is_ascii_alphanumeric}
 use Rattle.std.specs.List.{AllByRecursion}
@@ -16,7 +16,7 @@ pub record FlagLetters (t : List ℕ) (flags : List Flag) (u : List ℕ) : Type 
   pub whole : t ≡ map letter_of flags ++ u
   pub ends : Stops is_flag_letter u
 
--- flags to turn on, and after a - flags to turn off; no letter stands twice
+-- flags to turn on, and after a - flags to turn off; no letter is repeated
 pub data Flags : List ℕ → List Flag → List Flag → List ℕ → Type 0 where
   turning_on : {t u : List ℕ} {on : List Flag} → FlagLetters t on u → 1 ≤ length on → (Begins 45 u → ⊥) → AllPairs (λ a b. a ≢ b) on → Flags t on [] u
   turning_off : {t u v w : List ℕ} {on off : List Flag} → FlagLetters t on v → v ≡ 45 ∷ w → FlagLetters w off u → 1 ≤ length off → AllPairs (λ a b. a ≢ b) (on ++ off) → Flags t on off u
@@ -39,7 +39,7 @@ abbrev pub IsName : Name → Type 0
 IsName [] = ⊥
 IsName (first ∷ others) = (is_name_start first ≡ true) × AllByRecursion (λ c. is_name_character c ≡ true) (first ∷ others)
 
--- a group has a number, and perhaps a name, or it has none
+-- a group has a number, and possibly a name, or no number
 pub data Capture : Type 0 where
   numbered : Option Name → Capture
   unnumbered : Capture
@@ -55,7 +55,7 @@ pub data Opening : Settings → List ℕ → Settings → Capture → List ℕ �
   -- (?i:
   changing : {s : Settings} {t u v w : List ℕ} {on off : List Flag} → t ≡ codes "(?" ++ v → Flags v on off w → w ≡ 58 ∷ u → Opening s t (flagged s on off) unnumbered u
 
--- how many groups are opened after the head, where n were before it
+-- the number of groups opened after the head, given the n before it
 abbrev pub opened : ℕ → Capture → ℕ
 opened n (numbered name) = n + 1
 opened n unnumbered = n

@@ -1,4 +1,4 @@
--- What a reader of flags, of a name and of the head of a group finds.
+-- What a parser of flags, of a name and of the head of a group finds.
 use Rattle.std.specs.Prelude.{◌≡◌, ◌≢◌, ◌⊎◌, ℕ, List, ◌∷◌, ◌++◌, Some, None, AllPairs}
 use Rattle.std.specs.String.{string_bytes}
 use Rattle.rx_grammar.specs.declared.flags.Flag.{Flag}
@@ -13,14 +13,14 @@ use Rattle.rx_grammar.specs.Groups.{FlagLetters, Flags, flagged, Setting, IsName
 abbrev pub IsFlagLetter : List ℕ → Flag → List ℕ → Type 0
 IsFlagLetter t flag u = t ≡ letter_of flag ∷ u
 
--- the text spells flags that stand after others, and no flag stands twice among all of them
+-- the text has flags after those before it, and no flag is repeated among all of them
 pub record FlagsAfter (before all : List Flag) (t u : List ℕ) : Type 0 where
   pub flags : List Flag
   pub whole : all ≡ before ++ flags
   pub reads : FlagLetters t flags u
   pub once : AllPairs (λ a b. a ≢ b) all
 
--- the text's flags change the settings so
+-- the flags of the text change the settings this way
 pub record FlagsChange (s : Settings) (t : List ℕ) (s' : Settings) (u : List ℕ) : Type 0 where
   pub on : List Flag
   pub off : List Flag
@@ -36,12 +36,12 @@ capture_of (Numbered None) = numbered None
 capture_of (Numbered (Some name)) = numbered (Some (string_bytes name))
 capture_of Unnumbered = unnumbered
 
--- the text begins with a setting or the head of a group, and u comes then
+-- the text starts with a setting or the head of a group, and u follows
 abbrev pub IsHead : Settings → List ℕ → Head → List ℕ → Type 0
 IsHead s t (head.Setting s') u = Setting s t s' u
 IsHead s t (head.Group s' captures) u = Opening s t s' (capture_of captures) u
 
--- no such thing stands at the start of the text
+-- the text doesn't start with the letter of a flag
 abbrev pub NoFlagLetter : List ℕ → Type 0
 NoFlagLetter t = (flag : Flag) (u : List ℕ) → t ≡ letter_of flag ∷ u → ⊥
 

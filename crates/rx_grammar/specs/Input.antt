@@ -1,7 +1,8 @@
--- What a text begins with. A text is a list of scalar values; ASCII characters are written as their codes.
+-- How a text starts. A text is a list of scalar values; ASCII characters are written as their
+-- codes.
 use Rattle.std.specs.Prelude.{◌≡◌, ℕ, Bool, false, List, [], ◌∷◌}
 
--- the text begins with this character
+-- the text starts with this character
 abbrev pub Begins : ℕ → List ℕ → Type 0
 Begins c [] = ⊥
 Begins c (first ∷ others) = first ≡ c

@@ -1,4 +1,4 @@
--- The nodes of a tree as the code keeps them, and what is known of its parts.
+-- The nodes of a tree as the code stores them, and the properties of its subtrees.
 use Rattle.std.specs.Prelude.{Some, None, length}
 use Rattle.std.specs.String.{string_bytes}
 use Rattle.rx_grammar.specs.declared.hir.Node.{Node}
@@ -19,7 +19,7 @@ kind_of (node.Concat count) = a_concat count
 kind_of (node.Alternation count) = an_alternation count
 kind_of (node.Repeat repetition) = a_repetition repetition
 
--- what is known of a part of a tree
+-- the properties of a subtree
 abbrev pub properties_of : Tree → Properties
 properties_of tree = record {
   extent = length (subtrees_of tree);

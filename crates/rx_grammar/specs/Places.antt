@@ -1,4 +1,4 @@
--- Where the parser stands in a pattern.
+-- The state of the parser in a pattern.
 use Rattle.std.specs.Prelude.{◌≡◌, ℕ, ◌+◌, ◌≤◌, ◌<◌, List, [], ◌∷◌, ◌++◌, length, reverse}
 use Rattle.rx_grammar.specs.declared.parser.Heights.{Heights}
 use Rattle.rx_grammar.specs.declared.parser.Around.{Around}
@@ -15,7 +15,7 @@ use Rattle.rx_grammar.specs.Grammar.{goes_on}
 use Rattle.rx_grammar.specs.Heads.{capture_of}
 use Rattle.rx_grammar.specs.Resuming.{Level, OpenGroup, PatternPlace, SameEnds, no_level, with_item, tree_at}
 
--- the trees of a level stand above those of the levels around it, the last one first
+-- the trees of a level are on top of those of the levels around it, the last one first
 pub record IsLevel (heights : Heights) (level : Level) (trees below : List Tree) : Type 0 where
   pub trees_are : trees ≡ reverse level.items ++ (reverse level.branches ++ below)
   pub group_is : heights.group ≡ length below
@@ -29,7 +29,7 @@ pub data Surround : List Around → List OpenGroup → List Tree → Type 0 wher
       → IsLevel around.heights group.level trees below → around.config ≡ group.settings → around.number ≡ opened group.groups group.capture
       → capture_of around.captures ≡ group.capture → Surround arounds groups below → Surround (around ∷ arounds) (group ∷ groups) trees
 
--- the parser stands at a place, with more trees that are no items yet, the last one first
+-- the parser is at a place, with more trees that are no items yet, the last one first
 pub record ParserIsAt (parser : Parser) (pending : List Tree) (place : PatternPlace) : Type 0 where
   pub trees : List Tree
   pub below : List Tree
@@ -42,7 +42,7 @@ pub record ParserIsAt (parser : Parser) (pending : List Tree) (place : PatternPl
 abbrev pub IsAtSomePlace : Parser → Type 0
 IsAtSomePlace parser = (place : PatternPlace) × ParserIsAt parser [] place
 
--- where a pattern begins
+-- the start of a pattern
 abbrev pub place_at_start : Settings → PatternPlace
 place_at_start settings = record { settings = settings; groups = 0; level = no_level; around = [] }
 
@@ -65,7 +65,7 @@ pub record ItemRead (before after : Parser) (place : PatternPlace) (tree : Tree)
   pub stands : ParserIsAt after [] (item_at place made deep)
   pub groups : after.groups ≡ before.groups
 
--- the branches of the level are one tree, and all else is as before
+-- the branches of the level are one tree, and all else is unchanged
 pub record EndsLevel (before after : Parser) (place : PatternPlace) : Type 0 where
   pub below : List Tree
   pub trees_are : trees_of after.trees ≡ tree_at place.level ∷ below
@@ -82,7 +82,7 @@ pub record PartRead (before after : Parser) (place : PatternPlace) (t u : List �
   pub shorter : length u < length t
   pub groups : after.groups + length u ≤ before.groups + length t
 
--- an atom that is no group may stand at the start of the text
+-- the text may start with an atom other than a group
 pub record IsAtomPlace (t : List ℕ) : Type 0 where
   pub no_group : Begins 40 t → ⊥
   pub inside : Stops goes_on t → ⊥
@@ -93,7 +93,7 @@ pub record TextRead (after : Parser) (place : PatternPlace) (t : List ℕ) : Typ
   pub stands : ParserIsAt after [] next
   pub same : SameEnds place t next []
 
--- no group is open, and the tree and its depth are what was read
+-- no group is open, and the tree and its depth are those of the text read
 pub record IsFinished (place : PatternPlace) (nodes : List NodeKind) (depth : ℕ) : Type 0 where
   pub nothing_open : place.around ≡ []
   pub tree_is : trees_of nodes ≡ tree_at place.level ∷ []

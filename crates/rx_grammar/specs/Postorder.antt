@@ -1,14 +1,14 @@
--- Trees that are made of nodes, each node after what stands below it.
+-- Trees made of nodes in postorder.
 use Rattle.std.specs.Prelude.{List, [], ◌∷◌, reverse, take, drop, flat_map, Some}
 use Rattle.rx_grammar.specs.Trees.{Name, Tree, empty, one_of, look_at, group, repeated, concat_of, alternation_of}
 use Rattle.rx_grammar.specs.Subtrees.{NodeKind, an_empty, a_set, a_look, a_group, a_concat, an_alternation, a_repetition}
 
--- branches beside one another
+-- the alternation of branches
 abbrev pub alternate : List Tree → Tree
 alternate [] = empty
 alternate (first ∷ others) = alternation_of first others
 
--- the trees that stand in a row after a node, the last one first: a node takes the last trees
+-- the trees after one more node, the last one first: the node takes the last trees as its children
 abbrev pub after_node : List Tree → NodeKind → List Tree
 after_node trees an_empty = empty ∷ trees
 after_node trees (a_set ranges) = one_of ranges ∷ trees
@@ -24,7 +24,7 @@ abbrev pub after_nodes : List Tree → List NodeKind → List Tree
 after_nodes trees [] = trees
 after_nodes trees (node ∷ nodes) = after_nodes (after_node trees node) nodes
 
--- the trees that nodes make, the last one first
+-- the trees of the nodes, the last one first
 abbrev pub trees_of : List NodeKind → List Tree
 trees_of nodes = after_nodes [] nodes
 
@@ -32,11 +32,11 @@ abbrev pub first_of : List Tree → Tree
 first_of [] = empty
 first_of (tree ∷ trees) = tree
 
--- the tree that the nodes make
+-- the tree of the nodes
 abbrev pub tree_of : List NodeKind → Tree
 tree_of nodes = first_of (trees_of nodes)
 
--- the name of a group that has one
+-- the name of a group
 abbrev pub own_names : NodeKind → List Name
 own_names (a_group number (Some name)) = name ∷ []
 own_names _ = []

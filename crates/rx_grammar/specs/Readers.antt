@@ -1,4 +1,4 @@
--- What the readers of parts of a pattern say.
+-- What the parsers of parts of a pattern return.
 use Rattle.std.specs.Prelude.{◌≡◌, ℕ, Bool, true, List, ◌∷◌, ◌++◌, Option}
 use Rattle.std.specs.Char.{is_ascii_digit, is_ascii_hexdigit}
 use Rattle.std.specs.List.{AllByRecursion}
@@ -13,19 +13,19 @@ use Rattle.rx_grammar.specs.Classes.{ClassCharacter, OneItem, ClassItems, ClassB
 use Rattle.rx_grammar.specs.Repetitions.{Number, CountInBraces, Count, Postfix}
 use Rattle.rx_grammar.specs.Groups.{is_name_character}
 
--- the test of a character: 0 to 9; hexadecimal digits; those of a name
+-- the test of a character: a decimal digit, a hexadecimal digit, or a character of a name
 abbrev pub passes : CharacterTest → ℕ → Bool
 passes Digit c = is_ascii_digit c
 passes HexDigit c = is_ascii_hexdigit c
 passes NameCharacter c = is_name_character c
 
--- what is left of a text, after the characters that pass a test
+-- a text split after the characters that pass a test
 pub record SplitsFront (test : CharacterTest) (text front rest : List ℕ) : Type 0 where
   pub whole : text ≡ front ++ rest
   pub all : AllByRecursion (λ c. passes test c ≡ true) front
   pub ends : Stops (passes test) rest
 
--- the text spells items, which stand after others in a list
+-- the text has items, which follow those before it in a list
 pub record ItemsAfter (before all : List ClassItem) (t u : List ℕ) : Type 0 where
   pub items : List ClassItem
   pub whole : all ≡ before ++ items
@@ -36,7 +36,7 @@ pub record RangeGoesOn (t u : List ℕ) : Type 0 where
   pub hyphen : t ≡ 45 ∷ u
   pub open_end : Begins 93 u → ⊥
 
--- the text spells no character
+-- the text has no escaped character
 abbrev pub SpellsNoCharacter : List ℕ → Type 0
 SpellsNoCharacter t = (c : ℕ) (u : List ℕ) → EscapedCharacter t c u → ⊥
 
@@ -49,11 +49,11 @@ NoNumberInBraces t = (c : ℕ) (u : List ℕ) → NumberInBraces t c u → ⊥
 abbrev pub NoNumberAfter : ℕ → List ℕ → Type 0
 NoNumberAfter count t = (c : ℕ) (u : List ℕ) → NumberAfter count t c u → ⊥
 
--- the letter names no letter class
+-- the letter is of no letter class
 abbrev pub IsNoClassLetter : ℕ → Type 0
 IsNoClassLetter letter = (kind : ClassPerlKind) (negated : Bool) → letter ≡ perl_letter kind negated → ⊥
 
--- no such thing stands at the start of the text
+-- the text doesn't start with a character of a class
 abbrev pub NoClassCharacter : List ℕ → Type 0
 NoClassCharacter t = (c : ℕ) (u : List ℕ) → ClassCharacter t c u → ⊥
 

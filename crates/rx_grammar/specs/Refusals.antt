@@ -1,4 +1,4 @@
--- Why a pattern's text is refused.
+-- Why a pattern is refused.
 use Rattle.std.specs.Prelude.{ℕ, ◌≤◌, ◌<◌, List, length, chars}
 use Rattle.rx_grammar.specs.declared.refusals.Reason.{Reason}
 use Rattle.rx_grammar.specs.declared.refusals.Reason.TheVariants.{TooLong, Nesting, Outside}
@@ -6,11 +6,11 @@ use Rattle.rx_grammar.specs.Settings.{Settings}
 use Rattle.rx_grammar.specs.Trees.{Tree}
 use Rattle.rx_grammar.specs.Grammar.{Spells, NeverSpells, IsTooDeep}
 
--- the text, as its bytes, spells a tree
+-- the text, given as bytes, has a tree
 abbrev pub SpellsSome : List ℕ → Settings → Type 0
 SpellsSome text settings = (tree : Tree) × Spells (chars text) settings tree
 
--- it spells none, for this reason
+-- the text has none, for this reason
 abbrev pub IsRefusedAs : Reason → List ℕ → Settings → Type 0
 IsRefusedAs TooLong text settings = 65536 < length text
 IsRefusedAs Nesting text settings = IsTooDeep (chars text) settings

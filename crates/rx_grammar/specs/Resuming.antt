@@ -1,4 +1,4 @@
--- What is known of a pattern that is read in part: how the rest of the text completes it.
+-- Patterns read in part: how the rest of the text completes them.
 use Rattle.std.specs.Prelude.{◌≡◌, ℕ, ◌+◌, List, [], ◌∷◌, ◌++◌, max}
 use Rattle.rx_grammar.specs.Settings.{Settings}
 use Rattle.rx_grammar.specs.Trees.{Tree, concat_of}
@@ -8,23 +8,23 @@ use Rattle.rx_grammar.specs.Repetitions.{Postfixes}
 use Rattle.rx_grammar.specs.Groups.{Capture, grouped}
 use Rattle.rx_grammar.specs.Grammar.{Items, Branches, goes_on_in_branches}
 
--- what has been read of a group, or of the whole pattern: the branches that have ended, the items of the one
--- that hasn't, and the depth
+-- what was read of a group, or of the whole pattern: the finished branches, the items of the
+-- current one, and the depth
 pub record Level : Type 0 where
   pub branches : List Tree
   pub items : List Tree
   pub depth : ℕ
 
--- a group that has begun: what was read around it, under what settings, how many groups were opened before it,
--- and what it captures
+-- an open group: what was read around it, with which settings, the number of groups opened before
+-- it, and what it captures
 pub record OpenGroup : Type 0 where
   pub level : Level
   pub settings : Settings
   pub groups : ℕ
   pub capture : Capture
 
--- a place in a pattern between two items: the settings there, how many groups were opened before it, what has
--- been read of the innermost group, and the groups around that, the innermost one first
+-- a place between two items of a pattern: its settings, the number of groups opened before it, what
+-- was read of the innermost group, and the groups around that, the innermost one first
 pub record PatternPlace : Type 0 where
   pub settings : Settings
   pub groups : ℕ
@@ -48,7 +48,7 @@ tree_with level items later = alternate (level.branches ++ concat_of (level.item
 abbrev pub tree_at : Level → Tree
 tree_at level = alternate (level.branches ++ concat_of level.items ∷ [])
 
--- the text has more items and then branches, up to the end of the group; their depth, the number of groups
+-- more items and then branches, up to the end of the group; their depth, the number of groups
 -- opened after them, and the rest of the text
 pub data Rest : Settings → ℕ → List ℕ → List Tree → List Tree → ℕ → ℕ → List ℕ → Type 0 where
   last : {s s' : Settings} {m n d : ℕ} {t u : List ℕ} {hs : List Tree} → Items s m t hs d s' n u → Stops goes_on_in_branches u → Rest s m t hs [] d n u
@@ -80,7 +80,7 @@ pub data Resumes : List OpenGroup → Level → Settings → ℕ → List ℕ �
 abbrev pub Completes : PatternPlace → List ℕ → Tree → ℕ → Type 0
 Completes place t tree depth = Resumes place.around place.level place.settings place.groups t tree depth
 
--- a rest at one place completes the pattern just as another rest does at another place
+-- a text at one place completes the pattern to the same trees as another text at another place
 pub record SameEnds (place : PatternPlace) (t : List ℕ) (place' : PatternPlace)
     (t' : List ℕ) : Type 0 where
   pub on : (tree : Tree) (depth : ℕ) → Completes place t tree depth → Completes place' t' tree depth

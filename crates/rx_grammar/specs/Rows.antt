@@ -1,4 +1,4 @@
--- Trees in a row, of which the last ones may become parts of another one, and what is known of them.
+-- Stacks of trees, of which the last ones may become children of another, and their properties.
 use Rattle.std.specs.Prelude.{◌≡◌, ℕ, ◌+◌, ◌≤◌, Bool, true, false, ◌&&◌, ◌||◌, List, [], ◌∷◌, length, map, reverse, flat_map, Option, Some, None}
 use Rattle.rx_grammar.specs.declared.properties.Properties.{Properties}
 use Rattle.rx_grammar.specs.declared.properties.RowProperties.{RowProperties}
@@ -9,16 +9,16 @@ use Rattle.rx_grammar.specs.StaticGroups.{static_groups, both_groups, common_gro
 use Rattle.rx_grammar.specs.Postorder.{trees_of}
 use Rattle.rx_grammar.specs.Nodes.{properties_of}
 
--- how many groups a node is by itself, without those below it
+-- the number of groups that a node itself is, without its children
 abbrev pub own_groups : NodeKind → ℕ
 own_groups (a_group number name) = 1
 own_groups _ = 0
 
--- the parts of trees in a row, of which the last one stands first
+-- the subtrees of a stack of trees, whose last tree comes first
 abbrev pub row_subtrees : List Tree → List Tree
 row_subtrees trees = flat_map subtrees_of (reverse trees)
 
--- concatenations and alternations stand over two trees or more
+-- concatenations and alternations have two children or more
 abbrev pub IsOverTwo : NodeKind → Type 0
 IsOverTwo (a_concat count) = 2 ≤ count
 IsOverTwo (an_alternation count) = 2 ≤ count
@@ -53,12 +53,12 @@ abbrev pub common_with : Option ℕ → Option (Option ℕ) → Option ℕ
 common_with groups None = groups
 common_with groups (Some others) = common_groups groups others
 
--- the number that all of them are, where there is a tree
+-- the number that all trees have in common, if there is a tree
 abbrev pub common_in : List Tree → Option (Option ℕ)
 common_in [] = None
 common_in (tree ∷ trees) = Some (common_with (static_groups tree) (common_in trees))
 
--- this is known of the trees
+-- these are the properties of the trees
 pub record AreRowProperties (row : RowProperties) (trees : List Tree) : Type 0 where
   pub extent : row.extent ≡ length (row_subtrees trees)
   pub weight : row.weight ≡ held (weights_in trees)
@@ -68,14 +68,13 @@ pub record AreRowProperties (row : RowProperties) (trees : List Tree) : Type 0 w
   pub groups : row.groups ≡ static_groups_in trees
   pub common : row.common_groups ≡ common_in trees
 
--- the nodes are exactly those of the trees that they make, this is what is known of each, and this is the number
--- of trees
+-- the nodes are exactly those of their trees, with these properties and this number of trees
 pub record AreStacked (nodes : List NodeKind) (properties : List Properties) (height : ℕ) : Type 0 where
   pub counted : height ≡ length (trees_of nodes)
   pub exact : nodes ≡ map root_of (row_subtrees (trees_of nodes))
   pub known : properties ≡ map properties_of (row_subtrees (trees_of nodes))
 
--- the nodes are exactly those of the tree, which is one that a text may spell, and this is what is known of each
+-- the nodes are exactly those of the tree, which is well-formed, with these properties
 pub record AreNodesOf (tree : Tree) (nodes : List NodeKind) (properties : List Properties) : Type 0 where
   pub made : trees_of nodes ≡ tree ∷ []
   pub exact : nodes ≡ nodes_of tree

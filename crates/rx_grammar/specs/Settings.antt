@@ -1,4 +1,4 @@
--- The settings that a pattern is read under, and what flags in the pattern change of them.
+-- The settings of parsing, and how flags in the pattern change them.
 use Rattle.std.specs.Prelude.{ℕ, Bool, false, List, [], ◌∷◌}
 use Rattle.rx_grammar.specs.declared.flags.Flag.{Flag}
 use Rattle.rx_grammar.specs.declared.flags.Flag.TheVariants.{CaseInsensitive, MultiLine, DotMatchesNewLine, SwapGreed}
@@ -8,12 +8,12 @@ pub record Settings : Type 0 where
   pub multi_line : Bool
   pub dot_matches_new_line : Bool
   pub swap_greed : Bool
-  -- how deep groups and repetitions may stand in one another
+  -- how deeply groups and repetitions may be nested
   pub nest_limit : ℕ
   -- the byte that `.` doesn't match
   pub line_terminator : ℕ
 
--- no flag is on, 250 levels, and lines end in LF
+-- all flags off, 250 levels, and LF as the line terminator
 abbrev pub default_settings : Settings
 default_settings = record {
   case_insensitive = false;
@@ -24,7 +24,7 @@ default_settings = record {
   line_terminator = 10;
 }
 
--- the letter that spells a flag: i, m, s or U
+-- the letter of a flag: i, m, s or U
 abbrev pub letter_of : Flag → ℕ
 letter_of CaseInsensitive = 105
 letter_of MultiLine = 109

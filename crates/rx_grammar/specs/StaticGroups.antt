@@ -1,8 +1,8 @@
--- How many groups stand in each match of a tree, if it is one number whichever match it is.
+-- The number of groups in every match of a tree, if it is the same for all.
 use Rattle.std.specs.Prelude.{ℕ, zero, suc, ◌+◌, ◌==◌, cond, List, [], ◌∷◌, map, Option, Some, None}
 use Rattle.rx_grammar.specs.Trees.{Tree, Trees, empty, one_of, look_at, group, concat, alternation, repeated, two, more}
 
--- both numbers together, where there are both
+-- the sum, if both are known
 abbrev pub both_groups : Option ℕ → Option ℕ → Option ℕ
 both_groups (Some n) (Some m) = Some (n + m)
 both_groups _ _ = None
@@ -12,15 +12,15 @@ abbrev pub common_groups : Option ℕ → Option ℕ → Option ℕ
 common_groups (Some n) (Some m) = cond (n == m) (Some n) None
 common_groups _ _ = None
 
--- of a repetition with its least and greatest number, and of what is repeated
+-- of a repetition, by its least and greatest number and its operand
 abbrev pub repeated_groups : ℕ → Option ℕ → Option ℕ → Option ℕ
 repeated_groups n (Some zero) groups = Some 0
 repeated_groups (suc n) most groups = groups
--- none or some of it: then there must be no groups
+-- zero times or more: then the operand must have no groups
 repeated_groups zero most (Some zero) = Some 0
 repeated_groups zero most groups = None
 
--- the number that all are, and none where there is none
+-- the number that all are, or none if there is none
 abbrev pub common_of_all : List (Option ℕ) → Option ℕ
 common_of_all [] = None
 common_of_all (groups ∷ []) = groups
@@ -48,7 +48,7 @@ abbrev mutual
   common_static_groups (more first others) =
       common_groups (static_groups first) (common_static_groups others)
 
--- with the whole match, which is a group in each
+-- including the whole match, which is a group in each
 abbrev pub static_captures_of : Tree → Option ℕ
 static_captures_of tree = both_groups (static_groups tree) (Some 1)
 

@@ -1,22 +1,22 @@
--- The parts of a tree, and its nodes: what each part is by itself.
+-- The subtrees and the nodes of a tree.
 use Rattle.std.specs.Prelude.{◌≡◌, ◌≢◌, ℕ, ◌+◌, ◌≤◌, ◌<◌, List, [], ◌∷◌, ◌++◌, map, length, get_or, All, AllPairs, Contains, Option, Some, None}
 use Rattle.rx_grammar.specs.declared.hir.Look.{Look}
 use Rattle.rx_grammar.specs.declared.hir.Repetition.{Repetition}
 use Rattle.rx_grammar.specs.Sets.{Range}
 use Rattle.rx_grammar.specs.Trees.{Name, Tree, Trees, empty, one_of, look_at, group, concat, alternation, repeated, two, more, names_of, numbers_of}
 
--- a node without what stands below it
+-- a node without its children
 pub data NodeKind : Type 0 where
   an_empty : NodeKind
   a_set : List Range → NodeKind
   a_look : Look → NodeKind
   a_group : ℕ → Option Name → NodeKind
-  -- how many trees stand below
+  -- the number of children
   a_concat : ℕ → NodeKind
   an_alternation : ℕ → NodeKind
   a_repetition : Repetition → NodeKind
 
--- how many trees stand right below a node
+-- the number of children of a node
 abbrev pub child_count : NodeKind → ℕ
 child_count an_empty = 0
 child_count (a_set ranges) = 0
@@ -30,7 +30,7 @@ abbrev pub how_many : Trees → ℕ
 how_many (two first second) = 2
 how_many (more first others) = how_many others + 1
 
--- the node of a tree
+-- the root of a tree
 abbrev pub root_of : Tree → NodeKind
 root_of empty = an_empty
 root_of (one_of ranges) = a_set ranges
@@ -40,7 +40,7 @@ root_of (concat trees) = a_concat (how_many trees)
 root_of (alternation trees) = an_alternation (how_many trees)
 root_of (repeated repetition tree) = a_repetition repetition
 
--- a tree's parts, each after those that stand below it: the last one is the tree itself
+-- the subtrees in postorder; the last one is the tree itself
 abbrev mutual
   pub subtrees_of : Tree → List Tree
   subtrees_of empty = empty ∷ []
@@ -55,7 +55,7 @@ abbrev mutual
   all_subtrees_of (two first second) = subtrees_of first ++ subtrees_of second
   all_subtrees_of (more first others) = subtrees_of first ++ all_subtrees_of others
 
--- a tree's nodes, each after those that stand below it
+-- the nodes in postorder
 abbrev pub nodes_of : Tree → List NodeKind
 nodes_of tree = map root_of (subtrees_of tree)
 
@@ -73,13 +73,13 @@ abbrev pub IsBounded : NodeKind → Type 0
 IsBounded (a_repetition repetition) = (repetition.min ≤ 65535) × IsMost repetition.min repetition.max
 IsBounded _ = Unit {0}
 
--- what is true of each tree that a text spells
+-- what holds of each tree of a text
 pub record IsWellFormed (tree : Tree) : Type 0 where
   -- groups are numbered from 1 in the order in which they open
   pub numbered : (k : ℕ) → k < length (numbers_of tree) → get_or (numbers_of tree) k 0 ≡ k + 1
   -- there are at most 65,536 of them
   pub few : length (numbers_of tree) ≤ 65536
-  -- no two groups have one name
+  -- no two groups have the same name
   pub names : AllPairs (λ a b. a ≢ b) (names_of tree)
   -- the numbers of repetitions are in bounds
   pub repetitions : All IsBounded (nodes_of tree)

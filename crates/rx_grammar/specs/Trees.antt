@@ -1,28 +1,28 @@
--- What a pattern spells, as a tree. Nothing in it is simplified.
+-- Syntax trees of patterns, without simplification.
 use Rattle.std.specs.Prelude.{ℕ, List, [], ◌∷◌, ◌++◌, Option}
 use Rattle.std.specs.Option.{option_to_list}
 use Rattle.rx_grammar.specs.declared.hir.Look.{Look}
 use Rattle.rx_grammar.specs.declared.hir.Repetition.{Repetition}
 use Rattle.rx_grammar.specs.Sets.{Range}
 
--- the name of a group, as its characters: these are ASCII, and so its bytes too
+-- the name of a group, as its characters: these are ASCII, so they are its bytes too
 abbrev pub Name : Type 0
 Name = List ℕ
 
 mutual
   pub data Tree : Type 0 where
-    -- no item
+    -- the empty pattern
     empty : Tree
     -- one character of a set
     one_of : List Range → Tree
     look_at : Look → Tree
-    -- a numbered group, perhaps with a name
+    -- a numbered group, possibly with a name
     group : ℕ → Option Name → Tree → Tree
     concat : Trees → Tree
     alternation : Trees → Tree
     repeated : Repetition → Tree → Tree
 
-  -- two trees or more in a row
+  -- two trees or more, in order
   pub data Trees : Type 0 where
     two : Tree → Tree → Trees
     more : Tree → Trees → Trees
@@ -31,13 +31,13 @@ abbrev pub in_a_row : Tree → Tree → List Tree → Trees
 in_a_row first second [] = two first second
 in_a_row first second (third ∷ others) = more first (in_a_row second third others)
 
--- what items one after the other are
+-- the concatenation of items
 abbrev pub concat_of : List Tree → Tree
 concat_of [] = empty
 concat_of (item ∷ []) = item
 concat_of (first ∷ second ∷ others) = concat (in_a_row first second others)
 
--- what branches beside one another are
+-- the alternation of branches
 abbrev pub alternation_of : Tree → List Tree → Tree
 alternation_of first [] = first
 alternation_of first (second ∷ others) = alternation (in_a_row first second others)

@@ -1,8 +1,9 @@
--- How much a pattern weighs: how large the program is that stands for it.
+-- The weight of a pattern: the size of its program.
 use Rattle.std.specs.Prelude.{ℕ, zero, suc, ◌+◌, ◌*◌, ◌-◌, ◌^◌, Bool, true, false, ◌==◌, ◌&&◌, ◌||◌, length, min, Option, Some, None}
 use Rattle.rx_grammar.specs.Trees.{Tree, Trees, empty, one_of, look_at, group, concat, alternation, repeated, two, more}
 
--- some path through a tree's program takes no character, whatever looks stand on it
+-- some path through a tree's program takes no character, whatever look-around assertions are on the
+-- path
 abbrev mutual
   pub may_be_empty : Tree → Bool
   may_be_empty empty = true
@@ -21,18 +22,18 @@ abbrev mutual
   any_may_be_empty (two first second) = may_be_empty first || may_be_empty second
   any_may_be_empty (more first others) = may_be_empty first || any_may_be_empty others
 
--- what a repetition weighs: its least and greatest number, then the weight of what is repeated, and
--- whether that may be empty; the same with sizes in place of weights
+-- the weight of a repetition, by its least and greatest number, its operand's weight, and whether
+-- the operand may be empty; also the size, by its operand's size
 abbrev pub repeated_weight : ℕ → Option ℕ → ℕ → Bool → ℕ
--- h{0}: as no item
+-- h{0}: like the empty pattern
 repeated_weight n (Some zero) w may = 1
 -- h{n,m}: n copies, then m - n optional copies, each inside the one before
 repeated_weight n (Some (suc m)) w may = n * w + (suc m - n) * (1 + w)
 -- h*, h{0,}: a loop
 repeated_weight zero None w false = 1 + w
--- where h may be empty: an optional loop
+-- if h may be empty: an optional loop
 repeated_weight zero None w true = 2 + w
--- h+, h{n,}: n copies, and a way back to the last one
+-- h+, h{n,}: n copies, and a jump back to the last one
 repeated_weight (suc n) None w may = suc n * w + 1
 
 abbrev mutual
@@ -49,7 +50,7 @@ abbrev mutual
   all_weights_of (two first second) = weight_of first + weight_of second
   all_weights_of (more first others) = weight_of first + all_weights_of others
 
--- how many nodes the program has that stands for a tree: what it weighs, but for the ranges of sets
+-- the number of nodes of a tree's program: the weight without the ranges of sets
 abbrev mutual
   pub size_of : Tree → ℕ
   size_of empty = 1
@@ -64,10 +65,10 @@ abbrev mutual
   all_sizes_of (two first second) = size_of first + size_of second
   all_sizes_of (more first others) = size_of first + all_sizes_of others
 
--- what a whole pattern weighs: with the group of the whole match, and the end
+-- the weight of a whole pattern, with the group of the whole match and the end
 abbrev pub pattern_weight : Tree → ℕ
 pattern_weight tree = 3 + weight_of tree
 
--- a number as it is kept: numbers above the greatest one that is kept stay at that
+-- a number capped at the greatest one that is stored
 abbrev pub held : ℕ → ℕ
 held n = min n (2 ^ 64 - 1)

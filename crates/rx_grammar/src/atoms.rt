@@ -1,4 +1,4 @@
-//! Atoms that are no groups.
+//! Atoms other than groups.
 
 ghost use Rattle.std.specs.Prelude.{◌≡◌, ◌∷◌, ◌↔◌, IsTrue, MatchOption, IfOk};
 ghost use Rattle.rx_grammar.specs.Escapes.{look_of};
@@ -16,16 +16,16 @@ use rx_sets::{AtomSets, CharacterSet};
 use std::alloc::{AllocError, Global};
 use std::rc::Rc;
 
-/// What an atom spells that is no group.
+/// An atom other than a group.
 #[derive(Debug, Drop)]
 pub(crate) enum AtomTree {
     /// One character of a set.
     Set(Rc<CharacterSet>),
-    /// A place.
+    /// A look-around assertion.
     Look(Look),
 }
 
-/// Whether the character stands for itself: any but `\`, `.`, `+`, `*`, `?`, `(`, `)`, `|`, `[`,
+/// Returns whether the character is a literal: any but `\`, `.`, `+`, `*`, `?`, `(`, `)`, `|`, `[`,
 /// `{`, `^` and `$`.
 fn is_literal(c: char) -> bool
     ensures { result ≡ is_literal c }
@@ -36,7 +36,7 @@ fn is_literal(c: char) -> bool
     )
 }
 
-/// The look that an escape spells, by its letter.
+/// Returns the assertion of an escape, given its letter.
 pub(crate) fn look_of(letter: char) -> Option<Look>
     ensures { result ≡ look_of letter }
 {
@@ -49,14 +49,14 @@ pub(crate) fn look_of(letter: char) -> Option<Look>
     }
 }
 
-/// Whether `.` stands in a pattern: under `s`, or where the line terminator is an ASCII byte.
+/// Returns whether `.` is allowed: with the flag `s`, or if the line terminator is an ASCII byte.
 fn is_dot_allowed(config: &Config) -> bool
     ensures { IsTrue result ↔ IsDotAllowed config.now }
 {
     config.get_dot_matches_new_line() || config.get_line_terminator() < 128
 }
 
-/// What follows a backslash.
+/// Parses an escape after its backslash.
 fn escape<'a>(
     sets: &mut AtomSets,
     text: &'a [char],
@@ -82,7 +82,7 @@ fn escape<'a>(
     }
 }
 
-/// What follows a `[`.
+/// Parses a class after its `[`.
 fn class_atom<'a>(
     alloc: Global,
     sets: &mut AtomSets,
@@ -99,7 +99,7 @@ fn class_atom<'a>(
     Ok(Some((AtomTree::Set(set), rest)))
 }
 
-/// What a `.` stands for.
+/// Returns the atom of a `.`.
 fn dot<'a>(
     sets: &mut AtomSets,
     rest: &'a [char],
@@ -115,7 +115,7 @@ fn dot<'a>(
     Ok(Some((AtomTree::Set(set), rest)))
 }
 
-/// A character that stands for itself.
+/// Returns the atom of a literal.
 fn literal<'a>(
     sets: &mut AtomSets,
     c: char,
@@ -133,8 +133,7 @@ fn literal<'a>(
     Ok(Some((AtomTree::Set(set), rest)))
 }
 
-/// The atom at the start of the text, where it is no group, and the rest of the text. `None` where
-/// there is none.
+/// Parses an atom other than a group, and returns the text after it, or `None` if there is none.
 pub(crate) fn plain_atom<'a>(
     alloc: Global,
     sets: &mut AtomSets,

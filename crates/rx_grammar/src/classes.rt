@@ -1,4 +1,4 @@
-//! What stands between brackets.
+//! Classes in brackets.
 
 ghost use Rattle.std.specs.Prelude.{◌≡◌, ◌∷◌, MatchOption, IfOk, true, false};
 ghost use Rattle.rx_grammar.specs.Input.{Begins};
@@ -11,22 +11,21 @@ use crate::input::{eat, first};
 use rx_sets::{ClassItem, ClassPerlKind};
 use std::alloc::{AllocError, Global};
 
-/// Whether the character stands for itself in a class wherever it stands: any but `\`, `[`, `]` and
-/// `-`.
+/// Returns whether the character is a literal anywhere in a class: any but `\`, `[`, `]` and `-`.
 fn is_class_literal(c: char) -> bool
     ensures { result ≡ is_class_literal c }
 {
     !(c == '\\' || c == '[' || c == ']' || c == '-')
 }
 
-/// Whether two of the character in a row don't stand in a class: `&`, `-` and `~`.
+/// Returns whether a class refuses two of the character in a row: `&`, `-` and `~`.
 pub(crate) fn doubles(c: char) -> bool
     ensures { result ≡ doubles c }
 {
     c == '&' || c == '-' || c == '~'
 }
 
-/// One character of a class, which stands for itself or is escaped.
+/// Parses one character of a class, a literal or an escape.
 pub(crate) fn class_character(text: &[char]) -> Option<(char, &[char])>
     ensures { MatchOption result (NoClassCharacter text.now)
         (λ r. ClassCharacter text.now r.0 r.1.now) }
@@ -49,7 +48,7 @@ pub(crate) fn class_character(text: &[char]) -> Option<(char, &[char])>
     }
 }
 
-/// What a letter names: `d`, `s`, `w`, or with a capital letter what isn't in it.
+/// Returns the class of `d`, `s` or `w`; a capital letter negates it.
 pub(crate) fn letter_named(letter: char) -> Option<(ClassPerlKind, bool)>
     ensures { MatchOption result (IsNoClassLetter letter) (λ r. letter ≡ perl_letter r.0 r.1) }
 {
@@ -64,7 +63,7 @@ pub(crate) fn letter_named(letter: char) -> Option<(ClassPerlKind, bool)>
     }
 }
 
-/// `\d`, `\D`, `\s`, `\S`, `\w` or `\W`: what it names, and whether that is negated.
+/// Parses `\d`, `\D`, `\s`, `\S`, `\w` or `\W`: the class, and whether it is negated.
 pub(crate) fn letter_class(text: &[char]) -> Option<((ClassPerlKind, bool), &[char])>
     ensures { MatchOption result (NoLetterClass text.now)
         (λ r. text.now ≡ 92 ∷ perl_letter r.0.0 r.0.1 ∷ r.1.now) }
@@ -81,7 +80,7 @@ pub(crate) fn letter_class(text: &[char]) -> Option<((ClassPerlKind, bool), &[ch
     }
 }
 
-/// What follows a `-` between the two ends of a range. The one before `]` isn't between two ends.
+/// Parses the `-` between the two ends of a range. A `-` before `]` is none.
 fn range_goes_on(text: &[char]) -> Option<&[char]>
     ensures { MatchOption result (GoesOnAsRange text.now → ⊥)
         (λ rest. RangeGoesOn text.now rest.now) }
@@ -95,7 +94,7 @@ fn range_goes_on(text: &[char]) -> Option<&[char]>
     }
 }
 
-/// One item of a class: a character, a range of characters or a letter class.
+/// Parses one item of a class: a character, a range of characters or a letter class.
 pub(crate) fn class_item(text: &[char]) -> Option<(ClassItem, &[char])>
     ensures { MatchOption result (NoItem text.now) (λ r. OneItem text.now r.0 r.1.now) }
 {
@@ -117,8 +116,8 @@ pub(crate) fn class_item(text: &[char]) -> Option<(ClassItem, &[char])>
     Some((ClassItem::Span(low, high), last))
 }
 
-/// The items up to the `]` that closes the class, appended to `items`. A `-` before that `]` stands
-/// for itself.
+/// Parses the items up to the closing `]`, and appends them to `items`. A `-` before that `]` is a
+/// literal.
 fn class_items(
     text: &[char],
     mut items: Vec<ClassItem>,
@@ -144,7 +143,7 @@ fn class_items(
     Ok(Some((items, behind)))
 }
 
-/// The items of a class, in which `]` and `-` stand for themselves where they are first.
+/// Parses the items of a class, in which a first `]` or `-` is a literal.
 fn class_body(alloc: Global, text: &[char]) -> Result<Option<(Vec<ClassItem>, &[char])>, AllocError>
     ensures { IfOk result (λ found. MatchOption found (NoClassBody text.now)
         (λ r. ClassBody text.now r.0.items r.1.now)) }
@@ -166,8 +165,8 @@ fn class_body(alloc: Global, text: &[char]) -> Result<Option<(Vec<ClassItem>, &[
     }
 }
 
-/// A class after its `[`: whether `^` negates it, its items in order, and the text after its `]`.
-/// `None` where the text spells no class. The only error is want of memory.
+/// Parses a class after its `[`: whether `^` negates it, its items in order, and the text after its
+/// `]`. `None` if there is no class. Fails only if out of memory.
 pub(crate) fn class(
     alloc: Global,
     text: &[char],
@@ -185,7 +184,7 @@ pub(crate) fn class(
     }
 }
 
-/// A class that `^` doesn't negate.
+/// Parses a class without a leading `^`.
 fn plain_class(
     alloc: Global,
     text: &[char],

@@ -1,4 +1,4 @@
-//! Why a pattern is refused.
+//! Errors of parsing.
 
 ghost use Rattle.std.specs.Prelude.{◌≡◌};
 ghost use Rattle.rx_grammar.specs.declared.error.SyntaxError.TheVariants.{Memory};
@@ -6,20 +6,20 @@ ghost use Rattle.rx_grammar.specs.declared.error.SyntaxError.TheVariants.{Memory
 use std::alloc::AllocError;
 use thiserror::Error;
 
-/// Why a pattern's text is refused.
+/// Why a pattern is refused.
 #[derive(Debug, Clone, Copy, PartialEq, Eq, Error)]
 pub enum SyntaxError {
-    /// The text has more than 65,536 bytes. This is asked first.
+    /// The pattern has more than 65,536 bytes. This is checked first.
     #[error("the pattern has more than 65,536 bytes")]
     TooLong,
-    /// The text spells nothing, but at a greater nest limit it would: its groups and repetitions
-    /// stand too deep in one another.
+    /// The pattern is only valid with a greater nest limit: its groups and repetitions are nested
+    /// too deeply.
     #[error("the pattern is nested too deeply")]
     Nesting,
-    /// The text spells nothing at any nest limit: it isn't in the grammar.
+    /// The pattern isn't in the grammar, whatever the nest limit.
     #[error("the pattern isn't in the grammar")]
     Outside,
-    /// There was no memory for what the text may spell.
+    /// Out of memory.
     #[error("there was no memory for the pattern")]
     Memory,
 }

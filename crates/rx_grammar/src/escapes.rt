@@ -1,4 +1,4 @@
-//! What a backslash spells with the characters after it.
+//! Escapes.
 
 ghost use Rattle.std.specs.Prelude.{◌≡◌, ◌≤◌, MatchOption, ℕ};
 ghost use Rattle.rx_grammar.specs.Escapes.{SpellsScalar, EscapedCharacter, NumberOfLength, NumberInBraces, NumberAfter, escaped_by};
@@ -6,9 +6,8 @@ ghost use Rattle.rx_grammar.specs.Readers.{SpellsNoCharacter, NoNumberOfLength, 
 
 use crate::input::{CharacterTest, eat, first, split_front};
 
-/// The character that one character after a backslash spells by itself: a control character for
-/// `a`, `f`, `t`, `n`, `r` and `v`, and itself for any ASCII character but letters, digits, `<` and
-/// `>`.
+/// Returns the character of an escape of one character: a control character for `a`, `f`, `t`, `n`,
+/// `r` and `v`, and the character itself for any ASCII character but letters, digits, `<` and `>`.
 pub(crate) fn escaped_by(c: char) -> Option<char>
     ensures { result ≡ escaped_by c }
 {
@@ -28,7 +27,7 @@ pub(crate) fn escaped_by(c: char) -> Option<char>
 /// The greatest scalar value.
 pub(crate) const MAX_SCALAR: u32 = 0x10_FFFF;
 
-/// The scalar value that hexadecimal digits spell, and `None` where they spell none.
+/// Returns the scalar value of hexadecimal digits.
 fn scalar_of(digits: &[char]) -> Option<char>
     ensures { MatchOption result ((c : ℕ) → SpellsScalar digits.now c → ⊥)
         (λ c. SpellsScalar digits.now c) }
@@ -43,7 +42,7 @@ fn scalar_of(digits: &[char]) -> Option<char>
     char::from_u32(code)
 }
 
-/// What follows `\x` or `\u`: `count` hexadecimal digits, or one to eight in braces.
+/// Parses what follows `\x` or `\u`: `count` hexadecimal digits, or one to eight in braces.
 fn number_after(text: &[char], count: usize) -> Option<(char, &[char])>
     requires { 1 ≤ count }
     ensures { MatchOption result (NoNumberAfter count text.now)
@@ -55,7 +54,7 @@ fn number_after(text: &[char], count: usize) -> Option<(char, &[char])>
     }
 }
 
-/// One to eight hexadecimal digits and `}`.
+/// Parses one to eight hexadecimal digits and `}`.
 fn number_in_braces(text: &[char]) -> Option<(char, &[char])>
     ensures { MatchOption result (NoNumberInBraces text.now)
         (λ r. NumberInBraces text.now r.0 r.1.now) }
@@ -73,7 +72,7 @@ fn number_in_braces(text: &[char]) -> Option<(char, &[char])>
     }
 }
 
-/// Hexadecimal digits, `count` of them.
+/// Parses exactly `count` hexadecimal digits.
 fn number_of_length(text: &[char], count: usize) -> Option<(char, &[char])>
     ensures { MatchOption result (NoNumberOfLength count text.now)
         (λ r. NumberOfLength count text.now r.0 r.1.now) }
@@ -88,7 +87,7 @@ fn number_of_length(text: &[char], count: usize) -> Option<(char, &[char])>
     }
 }
 
-/// The character that the text after a backslash spells, and `None` where it spells none.
+/// Parses an escaped character after its backslash.
 pub(crate) fn escaped_character(text: &[char]) -> Option<(char, &[char])>
     ensures { MatchOption result (SpellsNoCharacter text.now)
         (λ r. EscapedCharacter text.now r.0 r.1.now) }

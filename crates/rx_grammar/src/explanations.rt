@@ -11,8 +11,8 @@ use crate::refusals::{Mistake, Reason, Refusal};
 use crate::syntax::Config;
 use std::alloc::{AllocError, Global};
 
-/// Where the first character begins that puts groups and repetitions too deep in one another, and
-/// the text's length where none does.
+/// Returns the offset of the first character that nests groups and repetitions too deeply, or the
+/// text's length if there is none.
 fn deep_place(alloc: Global, text: &str, config: &Config) -> Result<usize, AllocError>
     ensures { IfOk result (λ place. IsCharBoundary text.now place) }
 {
@@ -28,8 +28,8 @@ fn deep_place(alloc: Global, text: &str, config: &Config) -> Result<usize, Alloc
     Ok(text.len())
 }
 
-/// Where the first character begins with which the text is no front of a pattern, and the text's
-/// length where there is none, with what is wrong there.
+/// Returns the offset of the first character that no pattern can have there, or the text's length
+/// if there is none, and what is wrong there.
 fn first_mistake(alloc: Global, text: &str, config: &Config) -> Result<(usize, Mistake), AllocError>
     ensures { IfOk result (λ found. IsCharBoundary text.now found.0) }
 {
@@ -44,19 +44,29 @@ fn first_mistake(alloc: Global, text: &str, config: &Config) -> Result<(usize, M
     Ok((text.len(), front.wanted()))
 }
 
-/// Where and why `parse` refuses a text, and `None` exactly where it is a pattern under these
-/// settings. `reason` is what `parse` answers, with what is outside the grammar; want of memory
-/// alone is an error, and may stand in place of any answer.
+/// Explains where and why `parse` refuses a text. Returns `None` exactly if the text is a pattern.
 ///
-/// `place` is the byte at which the first character begins with which the text can't go on to a
-/// pattern, of any length: under these settings where the reason is `Nesting`, and at any nest
-/// limit where the text is outside the grammar. It is the text's length where there is no such
-/// character, since the text ends too early; and where the text is too long it is the first
-/// character that doesn't lie in the first 65,536 bytes. That a character begins there, or the text
-/// ends, is proved; that it is the first one such is tested.
+/// `reason` is the error of `parse`, with more detail for a text outside the grammar. `place` is a
+/// byte offset:
 ///
-/// It takes time and memory in proportion to the text, as `parse` does, and at most the square of
-/// the number of names beside.
+/// - for `Nesting`, of the first character that no pattern of these settings, of any length, can
+///   have there
+/// - outside the grammar, of the first character that no pattern of any nest limit and any length
+///   can have there
+/// - in both cases, the text's length if there is no such character, because the text ends too
+///   early
+/// - for `TooLong`, of the first character not wholly in the first 65,536 bytes
+///
+/// It is proved that `place` is a character boundary, and tested that it is the first such one.
+///
+/// # Errors
+///
+/// Out of memory only, which may replace any result.
+///
+/// # Complexity
+///
+/// Time and memory proportional to the text, as for `parse`, plus at most the square of the number
+/// of names.
 pub fn explain(alloc: Global, text: &str, config: &Config) -> Result<Option<Refusal>, AllocError>
     ensures none { IfOk result (λ found. (found ≡ None) ↔ SpellsSome text.now config.now) }
     ensures reason { IfOk result (λ found. IfSome found

@@ -3,11 +3,11 @@
 /// A flag of a setting or a group, as in `(?i)`.
 #[derive(Debug, Clone, Copy, PartialEq, Eq)]
 pub(crate) enum Flag {
-    /// `i`: letters match in each case.
+    /// `i`: letters match in any case.
     CaseInsensitive,
-    /// `m`: `^` and `$` stand at the ends of lines too.
+    /// `m`: `^` and `$` also match at the ends of lines.
     MultiLine,
-    /// `s`: `.` matches the line terminator too.
+    /// `s`: `.` also matches the line terminator.
     DotMatchesNewLine,
     /// `U`: repetitions are lazy, and greedy with `?`.
     SwapGreed,

@@ -1,5 +1,5 @@
-//! Fronts of patterns: texts that some further text completes to a pattern. They are read character
-//! by character, and only such a character is taken that leaves a front.
+//! Prefixes of patterns, which some text completes to a pattern. They are read character by
+//! character. A character is refused if the text with it is no such prefix.
 
 mod classes;
 mod counts;
@@ -16,12 +16,12 @@ use escapes::{Escape, Escaped};
 use heads::{Flags, Head};
 use std::alloc::{AllocError, Global};
 
-/// Why a character isn't taken.
+/// Why a character is refused.
 #[derive(Debug, Clone, Copy, PartialEq, Eq)]
 pub(crate) enum Stop {
-    /// No pattern has a front with it.
+    /// No pattern has it there.
     Mistake(Mistake),
-    /// There was no memory.
+    /// Out of memory.
     Memory,
 }
 
@@ -37,25 +37,25 @@ impl From<AllocError> for Stop {
     }
 }
 
-/// What is known of a group, or of the whole pattern, up to here.
+/// The innermost group, or the whole pattern, so far.
 #[derive(Debug, Clone, Copy)]
 struct Level {
     depth: usize,
     dot_matches_new_line: bool,
 }
 
-/// What a front ends in.
+/// What a prefix ends in.
 #[derive(Debug, Clone, Copy)]
 enum State {
-    /// Nothing that may be repeated.
+    /// Nothing that can be repeated.
     Start,
-    /// An item, and how deep it is.
+    /// An item of this depth.
     Item(usize),
     /// An item that ends in a count, which a `?` makes lazy.
     Counted(usize),
-    /// A count in braces, and how deep the item is with it.
+    /// A count in braces, and the depth of the item with it.
     Count(usize, Count),
-    /// An escape that stands in no class.
+    /// An escape outside a class.
     Escape(Escape),
     /// A class.
     Class(Class),
@@ -63,7 +63,7 @@ enum State {
     Head(Head),
 }
 
-/// A front of a pattern.
+/// A prefix of a pattern.
 #[derive(Drop)]
 pub(crate) struct Front {
     alloc: Global,
@@ -77,7 +77,7 @@ pub(crate) struct Front {
 }
 
 impl Front {
-    /// The empty text.
+    /// Returns the empty prefix.
     pub(crate) fn new(alloc: Global, config: &Config) -> Front {
         Front {
             alloc,
@@ -94,13 +94,12 @@ impl Front {
         }
     }
 
-    /// How deep groups and repetitions stand in one another, at least, in each pattern with this
-    /// front.
+    /// Returns the least depth of nesting of a pattern with this prefix.
     pub(crate) fn depth(&self) -> usize {
         self.depth
     }
 
-    /// What the front wants yet: the innermost part that isn't finished.
+    /// Returns what is missing if the text ends here: the innermost part that isn't finished.
     pub(crate) fn wanted(&self) -> Mistake {
         match self.state {
             State::Start | State::Item(_) | State::Counted(_) | State::Head(Head::Start) => {
@@ -113,7 +112,7 @@ impl Front {
         }
     }
 
-    /// The front with one character more.
+    /// Reads one more character.
     pub(crate) fn take(&mut self, c: char) -> Result<(), Stop> {
         self.state = match self.state {
             State::Start => self.after_nothing(c)?,
@@ -136,7 +135,7 @@ impl Front {
         Ok(())
     }
 
-    /// A character where an item may stand.
+    /// Reads a character where an item may start.
     fn after_nothing(&mut self, c: char) -> Result<State, Stop> {
         match c {
             '*' | '+' | '?' | '{' => Err(Stop::Mistake(Mistake::NothingToRepeat)),
@@ -150,7 +149,7 @@ impl Front {
         }
     }
 
-    /// A character after an item of this depth.
+    /// Reads a character after an item of this depth.
     fn after_item(&mut self, c: char, depth: usize) -> Result<State, Stop> {
         let deep = depth.saturating_add(1);
         match c {
@@ -166,18 +165,18 @@ impl Front {
         }
     }
 
-    /// Whether `.` stands for anything here.
+    /// Returns whether `.` is allowed here.
     fn is_dot_allowed(&self) -> bool {
         self.has_ascii_terminator || self.level.dot_matches_new_line
     }
 
-    /// Notes that an item of this depth stands in the innermost group.
+    /// Records an item of this depth in the innermost group.
     fn note(&mut self, depth: usize) {
         self.level.depth = self.level.depth.max(depth);
         self.depth = self.depth.max(self.around.len().saturating_add(depth));
     }
 
-    /// A group begins.
+    /// Opens a group.
     fn open(&mut self, dot_matches_new_line: bool) -> Result<State, Stop> {
         self.note(1);
         let inside = Level {
@@ -191,7 +190,7 @@ impl Front {
         Ok(State::Start)
     }
 
-    /// The innermost group ends.
+    /// Closes the innermost group.
     fn close(&mut self) -> Result<State, Stop> {
         let Some(outside) = self.around.pop() else {
             return Err(Stop::Mistake(Mistake::NoOpenGroup));
@@ -202,7 +201,7 @@ impl Front {
         Ok(State::Item(depth))
     }
 
-    /// A character in a group's head or a setting.
+    /// Reads a character in a group's head or a setting.
     fn in_head(&mut self, c: char, head: Head) -> Result<State, Stop> {
         let dot = self.level.dot_matches_new_line;
         match (head, c) {
@@ -227,13 +226,13 @@ impl Front {
         }
     }
 
-    /// What follows can only be a group, which has a name.
+    /// Starts a name: what follows can only be a named group.
     fn named(&mut self, head: Head) -> Result<State, Stop> {
         self.note(1);
         Ok(State::Head(head))
     }
 
-    /// A character of a name, or the `>` after it.
+    /// Reads a character of a name, or the `>` after it.
     fn in_name(&mut self, c: char, head: Head) -> Result<State, Stop> {
         if head == Head::Name && c == '>' {
             self.end_name()?;
@@ -251,7 +250,7 @@ impl Front {
         Ok(State::Head(Head::Name))
     }
 
-    /// A group's name ends.
+    /// Ends a group's name.
     fn end_name(&mut self) -> Result<(), Stop> {
         let name = std::mem::replace(&mut self.name, String::new(self.alloc));
         if self.names.contains(&name) {

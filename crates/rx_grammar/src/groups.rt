@@ -1,4 +1,4 @@
-//! What stands at the start of a group, and settings.
+//! Heads of groups, and settings.
 
 ghost use Rattle.std.specs.Prelude.{◌≡◌, ◌≢◌, AllPairs, ◌∷◌, ◌++◌, MatchOption, IfOk};
 ghost use Rattle.rx_grammar.specs.Groups.{is_name_start, IsName, opened};
@@ -13,14 +13,14 @@ use std::alloc::{AllocError, Global};
 /// What a group captures.
 #[derive(Debug, Drop)]
 pub(crate) enum GroupKind {
-    /// The group has a number, and perhaps a name.
+    /// The group has a number, and possibly a name.
     Numbered(Option<String>),
     /// The group has no number.
     Unnumbered,
 }
 
 impl GroupKind {
-    /// How many groups with a number the group is: one or none.
+    /// Returns the number of numbered groups that the group is, 0 or 1.
     pub(crate) fn count(&self) -> u32
         ensures { result ≡ opened 0 (capture_of self.now) }
     {
@@ -31,16 +31,16 @@ impl GroupKind {
     }
 }
 
-/// What a parenthesis begins.
+/// What a parenthesis starts.
 #[derive(Debug, Drop)]
 pub(crate) enum Head {
-    /// A setting, with what is set after it.
+    /// A setting, with the settings after it.
     Setting(Config),
-    /// The head of a group, with what is set inside it and what it captures.
+    /// A group, with the settings inside it and what it captures.
     Group(Config, GroupKind),
 }
 
-/// The flag that a letter spells.
+/// Parses the letter of a flag.
 fn flag_letter(text: &[char]) -> Option<(Flag, &[char])>
     ensures { MatchOption result (NoFlagLetter text.now) (λ r. IsFlagLetter text.now r.0 r.1.now) }
 {
@@ -56,8 +56,7 @@ fn flag_letter(text: &[char]) -> Option<(Flag, &[char])>
     }
 }
 
-/// The flags that the text's letters spell, appended to `flags`, and `None` where a flag would
-/// stand there twice.
+/// Parses the letters of flags, and appends the flags to `flags`. `None` if a flag is repeated.
 fn flag_letters(
     text: &[char],
     mut flags: Vec<Flag>,
@@ -77,7 +76,8 @@ fn flag_letters(
     Ok(Some((flags, rest)))
 }
 
-/// What flags change of the settings: those before a `-` are turned on, those after it off.
+/// Parses flags and applies them to the settings: those before a `-` are turned on, those after it
+/// off.
 fn flag_changes<'a>(
     alloc: Global,
     text: &'a [char],
@@ -107,14 +107,14 @@ fn flag_changes<'a>(
     Ok(Some((changed.with_flags(false, &all[count..]), last)))
 }
 
-/// Whether a name may begin with the character.
+/// Returns whether a name may start with the character.
 pub(crate) fn is_name_start(c: char) -> bool
     ensures { result ≡ is_name_start c }
 {
     c.is_ascii_alphabetic() || c == '_'
 }
 
-/// A name, and what follows the `>` after it.
+/// Parses a name and the `>` after it.
 fn group_name(text: &[char]) -> Option<(&[char], &[char])>
     ensures { MatchOption result (NoName text.now)
         (λ r. IsName r.0.now × (text.now ≡ r.0.now ++ 62 ∷ r.1.now)) }
@@ -132,7 +132,7 @@ fn group_name(text: &[char]) -> Option<(&[char], &[char])>
     }
 }
 
-/// What follows `P<` or `<`.
+/// Parses `P<` or `<`.
 fn before_name(text: &[char]) -> Option<&[char]>
     ensures { MatchOption result (NoNameOpening text.now) (λ rest. NameOpening text.now rest.now) }
 {
@@ -142,7 +142,7 @@ fn before_name(text: &[char]) -> Option<&[char]>
     }
 }
 
-/// What follows `(?` where it names no group and leaves the settings as they are: flags.
+/// Parses what follows `(?` if that is flags.
 fn flagged_head<'a>(
     alloc: Global,
     text: &'a [char],
@@ -165,7 +165,7 @@ fn flagged_head<'a>(
     }
 }
 
-/// What follows `(?`.
+/// Parses what follows `(?`.
 fn marked_head<'a>(
     alloc: Global,
     text: &'a [char],
@@ -187,8 +187,7 @@ fn marked_head<'a>(
     Ok(Some((Head::Group(config.copied(), captures), rest)))
 }
 
-/// What a parenthesis begins, and `None` where the text doesn't begin with a setting or the head of
-/// a group.
+/// Parses a setting or the head of a group. `None` if the text starts with neither.
 pub(crate) fn group_head<'a>(
     alloc: Global,
     text: &'a [char],

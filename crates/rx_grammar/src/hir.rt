@@ -1,4 +1,4 @@
-//! What a pattern spells.
+//! Syntax trees of patterns.
 
 ghost use Rattle.std.specs.Prelude.{◌≡◌, ◌≤◌, [], ◌∷◌, length, map, Some, MatchOption};
 ghost use Rattle.rx_grammar.specs.Trees.{Name, numbers_of};
@@ -14,55 +14,56 @@ use rx_sets::CharacterSet;
 use std::marker::Model;
 use std::rc::Rc;
 
-/// A place that an assertion asks for. It takes no character.
+/// A look-around assertion. It matches at a position and takes no character.
 #[derive(Debug, Clone, Copy, PartialEq, Eq, Hash)]
 pub enum Look {
     /// The start of the text.
     Start,
     /// The end of the text.
     End,
-    /// The start of the text, and each place after a line terminator.
+    /// The start of the text, and after each line terminator.
     StartLine,
-    /// The end of the text, and each place before a line terminator.
+    /// The end of the text, and before each line terminator.
     EndLine,
-    /// A place with a word character on exactly one side.
+    /// A word character on exactly one side.
     WordUnicode,
-    /// A place with a word character on both sides or on neither.
+    /// A word character on both sides or on neither.
     WordUnicodeNegate,
 }
 
-/// How often a repetition takes what it stands after.
+/// How often a repetition repeats its operand.
 #[derive(Debug, Clone, Copy, PartialEq, Eq)]
 pub struct Repetition {
     /// The least number of times.
     pub min: u32,
-    /// The greatest number of times, and `None` where there is none.
+    /// The greatest number of times, or `None` if there is no limit.
     pub max: Option<u32>,
     /// Whether more times are tried before fewer.
     pub greedy: bool,
 }
 
-/// A node of a tree, without what stands below it.
+/// A node of a tree, without its children.
 #[derive(Debug, Drop)]
 pub enum Node {
-    /// No item.
+    /// The empty pattern.
     Empty,
     /// One character of a set.
     Set(Rc<CharacterSet>),
-    /// A place, which takes no character.
+    /// A look-around assertion, which takes no character.
     Look(Look),
-    /// A group with a number, and perhaps a name, around one tree.
+    /// A group with a number and possibly a name, and one child.
     Group(u32, Option<String>),
-    /// So many trees, two or more, one after the other.
+    /// A concatenation of this number of children, two or more.
     Concat(usize),
-    /// So many trees, two or more, of which the first that matches is taken.
+    /// An alternation of this number of children, two or more, of which the first that matches is
+    /// taken.
     Alternation(usize),
-    /// One tree, taken again and again.
+    /// A repetition of one child.
     Repeat(Repetition),
 }
 
 impl Node {
-    /// The name of a group that has one.
+    /// Returns the name of a group.
     pub fn name(&self) -> Option<&str>
         ensures { MatchOption result (own_names (kind_of self.now) ≡ [])
             (λ name. own_names (kind_of self.now) ≡ name.now ∷ []) }
@@ -73,7 +74,7 @@ impl Node {
         }
     }
 
-    /// The name of a group with this number that has one.
+    /// Returns the name of the group, if the node is the group with this number.
     fn name_as(&self, number: usize) -> Option<&str>
         ensures { MatchOption result
             ((name : Name) → kind_of self.now ≡ a_group number (Some name) → ⊥)
@@ -91,7 +92,7 @@ impl Node {
         }
     }
 
-    /// How many trees stand right below the node.
+    /// Returns the number of children.
     pub fn width(&self) -> usize
         ensures { result ≡ child_count (kind_of self.now) }
     {
@@ -102,7 +103,7 @@ impl Node {
         }
     }
 
-    /// How many groups the node is by itself: one or none.
+    /// Returns the number of groups that the node itself is, 0 or 1.
     fn own_groups(&self) -> usize
         ensures value { result ≡ own_groups (kind_of self.now) }
         ensures few { result ≤ 1 }
@@ -114,9 +115,8 @@ impl Node {
     }
 }
 
-/// What a pattern spells: a tree, with nothing in it simplified. It comes from `parse` alone.
-/// Contracts see it as its nodes, each after what stands below it: these are exactly the nodes of
-/// the tree that they make.
+/// The syntax tree of a pattern, without simplification. Only `parse` makes it. Contracts see its
+/// nodes in postorder, which are exactly the nodes of their tree.
 #[derive(Debug, Drop)]
 pub struct Hir {
     nodes: Vec<Node>,
@@ -140,8 +140,8 @@ impl Model for Hir {
 }
 
 impl Hir {
-    /// The nodes of the tree, each after what stands below it, so that the last one is the root.
-    /// What stands below a node are the last trees before it that stand below no other.
+    /// Returns the nodes in postorder: each follows its children, and the last is the root. The
+    /// children of a node are the last trees before it that have no parent yet.
     pub fn nodes(&self) -> &[Node]
         ensures nodes { map kind_of result.now ≡ self.now }
         ensures exact { self.now ≡ nodes_of (tree_of self.now) }
@@ -150,16 +150,15 @@ impl Hir {
         &self.nodes
     }
 
-    /// What is known of the part of the tree that each node is the root of, in the order of the
-    /// nodes.
+    /// Returns the properties of each node's subtree, in the order of the nodes.
     pub fn properties(&self) -> &[Properties]
         ensures { result.now ≡ map properties_of (subtrees_of (tree_of self.now)) }
     {
         &self.properties
     }
 
-    /// What the pattern weighs, with the group of the whole match, and `usize::MAX` where it weighs
-    /// more. `O(1)`.
+    /// Returns the weight of the pattern, including the group of the whole match, capped at
+    /// `usize::MAX`. `O(1)`.
     pub fn weight(&self) -> usize
         ensures { result ≡ held (pattern_weight (tree_of self.now)) }
     {
@@ -169,8 +168,8 @@ impl Hir {
         }
     }
 
-    /// The name of the group with this number, and `None` where there is no such group or it has no
-    /// name. `O(n)` in the number of nodes.
+    /// Returns the name of the group with this number, or `None` if there is no such group or it
+    /// has no name. `O(n)` in the number of nodes.
     pub fn group_name(&self, number: usize) -> Option<&str>
         ensures { MatchOption result
             ((name : Name) → HasName (tree_of self.now) number name → ⊥)
@@ -184,8 +183,8 @@ impl Hir {
         None
     }
 
-    /// How many groups with a number there are: the greatest number of a group. The whole match,
-    /// which is called group 0 elsewhere, isn't counted. `O(n)` in the number of nodes.
+    /// Returns the number of groups, which is the greatest number of a group. The whole match,
+    /// group 0, isn't counted. `O(n)` in the number of nodes.
     pub fn group_count(&self) -> usize
         ensures count { result ≡ length (numbers_of (tree_of self.now)) }
         ensures well_formed { IsWellFormed (tree_of self.now) }
@@ -197,9 +196,10 @@ impl Hir {
         count
     }
 
-    /// How many groups stand in each match, the whole match among them, and `None` where matches
-    /// differ in that. A repetition that may take nothing differs, unless there is no group in it.
-    /// `O(1)`.
+    /// Returns the number of groups in every match, including the whole match, or `None` if matches
+    /// differ in that. `O(1)`.
+    ///
+    /// For `(a)*`, for example, matches differ.
     pub fn static_captures_len(&self) -> Option<usize>
         ensures { result ≡ static_captures_of (tree_of self.now) }
     {
@@ -208,7 +208,7 @@ impl Hir {
     }
 }
 
-/// The tree with these nodes, of which this is known.
+/// Returns the tree with these nodes and these properties.
 pub(crate) fn tree_with(nodes: Vec<Node>, properties: Vec<Properties>) -> Hir
     requires { AreNodesOf (tree_of (map kind_of nodes.items)) (map kind_of nodes.items)
         properties.items }

@@ -1,5 +1,5 @@
-//! The start of a pattern's text: each reader here and in the modules beside it takes a text, and
-//! answers what stands at its start with what is left of the text.
+//! Reading the start of a pattern's text. Each parser here and in the modules beside this one takes
+//! a text, and returns what it parsed and the rest of the text.
 
 ghost use Rattle.std.specs.Prelude.{◌≡◌, [], ◌∷◌, MatchOption};
 ghost use Rattle.rx_grammar.specs.Input.{Begins};
@@ -12,12 +12,12 @@ pub(crate) enum CharacterTest {
     Digit,
     /// 0 to 9, a to f and A to F.
     HexDigit,
-    /// What a group's name is made of: ASCII letters, digits and `_`.
+    /// A character of a group's name: an ASCII letter, a digit or `_`.
     NameCharacter,
 }
 
 impl CharacterTest {
-    /// Whether the character passes.
+    /// Returns whether the character passes.
     pub(crate) fn passes(self, c: char) -> bool
         ensures { result ≡ passes self c }
     {
@@ -29,7 +29,7 @@ impl CharacterTest {
     }
 }
 
-/// The first character and the others, and `None` of the empty text.
+/// Returns the first character and the rest, or `None` for the empty text.
 pub(crate) fn first(text: &[char]) -> Option<(char, &[char])>
     ensures { MatchOption result (text.now ≡ []) (λ r. text.now ≡ r.0 ∷ r.1.now) }
 {
@@ -37,7 +37,7 @@ pub(crate) fn first(text: &[char]) -> Option<(char, &[char])>
     Some((*first, rest))
 }
 
-/// What follows `c`, and `None` where the text doesn't begin with it.
+/// Returns the text after `c`, or `None` if the text doesn't start with `c`.
 pub(crate) fn eat(text: &[char], c: char) -> Option<&[char]>
     ensures { MatchOption result (Begins c text.now → ⊥) (λ rest. text.now ≡ c ∷ rest.now) }
 {
@@ -45,7 +45,7 @@ pub(crate) fn eat(text: &[char], c: char) -> Option<&[char]>
     if found == c { Some(rest) } else { None }
 }
 
-/// The longest front of the text whose characters pass the test, and the rest.
+/// Returns the longest prefix whose characters pass the test, and the rest.
 pub(crate) fn split_front(text: &[char], test: CharacterTest) -> (&[char], &[char])
     ensures { SplitsFront test text.now result.0.now result.1.now }
 {

@@ -1,27 +1,26 @@
-//! Laws of what a pattern spells. Each function here does nothing: its contract is a law of the
-//! definitions by which the other contracts speak, proved.
+//! Laws of the grammar. Each function does nothing: its contract is the law.
 
 ghost use Rattle.std.specs.Prelude.{ℕ, List};
 ghost use Rattle.rx_grammar.specs.Settings.{Settings};
 ghost use Rattle.rx_grammar.specs.Laws.{HasFewGroups, NumbersGroups, SpellsAtMostOne, SpellsOrNot};
 
-/// Under given settings a text spells at most one tree.
+/// A text has at most one tree with given settings.
 pub fn spells_at_most_one()
     ensures { (text : List ℕ) (settings : Settings) → SpellsAtMostOne text settings }
 {}
 
-/// Each text spells a tree under given settings, or it would at a greater nest limit, or it spells
-/// none at any. So which answer `parse` has with enough memory is settled for each text.
+/// A text has a tree with given settings, or has one only with a greater nest limit, or has none
+/// with any. So the result of `parse`, given enough memory, is decided for each text.
 pub fn spells_or_not()
     ensures { (text : List ℕ) (settings : Settings) → SpellsOrNot text settings }
 {}
 
-/// The groups of what a text spells have the numbers from 1 up, in the order in which they open.
+/// The groups of a tree are numbered from 1, in the order in which they open.
 pub fn groups_are_numbered()
     ensures { (text : List ℕ) (settings : Settings) → NumbersGroups text settings }
 {}
 
-/// There are at most 65,536 of them.
+/// There are at most 65,536 groups.
 pub fn groups_are_few()
     ensures { (text : List ℕ) (settings : Settings) → HasFewGroups text settings }
 {}

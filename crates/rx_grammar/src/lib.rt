@@ -1,4 +1,4 @@
-//! Patterns: their grammar, and what a pattern spells.
+//! Patterns: their grammar and their syntax trees.
 #![tactic(auto)]
 
 mod atoms;

@@ -1,4 +1,4 @@
-//! A pattern that is read part by part.
+//! The parser, which reads a pattern part by part.
 
 ghost use Rattle.std.specs.Prelude.{ℕ, ◌≡◌, ◌+◌, ◌≤◌, ◌<◌, ◌^◌, [], ◌∷◌, length, OnOk, MatchResult};
 ghost use Rattle.rx_grammar.specs.Trees.{Tree};
@@ -18,8 +18,8 @@ use crate::trees::TreeStack;
 use rx_sets::AtomSets;
 use std::alloc::{AllocError, Global};
 
-/// The heights at which the trees of a group begin, and those of its last branch, and how deep its
-/// items are, held at `usize::MAX`.
+/// The stack heights at which the trees of a group and those of its last branch start, and the
+/// depth of its items, capped at `usize::MAX`.
 #[derive(Debug, Drop)]
 pub(crate) struct Heights {
     group: usize,
@@ -27,7 +27,8 @@ pub(crate) struct Heights {
     depth: usize,
 }
 
-/// What a group stands in, and what it captures: its number is the number of groups up to it.
+/// The state around an open group, and what the group captures. Its number is the number of groups
+/// up to it.
 #[derive(Debug, Drop)]
 pub(crate) struct Around {
     heights: Heights,
@@ -36,7 +37,7 @@ pub(crate) struct Around {
     captures: GroupKind,
 }
 
-/// A pattern that is read in part.
+/// A parser that has read a part of a pattern.
 #[derive(Drop)]
 pub(crate) struct Parser {
     alloc: Global,
@@ -49,7 +50,7 @@ pub(crate) struct Parser {
 }
 
 impl Parser {
-    /// Nothing is read yet.
+    /// Returns a parser that has read nothing.
     pub(crate) fn new(alloc: Global, config: &Config) -> Parser
         ensures stands { ParserIsAt result [] (place_at_start config.now) }
         ensures groups { result.groups ≡ 0 }
@@ -69,8 +70,8 @@ impl Parser {
         }
     }
 
-    /// The postfixes after an atom of this depth, which is an item with them. Answers the text
-    /// after it.
+    /// Reads the postfixes after an atom of this depth, which then is an item. Returns the text
+    /// after them.
     fn finish_item<'a>(&mut self, text: &'a [char], depth: usize) -> Result<&'a [char], SyntaxError>
         requires stands { (place : PatternPlace) × (tree : Tree)
             × ParserIsAt self.old (tree ∷ []) place }
@@ -85,7 +86,7 @@ impl Parser {
         Ok(rest)
     }
 
-    /// An atom that is no group, with its postfixes.
+    /// Reads an atom other than a group, with its postfixes.
     fn read_atom<'a>(&mut self, text: &'a [char]) -> Result<&'a [char], SyntaxError>
         requires stands { IsAtSomePlace self.old }
         requires atom { IsAtomPlace text.now }
@@ -101,7 +102,7 @@ impl Parser {
         self.finish_item(behind, 0)
     }
 
-    /// The branch ends.
+    /// Ends the branch.
     fn end_branch(&mut self) -> Result<(), AllocError>
         requires stands { IsAtSomePlace self.old }
         ensures ends { (place : PatternPlace) → ParserIsAt self.old [] place → OnOk result
@@ -113,7 +114,7 @@ impl Parser {
         Ok(())
     }
 
-    /// The group, or the whole pattern, ends, and its branches are one tree.
+    /// Ends the group, or the whole pattern, and joins its branches into one tree.
     fn end_level(&mut self) -> Result<(), AllocError>
         requires stands { IsAtSomePlace self.old }
         ensures ends { (place : PatternPlace) → ParserIsAt self.old [] place → OnOk result
@@ -124,7 +125,7 @@ impl Parser {
         Ok(())
     }
 
-    /// What a parenthesis begins.
+    /// Reads what a parenthesis starts.
     fn read_head<'a>(&mut self, text: &'a [char]) -> Result<&'a [char], SyntaxError>
         requires stands { IsAtSomePlace self.old }
         requires parenthesis { Begins 40 text.now }
@@ -148,7 +149,7 @@ impl Parser {
         }
     }
 
-    /// A group begins.
+    /// Opens a group.
     fn open(&mut self, config: Config, captures: GroupKind) -> Result<(), AllocError>
         requires stands { IsAtSomePlace self.old }
         requires room { self.old.groups + 1 < 2 ^ 32 }
@@ -173,7 +174,7 @@ impl Parser {
         Ok(())
     }
 
-    /// The innermost group ends, and postfixes follow it.
+    /// Closes the innermost group, and reads its postfixes.
     fn close<'a>(&mut self, rest: &'a [char]) -> Result<&'a [char], SyntaxError>
         requires stands { IsAtSomePlace self.old }
         ensures reads { (place : PatternPlace) → ParserIsAt self.old [] place → MatchResult result
@@ -199,7 +200,7 @@ impl Parser {
         self.finish_item(rest, depth)
     }
 
-    /// What stands at the start of a text, and the text after it.
+    /// Reads one part of a pattern, and returns the text after it.
     pub(crate) fn read_part<'a>(
         &mut self,
         c: char,
@@ -224,7 +225,7 @@ impl Parser {
         }
     }
 
-    /// A whole text.
+    /// Reads a whole text.
     pub(crate) fn read(&mut self, text: &[char]) -> Result<(), SyntaxError>
         requires stands { IsAtSomePlace self.old }
         requires room { self.old.groups + length text.now < 2 ^ 32 }
@@ -239,8 +240,8 @@ impl Parser {
         Ok(())
     }
 
-    /// The tree of the pattern, alone on its stack, where no group is open, and its depth, held at
-    /// `usize::MAX`.
+    /// Ends the pattern, in which no group may be open. Returns the stack with its one tree, and
+    /// the depth, capped at `usize::MAX`.
     pub(crate) fn finish(mut self) -> Result<(TreeStack, usize), SyntaxError>
         requires stands { IsAtSomePlace self }
         ensures ends { (place : PatternPlace) → ParserIsAt self [] place → MatchResult result

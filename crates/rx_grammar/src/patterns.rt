@@ -1,4 +1,4 @@
-//! Reading a whole pattern.
+//! Parsing a whole pattern.
 
 ghost use Rattle.std.specs.Prelude.{◌≡◌, ◌≢◌, ◌<◌, ◌≤◌, ◌↔◌, All, AllPairs, Contains, MatchBool, length, chars, encode_utf8_all, map, IfOk, IfErr};
 ghost use Rattle.rx_grammar.specs.Postorder.{tree_of, names_in};
@@ -12,10 +12,10 @@ use crate::parser::Parser;
 use crate::syntax::Config;
 use std::alloc::{AllocError, Global};
 
-/// The greatest number of bytes of a pattern.
+/// The most bytes of a pattern.
 pub(crate) const MAX_BYTES: usize = 65_536;
 
-/// Whether the name stands among the names.
+/// Returns whether the name is among the names.
 fn stands_in(name: &str, names: &[&str]) -> bool
     ensures { MatchBool result (Contains (map (λ name. name.now) names.now) name.now)
         (All (λ other. other ≢ name.now) (map (λ name. name.now) names.now)) }
@@ -28,7 +28,7 @@ fn stands_in(name: &str, names: &[&str]) -> bool
     false
 }
 
-/// Whether no two groups among the nodes have one name.
+/// Returns whether no two groups among the nodes have the same name.
 fn has_distinct_names(alloc: Global, nodes: &[Node]) -> Result<bool, AllocError>
     ensures { IfOk result (λ distinct. MatchBool distinct
         (AllPairs (λ a b. a ≢ b) (names_in (map kind_of nodes.now)))
@@ -46,7 +46,7 @@ fn has_distinct_names(alloc: Global, nodes: &[Node]) -> Result<bool, AllocError>
     Ok(true)
 }
 
-/// What a pattern of at most 65,536 bytes spells.
+/// Parses a pattern of at most 65,536 bytes.
 fn parse_characters(alloc: Global, text: &[char], config: &Config) -> Result<Hir, SyntaxError>
     requires size { length (encode_utf8_all text.now) ≤ 65536 }
     requires short { length text.now ≤ 65536 }
@@ -66,11 +66,21 @@ fn parse_characters(alloc: Global, text: &[char], config: &Config) -> Result<Hir
     Ok(trees.into_hir())
 }
 
-/// What a pattern spells under these settings, exactly where it spells anything. Else the pattern
-/// is refused: as `TooLong` exactly where it has more than 65,536 bytes, as `Nesting` exactly where
-/// it would spell something at a greater nest limit, and as `Outside` exactly where it has no more
-/// bytes and spells nothing at any nest limit. `Memory` may stand in place of a tree and of the
-/// last two.
+/// Parses a pattern.
+///
+/// # Errors
+///
+/// - `TooLong` exactly if the text has more than 65,536 bytes
+/// - `Nesting` exactly if the text is a pattern only with a greater nest limit
+/// - `Outside` exactly if it is shorter and no pattern with any nest limit
+/// - `Memory`, which may replace the tree and the last two
+///
+/// # Examples
+///
+/// ```rust
+/// let hir: Hir = parse(rt.alloc(), "^(?<word>a)*?", &Config::new())?;
+/// assert!(rt; hir.group_count() == 1);
+/// ```
 pub fn parse(alloc: Global, text: &str, config: &Config) -> Result<Hir, SyntaxError>
     ensures spells { IfOk result (λ hir. Spells (chars text.now) config.now (tree_of hir)) }
     ensures too_long { (result ≡ Err SyntaxError.TooLong) ↔ (65536 < length text.now) }

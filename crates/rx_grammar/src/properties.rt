@@ -1,4 +1,4 @@
-//! What is known of each part of a tree.
+//! Properties of subtrees.
 
 ghost use Rattle.std.specs.Prelude.{ℕ, ◌≡◌, ◌+◌, ◌<◌, ◌^◌, List, [], ◌∷◌, ◌++◌, take, Some};
 ghost use Rattle.rx_grammar.specs.Trees.{Tree};
@@ -11,23 +11,23 @@ ghost use Rattle.rx_grammar.specs.Nodes.{kind_of, properties_of};
 
 use crate::hir::{Node, Repetition};
 
-/// What is known of a part of a tree: of a node with all that stands below it.
+/// Properties of a subtree: of a node with all nodes below it.
 #[derive(Debug, Clone, Copy, PartialEq, Eq)]
 pub struct Properties {
-    /// How many nodes the part has. They stand in a row, and the part's own node is the last of
-    /// them.
+    /// The number of nodes of the subtree. They are adjacent, and its root is the last.
     pub extent: usize,
-    /// What the part weighs, and `usize::MAX` where it weighs more.
+    /// The weight of the subtree, capped at `usize::MAX`.
     pub weight: usize,
-    /// How many nodes the part's program has, and `usize::MAX` where it has more.
+    /// The number of nodes of its program, capped at `usize::MAX`.
     pub size: usize,
-    /// Whether some path through the part's program takes no character, whatever looks stand on it.
+    /// Whether some path through its program takes no character, whatever look-around assertions
+    /// are on the path.
     pub may_be_empty: bool,
-    /// How many groups stand in each match of the part, and `None` where matches differ in that.
+    /// The number of groups in every match of the subtree, or `None` if matches differ in that.
     pub static_groups: Option<usize>,
 }
 
-/// What is known of parts in a row.
+/// Properties of adjacent subtrees.
 #[derive(Debug, Clone, Copy, PartialEq, Eq)]
 pub(crate) struct RowProperties {
     pub(crate) extent: usize,
@@ -35,13 +35,14 @@ pub(crate) struct RowProperties {
     size: usize,
     all_may_be_empty: bool,
     any_may_be_empty: bool,
-    /// How many groups stand in each match of all of them, one after the other.
+    /// The number of groups in every match of their concatenation.
     groups: Option<usize>,
-    /// How many stand in each match of any of them. There is nothing to tell of no part.
+    /// The number of groups in every match of their alternation. The outer `None` is for no
+    /// subtree.
     common_groups: Option<Option<usize>>,
 }
 
-/// Both numbers together, where there are both.
+/// Returns the sum, or `None` if either is `None`.
 fn both(one: Option<usize>, other: Option<usize>) -> Option<usize>
     ensures { ((n m : ℕ) → one ≡ Some n → other ≡ Some m → n + m < 2 ^ 64)
         → result ≡ both_groups one other }
@@ -49,7 +50,7 @@ fn both(one: Option<usize>, other: Option<usize>) -> Option<usize>
     one?.checked_add(other?)
 }
 
-/// The number that both are, where both are told.
+/// Returns the number that both are, or `None` if they differ.
 fn common(one: Option<usize>, other: Option<usize>) -> Option<usize>
     ensures { result ≡ common_groups one other }
 {
@@ -59,7 +60,8 @@ fn common(one: Option<usize>, other: Option<usize>) -> Option<usize>
     }
 }
 
-/// The number that these and those of others are, if there are others.
+/// Returns the number that `groups` and `others` have in common. `others` is `None` if there are no
+/// others.
 fn common_with(groups: Option<usize>, others: Option<Option<usize>>) -> Option<usize>
     ensures { result ≡ common_with groups others }
 {
@@ -70,7 +72,7 @@ fn common_with(groups: Option<usize>, others: Option<Option<usize>>) -> Option<u
 }
 
 impl RowProperties {
-    /// What is known of no part.
+    /// Returns the properties of no subtree.
     pub(crate) fn none() -> RowProperties
         ensures { AreRowProperties result [] }
     {
@@ -85,7 +87,7 @@ impl RowProperties {
         }
     }
 
-    /// What is known with one part more.
+    /// Returns the properties with one more subtree.
     pub(crate) fn with(self, part: Properties) -> RowProperties
         requires { self.extent + part.extent < 2 ^ 64 }
         ensures { (trees : List Tree) (tree : Tree) → AreRowProperties self trees
@@ -107,8 +109,8 @@ impl RowProperties {
 }
 
 impl Repetition {
-    /// What the repetition weighs, where what it stands after weighs so much. The same with sizes
-    /// in place of weights.
+    /// Returns the weight of the repetition, given that of its operand, or the size, given the
+    /// operand's size.
     fn weight(self, weight: usize, may_be_empty: bool) -> usize
         ensures { (w : ℕ) → weight ≡ held w
             → result ≡ held (repeated_weight self.min self.max w may_be_empty) }
@@ -136,8 +138,7 @@ impl Repetition {
         }
     }
 
-    /// How many groups stand in each match of the repetition, where so many stand in each match of
-    /// what it stands after.
+    /// Returns the number of groups in every match of the repetition, given that of its operand.
     fn static_groups(self, groups: Option<usize>) -> Option<usize>
         ensures { result ≡ repeated_groups self.min self.max groups }
     {
@@ -152,7 +153,7 @@ impl Repetition {
 }
 
 impl Node {
-    /// What the node weighs, with what stands below it.
+    /// Returns the weight of the node, given its children.
     fn weight(&self, below: RowProperties) -> usize
         ensures { (trees : List Tree) → MayFollow trees (kind_of self.now)
             → AreRowProperties below (take (child_count (kind_of self.now)) trees)
@@ -168,7 +169,7 @@ impl Node {
         }
     }
 
-    /// How many nodes the program has of the node with what stands below it.
+    /// Returns the number of nodes of the node's program, given its children.
     fn size(&self, below: RowProperties) -> usize
         ensures { (trees : List Tree) → MayFollow trees (kind_of self.now)
             → AreRowProperties below (take (child_count (kind_of self.now)) trees)
@@ -183,7 +184,7 @@ impl Node {
         }
     }
 
-    /// Whether the node may be empty, with what stands below it.
+    /// Returns whether the node may be empty, given its children.
     fn may_be_empty(&self, below: RowProperties) -> bool
         ensures { (trees : List Tree) → MayFollow trees (kind_of self.now)
             → AreRowProperties below (take (child_count (kind_of self.now)) trees)
@@ -199,7 +200,7 @@ impl Node {
         }
     }
 
-    /// How many groups stand in each match of the node with what stands below it.
+    /// Returns the number of groups in every match of the node, given its children.
     fn static_groups(&self, below: RowProperties) -> Option<usize>
         requires { below.extent + 1 < 2 ^ 64 }
         ensures { (trees : List Tree) → MayFollow trees (kind_of self.now)
@@ -215,7 +216,7 @@ impl Node {
         }
     }
 
-    /// What is known of the node with what stands below it.
+    /// Returns the properties of the node, given its children.
     pub(crate) fn properties(&self, below: RowProperties) -> Properties
         requires { below.extent + 1 < 2 ^ 64 }
         ensures { (trees : List Tree) → MayFollow trees (kind_of self.now)

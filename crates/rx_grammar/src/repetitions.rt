@@ -1,4 +1,4 @@
-//! What stands after an atom and says how often it is taken.
+//! Postfixes of atoms, which say how often an atom is repeated.
 
 ghost use Rattle.std.specs.Prelude.{◌≡◌, ◌≤◌, ◌<◌, true, MatchOption};
 ghost use Rattle.std.specs.Char.{is_ascii_digit};
@@ -12,7 +12,7 @@ use crate::input::{CharacterTest, eat, first, split_front};
 /// The greatest number in braces.
 const MAX_NUMBER: u32 = 65_535;
 
-/// The number that decimal digits spell, and `None` where it is above 65,535.
+/// Returns the value of decimal digits, or `None` above 65,535.
 fn number_of(digits: &[char]) -> Option<u32>
     ensures { MatchOption result (AllByRecursion (λ c. is_ascii_digit c ≡ true) digits.now
         → 65535 < decimal_after 0 digits.now) (λ n. (decimal_after 0 digits.now ≡ n) ×
@@ -28,7 +28,7 @@ fn number_of(digits: &[char]) -> Option<u32>
     Some(number)
 }
 
-/// A number in braces, of at most 65,535. Zeros may stand before it.
+/// Parses a number in braces, at most 65,535, which may have leading zeros.
 pub(crate) fn number(text: &[char]) -> Option<(u32, &[char])>
     ensures { MatchOption result (NoNumber text.now) (λ r. Number text.now r.0 r.1.now) }
 {
@@ -42,10 +42,10 @@ pub(crate) fn number(text: &[char]) -> Option<(u32, &[char])>
     }
 }
 
-/// How often something is taken: the least number of times, and the greatest if there is one.
+/// The least and the greatest number of times; `None` is no limit.
 pub(crate) type Bounds = (u32, Option<u32>);
 
-/// What stands in braces after `{`: `n}`, `n,}` or `n,m}`.
+/// Parses what follows a `{`: `n}`, `n,}` or `n,m}`.
 fn count_in_braces(text: &[char]) -> Option<(Bounds, &[char])>
     ensures { MatchOption result (NoCountInBraces text.now)
         (λ r. CountInBraces text.now r.0.0 r.0.1 r.1.now) }
@@ -74,7 +74,7 @@ fn count_in_braces(text: &[char]) -> Option<(Bounds, &[char])>
     Some(((least, Some(most)), after))
 }
 
-/// `*`, `+`, `?`, `{n}`, `{n,}` or `{n,m}`, and `None` where the text begins with none of them.
+/// Parses `*`, `+`, `?`, `{n}`, `{n,}` or `{n,m}`.
 pub(crate) fn count(text: &[char]) -> Option<(Bounds, &[char])>
     ensures { MatchOption result (NoCount text.now) (λ r. Count text.now r.0.0 r.0.1 r.1.now) }
 {
@@ -90,8 +90,7 @@ pub(crate) fn count(text: &[char]) -> Option<(Bounds, &[char])>
     }
 }
 
-/// A count, and whether it is greedy: not with a `?` straight after it. `swap_greed` turns that
-/// round.
+/// Parses a count, and the `?` after it that makes it lazy. `swap_greed` swaps lazy and greedy.
 pub(crate) fn postfix(text: &[char], swap_greed: bool) -> Option<(Repetition, &[char])>
     ensures { MatchOption result (NoPostfix swap_greed text.now)
         (λ r. Postfix swap_greed text.now r.0 r.1.now) }

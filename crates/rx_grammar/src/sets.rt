@@ -1,4 +1,4 @@
-//! The sets that the atoms of a pattern stand for under its settings.
+//! The sets of a pattern's atoms with its settings.
 
 ghost use Rattle.std.specs.Prelude.{◌≡◌, IfOk};
 ghost use Rattle.rx_grammar.specs.Sets.{IsSetOf, Folded};
@@ -10,7 +10,7 @@ use rx_sets::{AtomSets, CharacterSet, ClassItem};
 use std::alloc::AllocError;
 use std::rc::Rc;
 
-/// What a literal stands for.
+/// Returns the set of a literal.
 pub(crate) fn literal_set(
     sets: &AtomSets,
     config: &Config,
@@ -21,7 +21,7 @@ pub(crate) fn literal_set(
     sets.literal(config.get_case_insensitive(), c)
 }
 
-/// What `.` stands for. Folding changes nothing of it.
+/// Returns the set of `.`, which case folding doesn't change.
 pub(crate) fn dot_set(sets: &AtomSets, config: &Config) -> Result<Rc<CharacterSet>, AllocError>
     ensures { IfOk result (λ set. IsSetOf set.value (InDot config.now)) }
 {
@@ -32,7 +32,7 @@ pub(crate) fn dot_set(sets: &AtomSets, config: &Config) -> Result<Rc<CharacterSe
     }
 }
 
-/// What a class in brackets stands for.
+/// Returns the set of a class in brackets.
 pub(crate) fn class_set(
     sets: &mut AtomSets,
     config: &Config,

@@ -1,4 +1,4 @@
-//! The settings that a pattern is read under.
+//! The settings of parsing.
 
 ghost use Rattle.std.specs.Prelude.{◌≡◌, if◌then◌else◌};
 ghost use Rattle.rx_grammar.specs.Settings.{default_settings, with_flag, with_flags};
@@ -7,8 +7,7 @@ use crate::flags::Flag;
 use crate::hir::Look;
 use std::marker::Model;
 
-/// The settings that a pattern is read under. Flags in the pattern change the first four for a part
-/// of it.
+/// The settings of parsing. Flags in the pattern change the first four for a part of it.
 #[derive(Debug, Clone, Drop)]
 pub struct Config {
     case_insensitive: bool,
@@ -35,7 +34,7 @@ impl Model for Config {
 }
 
 impl Config {
-    /// No flag is on, 250 levels of nesting, and lines end in LF.
+    /// Returns the default settings: all flags off, a nest limit of 250, LF as the line terminator.
     pub fn new() -> Config
         ensures { result ≡ default_settings }
     {
@@ -49,7 +48,7 @@ impl Config {
         }
     }
 
-    /// Whether letters match in each case, as under `(?i)`.
+    /// Sets whether letters match in any case, as with `(?i)`.
     pub fn case_insensitive(mut self, yes: bool) -> Config
         ensures { result ≡ record self { case_insensitive = yes } }
     {
@@ -57,7 +56,7 @@ impl Config {
         self
     }
 
-    /// Whether `^` and `$` stand at the ends of lines too, as under `(?m)`.
+    /// Sets whether `^` and `$` also match at the ends of lines, as with `(?m)`.
     pub fn multi_line(mut self, yes: bool) -> Config
         ensures { result ≡ record self { multi_line = yes } }
     {
@@ -65,7 +64,7 @@ impl Config {
         self
     }
 
-    /// Whether `.` matches the line terminator too, as under `(?s)`.
+    /// Sets whether `.` also matches the line terminator, as with `(?s)`.
     pub fn dot_matches_new_line(mut self, yes: bool) -> Config
         ensures { result ≡ record self { dot_matches_new_line = yes } }
     {
@@ -73,7 +72,7 @@ impl Config {
         self
     }
 
-    /// Whether repetitions are lazy, and greedy with `?`, as under `(?U)`.
+    /// Sets whether repetitions are lazy, and greedy with `?`, as with `(?U)`.
     pub fn swap_greed(mut self, yes: bool) -> Config
         ensures { result ≡ record self { swap_greed = yes } }
     {
@@ -81,7 +80,7 @@ impl Config {
         self
     }
 
-    /// How deep groups and repetitions may stand in one another.
+    /// Sets how deeply groups and repetitions may be nested.
     pub fn nest_limit(mut self, limit: u32) -> Config
         ensures { result ≡ record self { nest_limit = limit } }
     {
@@ -89,8 +88,8 @@ impl Config {
         self
     }
 
-    /// The byte that `.` doesn't match. A pattern that spells such a `.` is refused where the byte
-    /// is 128 or more.
+    /// Sets the line terminator, which `.` doesn't match. If it is 128 or more, a pattern with such
+    /// a `.` is refused.
     pub fn line_terminator(mut self, byte: u8) -> Config
         ensures { result ≡ record self { line_terminator = byte } }
     {
@@ -98,7 +97,7 @@ impl Config {
         self
     }
 
-    /// The same settings.
+    /// Returns a copy.
     pub(crate) fn copied(&self) -> Config
         ensures { result ≡ self.now }
     {
@@ -112,7 +111,7 @@ impl Config {
         }
     }
 
-    /// What `^` asks for.
+    /// Returns the assertion of `^`.
     pub(crate) fn line_start(&self) -> Look
         ensures { result ≡ (if self.now.multi_line then Look.StartLine else Look.Start) }
     {
@@ -123,7 +122,7 @@ impl Config {
         }
     }
 
-    /// What `$` asks for.
+    /// Returns the assertion of `$`.
     pub(crate) fn line_end(&self) -> Look
         ensures { result ≡ (if self.now.multi_line then Look.EndLine else Look.End) }
     {
@@ -134,7 +133,7 @@ impl Config {
         }
     }
 
-    /// The settings with a flag on, or off.
+    /// Returns the settings with a flag turned on or off.
     fn with_flag(self, on: bool, flag: Flag) -> Config
         ensures { result ≡ with_flag on self flag }
     {
@@ -146,7 +145,7 @@ impl Config {
         }
     }
 
-    /// The settings with all these flags on, or all of them off.
+    /// Returns the settings with all these flags turned on or off.
     pub(crate) fn with_flags(&self, on: bool, flags: &[Flag]) -> Config
         ensures { result ≡ with_flags on self.now flags.now }
     {
@@ -157,42 +156,42 @@ impl Config {
         changed
     }
 
-    /// Whether letters match in each case.
+    /// Returns whether letters match in any case.
     pub fn get_case_insensitive(&self) -> bool
         ensures { result ≡ self.now.case_insensitive }
     {
         self.case_insensitive
     }
 
-    /// Whether `^` and `$` stand at the ends of lines too.
+    /// Returns whether `^` and `$` also match at the ends of lines.
     pub fn get_multi_line(&self) -> bool
         ensures { result ≡ self.now.multi_line }
     {
         self.multi_line
     }
 
-    /// Whether `.` matches the line terminator too.
+    /// Returns whether `.` also matches the line terminator.
     pub fn get_dot_matches_new_line(&self) -> bool
         ensures { result ≡ self.now.dot_matches_new_line }
     {
         self.dot_matches_new_line
     }
 
-    /// Whether repetitions are lazy, and greedy with `?`.
+    /// Returns whether repetitions are lazy, and greedy with `?`.
     pub fn get_swap_greed(&self) -> bool
         ensures { result ≡ self.now.swap_greed }
     {
         self.swap_greed
     }
 
-    /// How deep groups and repetitions may stand in one another.
+    /// Returns how deeply groups and repetitions may be nested.
     pub fn get_nest_limit(&self) -> u32
         ensures { result ≡ self.now.nest_limit }
     {
         self.nest_limit
     }
 
-    /// The byte that `.` doesn't match.
+    /// Returns the line terminator, which `.` doesn't match.
     pub fn get_line_terminator(&self) -> u8
         ensures { result ≡ self.now.line_terminator }
     {

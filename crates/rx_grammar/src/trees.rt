@@ -1,4 +1,4 @@
-//! Trees that grow: nodes, each after what stands below it, and how many trees they make.
+//! A stack of trees, stored as nodes in postorder.
 
 ghost use Rattle.std.specs.Prelude.{ℕ, ◌≡◌, ◌+◌, ◌≤◌, ◌<◌, ◌^◌, List, [], ◌∷◌, ◌++◌, length, map, reverse, take, OnOk, MatchBool, MatchResult};
 ghost use Rattle.rx_grammar.specs.Trees.{Tree, concat_of};
@@ -23,8 +23,8 @@ use crate::repetitions::postfix;
 use std::alloc::{AllocError, Global};
 use std::marker::Model;
 
-/// Trees in a row, of which the last ones may become parts of another one. Contracts see it as the
-/// nodes, which make the trees (`trees_of`, the last one first).
+/// A stack of trees, of which the last ones may become children of another. Contracts see the nodes
+/// in postorder, which make the trees (`trees_of`, the last one first).
 #[derive(Debug, Drop)]
 pub(crate) struct TreeStack {
     nodes: Vec<Node>,
@@ -47,14 +47,14 @@ impl Model for TreeStack {
     ghost invariant = { λ s. AreStacked (map kind_of s.nodes.items) s.properties.items s.height };
 }
 
-/// Whether a postfix begins with the character.
+/// Returns whether a postfix may start with the character.
 fn is_postfix_start(c: char) -> bool
     ensures { result ≡ is_postfix_start c }
 {
     c == '*' || c == '+' || c == '?' || c == '{'
 }
 
-/// Whether a postfix begins the text.
+/// Returns whether the text starts with a postfix.
 fn begins_postfix(text: &[char]) -> bool
     ensures { MatchBool result (Stops is_postfix_start text.now → ⊥)
         (Stops is_postfix_start text.now) }
@@ -66,7 +66,7 @@ fn begins_postfix(text: &[char]) -> bool
 }
 
 impl TreeStack {
-    /// No tree.
+    /// Returns an empty stack.
     pub(crate) fn new(alloc: Global) -> TreeStack
         ensures { trees_of result ≡ [] }
     {
@@ -77,21 +77,21 @@ impl TreeStack {
         }
     }
 
-    /// How many trees there are.
+    /// Returns the number of trees.
     pub(crate) fn height(&self) -> usize
         ensures { result ≡ length (trees_of self.now) }
     {
         self.height
     }
 
-    /// The nodes, each after what stands below it.
+    /// Returns the nodes in postorder.
     pub(crate) fn nodes(&self) -> &[Node]
         ensures { map kind_of result.now ≡ self.now }
     {
         &self.nodes
     }
 
-    /// The only tree.
+    /// Returns the only tree.
     pub(crate) fn into_hir(self) -> Hir
         requires { (tree : Tree) × (trees_of self ≡ tree ∷ []) × IsWellFormed tree }
         ensures { result ≡ self }
@@ -99,7 +99,7 @@ impl TreeStack {
         tree_with(self.nodes, self.properties)
     }
 
-    /// What is known of the last trees, so many of them.
+    /// Returns the properties of the last `count` trees.
     fn last_row(&self, count: usize) -> RowProperties
         requires { count ≤ length (trees_of self.now) }
         ensures row { AreRowProperties result (take count (trees_of self.now)) }
@@ -113,7 +113,7 @@ impl TreeStack {
         row
     }
 
-    /// Appends a node, below which the last trees are to stand.
+    /// Appends a node, whose children are the last trees.
     pub(crate) fn push(&mut self, node: Node) -> Result<(), AllocError>
         requires { MayFollow (trees_of self.old) (kind_of node) }
         ensures { OnOk result (trees_of self.new ≡ after_node (trees_of self.old) (kind_of node)) }
@@ -127,7 +127,7 @@ impl TreeStack {
         Ok(())
     }
 
-    /// Appends what an atom spells.
+    /// Appends the tree of an atom.
     pub(crate) fn push_atom(&mut self, atom: AtomTree) -> Result<(), AllocError>
         ensures { OnOk result (trees_of self.new ≡ atom_tree atom ∷ trees_of self.old) }
     {
@@ -137,7 +137,7 @@ impl TreeStack {
         }
     }
 
-    /// The last tree becomes a group with this number, if the group captures anything.
+    /// Wraps the last tree in a group with this number, if the group is numbered.
     pub(crate) fn push_group(&mut self, number: u32, captures: GroupKind) -> Result<(), AllocError>
         requires { 1 ≤ length (trees_of self.old) }
         ensures { (tree : Tree) (below : List Tree) → trees_of self.old ≡ tree ∷ below → OnOk result
@@ -149,7 +149,7 @@ impl TreeStack {
         }
     }
 
-    /// The trees above this height become one: items in a row.
+    /// Joins the trees above this height into a concatenation.
     pub(crate) fn join_items(&mut self, height: usize) -> Result<(), AllocError>
         requires { height ≤ length (trees_of self.old) }
         ensures { (items below : List Tree) → trees_of self.old ≡ reverse items ++ below
@@ -163,7 +163,7 @@ impl TreeStack {
         }
     }
 
-    /// The trees above this height become one: branches beside one another.
+    /// Joins the trees above this height into an alternation.
     pub(crate) fn join_branches(&mut self, height: usize) -> Result<(), AllocError>
         requires { height ≤ length (trees_of self.old) }
         ensures { (branches below : List Tree) → trees_of self.old ≡ reverse branches ++ below
@@ -177,8 +177,8 @@ impl TreeStack {
         }
     }
 
-    /// The postfixes at the start of the text, for the last tree, which has this depth: the depth
-    /// with them, held at `usize::MAX`, and the text after them.
+    /// Parses postfixes and applies them to the last tree, which has this depth. Returns the new
+    /// depth, capped at `usize::MAX`, and the text after them.
     pub(crate) fn read_postfixes<'a>(
         &mut self,
         text: &'a [char],

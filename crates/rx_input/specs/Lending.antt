@@ -6,7 +6,8 @@ use Rattle.rx_input.specs.declared.iter.Searched.{Ghosts}
 use Rattle.rx_input.specs.Searchers.{SearcherState}
 
 module _ (I : RattleType) (searched : Ghosts I.Denot) where
-  -- the searcher ends with the input that was left behind the reference, and keeps its last end
+  -- the searcher ends with the input that is left in the reference, and keeps the end of its last
+  -- match
   abbrev pub LendsInput : MutBor SearcherState → MutBor I.Denot → Fml
   LendsInput s i = Lends (searcher.the_row I searched) I s i
       (λ w. record s.now { input = searched.state w })

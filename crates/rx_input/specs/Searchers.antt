@@ -1,4 +1,4 @@
--- What a searcher does with what a finder tells.
+-- How a searcher steps from match to match of a finder.
 use Rattle.std.specs.Prelude.{◌≡◌, ℕ, ◌≤◌, ◌+◌, ◌-◌, ◌<◌, ◌^◌, ◌⊎◌, ◌==◌, Bool, true, false, Option, Some, None, Result, Ok, Err}
 use Rattle.std.specs.Borrow.{MutBor}
 use Rattle.std.specs.Fn.{Mut, CalledAtMut, always_mut}
@@ -7,12 +7,12 @@ use Rattle.rx_util.specs.declared.search.MatchError.{MatchError}
 use Rattle.rx_util.specs.Search.{Found, HalfFound}
 use Rattle.rx_input.specs.Inputs.{InputState, HasSpan}
 
--- an input, whose span starts where the last match ended, and that end, if there was a match
+-- an input, and the end of the last match, if there was one; the span starts there
 pub record SearcherState : Type 0 where
   pub input : InputState
   pub last_match_end : Option ℕ
 
--- the span of an input was made to start here
+-- the start of the span was set
 abbrev pub IsSetTo : InputState → InputState → ℕ → Type 0
 IsSetTo old new start = HasSpan old new (record old.asked.span { start = start })
 
@@ -20,33 +20,33 @@ IsSetTo old new start = HasSpan old new (record old.asked.span { start = start }
 abbrev pub HasPassedMatch : InputState → ℕ → SearcherState → Type 0
 HasPassedMatch old end new = IsSetTo old new.input end × (new.last_match_end ≡ Some end)
 
--- what a finder, in a state before and a state after, tells of an input, and the input that it
+-- what a finder, in a state before and a state after, returns for an input, and the input that it
 -- leaves
 abbrev pub Finder : Type 0 → Type 0 → Type 1
 Finder F A = F → F → InputState → Result (Option A) MatchError → InputState → Type 0
 
--- what a closure tells; `state` shows its input
+-- what a closure returns; `state` is its input
 abbrev pub finder_of : {F I A : Type 0}
     → Mut F (MutBor I × Unit {0}) (Result (Option A) MatchError × (MutBor I × Unit {0}))
     → (I → InputState) → Finder F A
 finder_of {F} {I} g state p q i r j =
     (x y : I) × CalledAtMut g p x r q y × (state x ≡ i) × (state y ≡ j)
 
--- a match that ends in the span, not before it and not at the greatest number
+-- a match ends in the span, not before its start and not at the greatest number
 pub record EndsInside (i : InputState) (end : ℕ) : Type 0 where
   pub behind_start : i.asked.span.start ≤ end
   pub before_end : end ≤ i.asked.span.end
   pub fits : end + 1 < 2 ^ 64
 
--- a finder tells matches that end in the span, and changes nothing of what is asked for
+-- the matches of a finder end in the span, and it doesn't change the settings
 pub record StaysInside {F A : Type 0} (tells : Finder F A) (end : A → ℕ) : Type 0 where
   pub same : (p q : F) (i j : InputState) (r : Result (Option A) MatchError) → tells p q i r j
       → j.asked ≡ i.asked
   pub inside : (p q : F) (i j : InputState) (a : A) → tells p q i (Ok (Some a)) j
       → EndsInside i (end a)
 
--- what comes next: what is told, or, where that is a match to pass over, what is told then from one
--- byte further on
+-- the next result: what the finder returns, or, if that is a match to skip, what it returns from
+-- one byte further on
 pub data TellsNext {F A : Type 0} (tells : Finder F A) (passes : A → Type 0) (p q : F)
     (i : InputState) (r : Result (Option A) MatchError) (j : InputState) : Type 0 where
   at_once : tells p q i r j → ((a : A) → r ≡ Ok (Some a) → passes a → ⊥)
@@ -55,7 +55,7 @@ pub data TellsNext {F A : Type 0} (tells : Finder F A) (passes : A → Type 0) (
       → IsSetTo k l (k.asked.span.start + 1) → tells m q l r j
       → TellsNext tells passes p q i r j
 
--- behind a match the span starts at its end; else the searcher is as it was found
+-- after a match the span starts at its end; otherwise the searcher is unchanged
 abbrev pub GoesOn : {A : Type 0} → (A → ℕ) → SearcherState → Result (Option A) MatchError
     → SearcherState → Type 0
 GoesOn end found (Ok (Some a)) new = HasPassedMatch found.input (end a) new
@@ -72,7 +72,7 @@ pub record Advances {F A : Type 0} (tells : Finder F A) (end : A → ℕ)
 
 -- ---- matches
 
--- an empty match where the last one ended
+-- an empty match at the end of the last one
 abbrev pub IsEmptyAtLast : Option ℕ → Found → Type 0
 IsEmptyAtLast last a = (a.span.start ≡ a.span.end) × (last ≡ Some a.span.end)
 
@@ -82,17 +82,17 @@ end_of_match a = a.span.end
 module _ {F I : Type 0}
     (calls : Mut F (MutBor I × Unit {0}) (Result (Option Found) MatchError × (MutBor I × Unit {0})))
     (state : I → InputState) where
-  -- a finder of matches: it may be called with any input, again and again; a match that it tells
-  -- ends in the span, not before its start and not at the greatest number; and it changes nothing of
-  -- what is asked for
+  -- a finder of matches: it may be called repeatedly, with any input; a match that it returns ends
+  -- in the span, not before its start and not at the greatest number; and it doesn't change the
+  -- settings
   pub record IsMatchFinder (finder : F) : Type 0 where
     pub callable : always_mut calls finder
     pub inside : StaysInside (finder_of calls state) end_of_match
 
-  -- the next match of a searcher: what the finder tells, or, where that is an empty match at the end
-  -- of the last one, what it tells from one byte further on. Behind a match the span starts at its
-  -- end, which is the last one from then on; where none is told, and after a refusal, the searcher
-  -- keeps its last end
+  -- the next match of a searcher: what the finder returns, or, if that is an empty match at the end
+  -- of the last one, what it returns from one byte further on. After a match the span starts at its
+  -- end, which is then the last one. After none, and after an error, the searcher keeps its last
+  -- end.
   pub record GivesNextMatch (finder : F) (old : SearcherState)
       (r : Result (Option Found) MatchError) (new : SearcherState) : Type 0 where
     pub left : F
@@ -100,7 +100,7 @@ module _ {F I : Type 0}
 
 -- ---- half matches
 
--- a half match where the last one ended
+-- a half match at the end of the last one
 abbrev pub IsAtLast : Option ℕ → HalfFound → Type 0
 IsAtLast last a = last ≡ Some a.offset
 
@@ -111,20 +111,19 @@ module _ {F I : Type 0}
     (calls : Mut F (MutBor I × Unit {0})
     (Result (Option HalfFound) MatchError × (MutBor I × Unit {0})))
     (state : I → InputState) where
-  -- a finder of half matches, as one of matches
+  -- a finder of half matches, like one of matches
   pub record IsHalfMatchFinder (finder : F) : Type 0 where
     pub callable : always_mut calls finder
     pub inside : StaysInside (finder_of calls state) end_of_half
 
-  -- the next half match, which leaves the finder so: as the next match, but that the one which is
-  -- told at once is passed over wherever it ends at the end of the last one, since no start tells
-  -- whether it is empty
+  -- the next half match, with the finder after it: like the next match, but the first one is
+  -- skipped whenever it ends at the end of the last one, because its start isn't known
   abbrev pub GivesHalfMatchBy : F → F → SearcherState → Result (Option HalfFound) MatchError
       → SearcherState → Type 0
   GivesHalfMatchBy finder left old r new =
       Advances (finder_of calls state) end_of_half IsAtLast finder left old r new
 
-  -- the same, whatever becomes of the finder
+  -- the same, whatever the finder becomes
   pub record GivesNextHalfMatch (finder : F) (old : SearcherState)
       (r : Result (Option HalfFound) MatchError) (new : SearcherState) : Type 0 where
     pub left : F
@@ -135,21 +134,21 @@ abbrev pub is_last_end : Option ℕ → ℕ → Bool
 is_last_end None place = false
 is_last_end (Some end) place = end == place
 
--- at most so many items come, with so many bytes ahead, where the last match ended here or not: each
--- further one ends further on than the one before, and a refusal is the last
+-- the greatest number of further items, with `ahead` bytes ahead: each ends after the one before,
+-- and an error is the last
 abbrev pub items_at_most : Bool → Bool → ℕ → ℕ
 items_at_most true is_at_last ahead = 0
 items_at_most false true ahead = ahead + 1
 items_at_most false false ahead = ahead + 2
 
--- how many half matches come at most, wherever the span starts
+-- the greatest number of further half matches, wherever the span starts
 abbrev pub half_matches_left : SearcherState → Bool → Count
 half_matches_left s is_over =
     at_most (items_at_most is_over (is_last_end s.last_match_end s.input.asked.span.start)
     (s.input.asked.span.end - s.input.asked.span.start))
 
--- what an iterator gives, by what a step of its searcher answers: none comes where none is
--- answered, and after that and a refusal
+-- an item of an iterator, given the result of its searcher's step: none if that is none, and none
+-- after that or after an error
 abbrev pub GivesAnswer : {A : Type 0} → (Result (Option A) MatchError → Type 0) → Bool
     → Option (Result A MatchError) → Bool → Type 0
 GivesAnswer answers was_over None is_over =

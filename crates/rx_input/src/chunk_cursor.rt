@@ -7,7 +7,7 @@ use crate::cursor::Cursor;
 use std::alloc::AllocError;
 use std::marker::Model;
 
-/// The chunk with this number, and an empty one where there is none.
+/// Returns the chunk with this index, or an empty one past the last.
 #[tactic(auto, using(crate::proofs::ChunkLemmas::chunk_is, crate::proofs::ChunkLemmas::chunk_past))]
 fn chunk_at<'a>(chunks: &[&'a [u8]], index: usize) -> &'a [u8]
     ensures { result.now ≡ chunk_at chunks.now index }
@@ -18,7 +18,7 @@ fn chunk_at<'a>(chunks: &[&'a [u8]], index: usize) -> &'a [u8]
     }
 }
 
-/// How many bytes the chunks have together.
+/// Returns the number of bytes of all chunks.
 fn total_len(chunks: &[&[u8]]) -> usize
     requires { length (joined chunks.now) < 2 ^ 63 }
     ensures { result ≡ length (joined chunks.now) }
@@ -30,7 +30,7 @@ fn total_len(chunks: &[&[u8]]) -> usize
     total
 }
 
-/// The first chunk from this one on that isn't empty.
+/// Returns the first nonempty chunk from this one on.
 #[tactic(auto, using(crate::proofs::ChunkLemmas::skip, crate::proofs::ChunkLemmas::all_before))]
 fn first_filled(chunks: &[&[u8]], from: usize) -> Option<usize>
     ensures { MatchOption result (SameBefore chunks.now (length chunks.now) from)
@@ -45,7 +45,7 @@ fn first_filled(chunks: &[&[u8]], from: usize) -> Option<usize>
     None
 }
 
-/// The last chunk before this one that isn't empty.
+/// Returns the last nonempty chunk before this one.
 #[tactic(auto, using(crate::proofs::ChunkLemmas::skip))]
 fn last_filled(chunks: &[&[u8]], mut before: usize) -> Option<usize>
     requires { before ≤ length chunks.now }
@@ -62,9 +62,23 @@ fn last_filled(chunks: &[&[u8]], mut before: usize) -> Option<usize>
     None
 }
 
-/// A cursor over a content that lies in a list of chunks, which may be cut anywhere. Empty chunks
-/// are skipped; a list without bytes stands for the empty content. It takes no memory, a clone is
-/// the same cursor, and a step costs `O(n)` in the number of empty chunks that it skips.
+/// A cursor over a haystack in a list of chunks, which may be split anywhere, also inside a
+/// character.
+///
+/// Empty chunks are skipped. A list without bytes is the empty haystack. The cursor allocates
+/// nothing, and a clone equals it. A step costs `O(n)` in the number of empty chunks that it skips.
+///
+/// # Examples
+///
+/// ```rust
+/// let chunks: [&[u8]; 3] = [b"one ", b"", b"two"];
+/// let mut cursor = ChunkCursor::new(&chunks);
+/// assert!(rt; cursor.chunk() == "one ".as_bytes());
+/// assert!(rt; cursor.advance());
+/// assert!(rt; cursor.chunk() == "two".as_bytes());
+/// assert!(rt; cursor.offset() == 4);
+/// assert!(rt; !cursor.advance());
+/// ```
 #[derive(Drop)]
 pub struct ChunkCursor<'a> {
     chunks: &'a [&'a [u8]],
@@ -87,10 +101,11 @@ impl<'a> Model for ChunkCursor<'a> {
 impl<'a> ChunkCursor<'a> {
     ghost use Rattle.rx_input.specs.Cursors.{IsLawful};
 
-    /// Returns a cursor over these chunks, which shows the first one that isn't empty. It costs
-    /// `O(n)` in the number of chunks.
+    /// Returns a cursor at the first nonempty chunk. `O(n)` in the number of chunks.
     ///
-    /// Requires that the chunks have at most `isize::MAX` bytes together.
+    /// # Requires
+    ///
+    /// The chunks have at most `isize::MAX` bytes together.
     pub fn new(chunks: &'a [&'a [u8]]) -> ChunkCursor<'a>
         requires bound { length (joined chunks.now) < 2 ^ 63 }
         ensures content { result.content ≡ joined chunks.now }

@@ -1,27 +1,27 @@
-//! Cursors: contents that are seen piece by piece.
+//! Cursors: haystacks that are read chunk by chunk.
 
 ghost use Rattle.std.specs.Prelude.{◌≡◌, ◌↔◌, ◌<◌, length, true, false};
 ghost use Rattle.std.specs.Bool.{OnTrue, OnFalse};
 ghost use Rattle.rx_input.specs.Cursors.{CursorState, IsLawful, IsNext, piece_of, told_length};
 
-/// A content that lies in pieces, and one of its pieces. The content may be any bytes, and how it
-/// is cut may be any way: a piece may cut a character.
+/// A haystack in chunks, and the current chunk. The haystack may have any bytes, and may be split
+/// anywhere, also inside a character.
 pub trait Cursor {
-    // The content, and the piece that is shown.
+    // The haystack and the current chunk.
     ghost state: { Self → CursorState };
 
-    /// Returns the piece that is shown. It is empty only where the content is.
+    /// Returns the current chunk. It is empty only if the haystack is.
     fn chunk(&self) -> &[u8]
         ensures chunk { result.now ≡ piece_of (state self.now) }
         ensures lawful { IsLawful (state self.now) };
 
-    /// Returns whether the pieces cut no character. No match depends on it.
+    /// Returns whether no chunk splits a character. No match depends on it.
     fn utf8_aware(&self) -> bool {
         true
     }
 
-    /// Shows the piece that starts where this one ends, and returns whether there is one: where
-    /// this one ends at the content's end there isn't, and nothing changes.
+    /// Moves to the next chunk, and returns whether there is one. At the end of the haystack
+    /// nothing changes.
     fn advance(&mut self) -> bool
         ensures moved { OnTrue result (IsNext (state self.old) (state self.new)) }
         ensures refused { OnFalse result (state self.new ≡ state self.old) }
@@ -29,19 +29,19 @@ pub trait Cursor {
             ↔ ((state self.old).end ≡ length (state self.old).content) }
         ensures lawful { IsLawful (state self.new) };
 
-    /// Shows the piece that ends where this one starts, and returns whether there is one: where
-    /// this one starts at the content's start there isn't, and nothing changes.
+    /// Moves to the previous chunk, and returns whether there is one. At the start of the haystack
+    /// nothing changes.
     fn backtrack(&mut self) -> bool
         ensures moved { OnTrue result (IsNext (state self.new) (state self.old)) }
         ensures refused { OnFalse result (state self.new ≡ state self.old) }
         ensures at_start { (result ≡ false) ↔ ((state self.old).start ≡ 0) }
         ensures lawful { IsLawful (state self.new) };
 
-    /// Returns how many bytes the content has, or `None` where the cursor doesn't tell.
+    /// Returns the number of bytes of the haystack, or `None` if the cursor doesn't report it.
     fn total_bytes(&self) -> Option<usize>
         ensures { result ≡ told_length (state self.now) };
 
-    /// Returns the byte index in the content at which the piece starts.
+    /// Returns the byte offset of the current chunk in the haystack.
     fn offset(&self) -> usize
         ensures offset { result ≡ (state self.now).start }
         ensures lawful { IsLawful (state self.now) };

@@ -1,4 +1,4 @@
-//! What a search is asked for, and where in a content it stands.
+//! The input of a search: a haystack, a position in it, and the settings of the search.
 
 ghost use Rattle.std.specs.Prelude.{◌≡◌, ◌+◌, ◌-◌, ◌<◌, ◌≤◌, ◌↔◌, IsTrue, false, length, min};
 ghost use Rattle.std.specs.Bool.{OnTrue};
@@ -15,15 +15,19 @@ use crate::ranges::{Ends, TextRange};
 use rx_util::{Anchored, Span};
 use std::marker::Model;
 
-/// A content to search in, with a position in it, and what the search is asked for: a span, in
-/// which a match has to lie; a slice, outside of which looks see nothing; whether a match may start
-/// at the span's start alone; and whether any match will do. Places are byte indices into the
-/// content. The piece that the cursor shows holds the byte at the position, or is the last one
-/// where the position is the content's end.
+/// A haystack to search, a position in it, and the settings of the search:
+///
+/// - the span, in which a match has to be
+/// - the slice, outside of which look-around assertions see nothing
+/// - whether a match may only start at the start of the span
+/// - whether any match may be reported, not only the preferred one
+///
+/// Offsets are bytes of the haystack. The current chunk contains the byte at the position, or is
+/// the last one if the position is the end of the haystack.
 #[derive(Drop)]
 pub struct Input<C: Cursor> {
     cursor: C,
-    // The position's index in the piece.
+    // The position's offset in the chunk.
     chunk_pos: usize,
     span: Span,
     slice: Span,
@@ -53,9 +57,11 @@ impl<C: Cursor> Model for Input<C> {
 }
 
 impl<C: Cursor> Input<C> {
-    /// Returns an input that asks for a match anywhere from the start of the cursor's piece on;
-    /// looks see the whole content. The position is the start of the piece. The span ends at the
-    /// content's end, or at `usize::MAX` where the cursor doesn't tell how long the content is.
+    /// Returns an input for a search from the start of the cursor's current chunk to the end of the
+    /// haystack, anywhere and for the preferred match. The position is the start of the chunk.
+    ///
+    /// The span ends at `usize::MAX` if the cursor doesn't report the haystack's length. The slice
+    /// is the whole haystack.
     pub fn new(cursor: C) -> Input<C>
         ensures cursor { result.cursor ≡ C.state cursor }
         ensures position { result.position ≡ (C.state cursor).start }
@@ -76,7 +82,7 @@ impl<C: Cursor> Input<C> {
         }
     }
 
-    /// Returns the piece that is shown.
+    /// Returns the current chunk.
     pub fn chunk(&self) -> &[u8]
         ensures chunk { result.now ≡ piece_of self.now.cursor }
         ensures holds { HoldsPlace self.now.cursor self.now.position }
@@ -84,21 +90,21 @@ impl<C: Cursor> Input<C> {
         self.cursor.chunk()
     }
 
-    /// Returns the place at which that piece starts.
+    /// Returns the byte offset of the current chunk.
     pub fn chunk_offset(&self) -> usize
         ensures { result ≡ self.now.cursor.start }
     {
         self.cursor.offset()
     }
 
-    /// Returns the index of the position in that piece.
+    /// Returns the position's offset in the current chunk.
     pub fn chunk_pos(&self) -> usize
         ensures { self.now.cursor.start + result ≡ self.now.position }
     {
         self.chunk_pos
     }
 
-    /// Returns the position: a byte index into the content.
+    /// Returns the position, a byte offset in the haystack.
     pub fn position(&self) -> usize
         ensures position { result ≡ self.now.position }
         ensures holds { HoldsPlace self.now.cursor self.now.position }
@@ -106,36 +112,36 @@ impl<C: Cursor> Input<C> {
         self.cursor.offset() + self.chunk_pos
     }
 
-    /// Returns where the span starts.
+    /// Returns the start of the span.
     pub fn start(&self) -> usize
         ensures { result ≡ self.now.asked.span.start }
     {
         self.span.start
     }
 
-    /// Returns where the span ends. An end past the content's is as the content's.
+    /// Returns the end of the span. It may be past the end of the haystack, which then counts.
     pub fn end(&self) -> usize
         ensures { result ≡ self.now.asked.span.end }
     {
         self.span.end
     }
 
-    /// Returns the span, in which a match has to lie.
+    /// Returns the span, in which a match has to be.
     pub fn get_span(&self) -> Span
         ensures { result ≡ self.now.asked.span }
     {
         self.span
     }
 
-    /// Returns the slice, outside of which looks see nothing.
+    /// Returns the slice, outside of which look-around assertions see nothing.
     pub fn get_slice(&self) -> Span
         ensures { result ≡ self.now.asked.slice }
     {
         self.slice
     }
 
-    /// Returns how many bytes of the piece that is shown lie before the span's end: 0 where the
-    /// span ends before the piece.
+    /// Returns the number of bytes of the current chunk before the span's end, 0 if the span ends
+    /// before the chunk.
     pub fn get_chunk_end(&self) -> usize
         ensures { result ≡ min (self.now.asked.span.end - self.now.cursor.start)
             (length (piece_of self.now.cursor)) }
@@ -146,28 +152,28 @@ impl<C: Cursor> Input<C> {
             .min(self.cursor.chunk().len())
     }
 
-    /// Returns where a match may start, and of which patterns.
+    /// Returns where a match may start, and which patterns may match.
     pub fn get_anchored(&self) -> Anchored
         ensures { result ≡ self.now.asked.anchored }
     {
         self.anchored
     }
 
-    /// Returns whether any match will do.
+    /// Returns whether any match may be reported.
     pub fn get_earliest(&self) -> bool
         ensures { result ≡ self.now.asked.earliest }
     {
         self.earliest
     }
 
-    /// Returns whether the span ends before it starts, so that nothing can be found.
+    /// Returns whether the span ends before it starts, so that nothing can match.
     pub fn is_done(&self) -> bool
         ensures { result ≡ is_done self.now.asked.span }
     {
         self.span.end < self.span.start
     }
 
-    /// Asks for matches at the span's start alone, or of one pattern, or anywhere again.
+    /// Sets where a match may start, and which patterns may match.
     pub fn set_anchored(&mut self, mode: Anchored)
         ensures { self.new ≡ record self.old {
           asked = record self.old.asked { anchored = mode };
@@ -176,7 +182,7 @@ impl<C: Cursor> Input<C> {
         self.anchored = mode;
     }
 
-    /// Asks for any match, or for the one that the definition of a search tells.
+    /// Sets whether any match may be reported, or only the preferred one.
     pub fn set_earliest(&mut self, yes: bool)
         ensures { self.new ≡ record self.old {
           asked = record self.old.asked { earliest = yes };
@@ -185,7 +191,7 @@ impl<C: Cursor> Input<C> {
         self.earliest = yes;
     }
 
-    // The span of a range.
+    // Returns the span of a range.
     fn span_of(&self, ends: Ends) -> Span
         ensures { result ≡ span_of ends self.now.cursor }
     {
@@ -211,11 +217,18 @@ impl<C: Cursor> Input<C> {
         self.span = span;
     }
 
-    /// Sets the span. Where the position is before it, it moves to the span's start; where it is
-    /// behind it and the old span wasn't done, to its end; but at most to the content's end. It
-    /// costs the steps over the pieces that lie between.
+    /// Sets the span, and moves the position into it.
     ///
-    /// Requires that the span starts at most one place past its end.
+    /// A position before the span moves to its start. A position after the span moves to its end,
+    /// unless the old span was done. Neither moves past the end of the haystack.
+    ///
+    /// # Requires
+    ///
+    /// The span starts at most one byte past its end.
+    ///
+    /// # Complexity
+    ///
+    /// One step of the cursor for each chunk passed.
     pub fn set_span<S: Into<Span>>(&mut self, span: S)
         requires { (s : Span) → S.converts span s → IsSpan s }
         ensures { (s : Span) × S.converts span s × HasSpan self.old self.new s }
@@ -223,9 +236,11 @@ impl<C: Cursor> Input<C> {
         self.move_into(span.into());
     }
 
-    /// Sets where the span starts, as `set_span` does.
+    /// Sets the start of the span, as [`set_span`](Self::set_span) does.
     ///
-    /// Requires that `start` is at most one place past the span's end.
+    /// # Requires
+    ///
+    /// `start` is at most one byte past the span's end.
     pub fn set_start(&mut self, start: usize)
         requires { start ≤ self.old.asked.span.end + 1 }
         ensures { HasSpan self.old self.new (record self.old.asked.span { start = start }) }
@@ -236,9 +251,11 @@ impl<C: Cursor> Input<C> {
         });
     }
 
-    /// Sets where the span ends, as `set_span` does.
+    /// Sets the end of the span, as [`set_span`](Self::set_span) does.
     ///
-    /// Requires that the span starts at most one place past `end`.
+    /// # Requires
+    ///
+    /// The span starts at most one byte past `end`.
     pub fn set_end(&mut self, end: usize)
         requires { self.old.asked.span.start ≤ end + 1 }
         ensures { HasSpan self.old self.new (record self.old.asked.span { end = end }) }
@@ -249,7 +266,7 @@ impl<C: Cursor> Input<C> {
         });
     }
 
-    /// Sets the span, as `set_span` does and under its condition, and returns the input.
+    /// Sets the span, as [`set_span`](Self::set_span) does and requires, and returns the input.
     pub fn span<S: Into<Span>>(&mut self, span: S) -> &mut Input<C>
         requires { (s : Span) → S.converts span s → IsSpan s }
         ensures set { (s : Span) × S.converts span s × HasSpan self.old result.now s }
@@ -259,10 +276,14 @@ impl<C: Cursor> Input<C> {
         self
     }
 
-    /// Sets the span to a range, as `set_span` does. An open start is 0, an open end the content's
-    /// end, or `usize::MAX` where the cursor doesn't tell how long the content is.
+    /// Sets the span to a range, as [`set_span`](Self::set_span) does.
     ///
-    /// Requires that the range starts at most one place past its end.
+    /// An open start is 0. An open end is the haystack's, or `usize::MAX` if the cursor doesn't
+    /// report its length.
+    ///
+    /// # Requires
+    ///
+    /// The range starts at most one byte past its end.
     pub fn set_range<R: TextRange>(&mut self, range: R)
         requires { IsSpan (span_of (R.ends range) self.old.cursor) }
         ensures { HasSpan self.old self.new (span_of (R.ends range) self.old.cursor) }
@@ -271,7 +292,7 @@ impl<C: Cursor> Input<C> {
         self.move_into(span);
     }
 
-    /// Returns the input with its span set to a range, as `set_range` does and under its condition.
+    /// Returns the input with its span set, as [`set_range`](Self::set_range) does and requires.
     pub fn range<R: TextRange>(mut self, range: R) -> Input<C>
         requires { IsSpan (span_of (R.ends range) self.cursor) }
         ensures { HasSpan self result (span_of (R.ends range) self.cursor) }
@@ -280,8 +301,8 @@ impl<C: Cursor> Input<C> {
         self
     }
 
-    /// Sets the slice, outside of which looks see nothing, and the span to the same places, and
-    /// returns the input. The position moves as by `set_span`, whose condition holds here too.
+    /// Sets both the slice and the span, moves the position as [`set_span`](Self::set_span) does,
+    /// and returns the input. Requires what `set_span` requires.
     pub fn slice_span<S: Into<Span>>(&mut self, span: S) -> &mut Input<C>
         requires { (s : Span) → S.converts span s → IsSpan s }
         ensures set { (s : Span) × S.converts span s × HasSlice self.old result.now s }
@@ -293,8 +314,8 @@ impl<C: Cursor> Input<C> {
         self
     }
 
-    /// Sets the slice to a range, and the span too, as `slice_span` does, and returns the input. An
-    /// open end is as that of `set_range`, and so is the condition.
+    /// Sets both the slice and the span to a range, and returns the input. Open ends and what it
+    /// requires are as in [`set_range`](Self::set_range).
     pub fn slice<R: TextRange>(&mut self, range: R) -> &mut Input<C>
         requires { IsSpan (span_of (R.ends range) self.old.cursor) }
         ensures set { HasSlice self.old result.now (span_of (R.ends range) self.old.cursor) }
@@ -306,7 +327,7 @@ impl<C: Cursor> Input<C> {
         self
     }
 
-    /// Sets where a match may start, as `set_anchored` does, and returns the input.
+    /// Sets where a match may start, and which patterns may match, and returns the input.
     pub fn anchored(&mut self, mode: Anchored) -> &mut Input<C>
         ensures set { result.now ≡ record self.old {
           asked = record self.old.asked { anchored = mode };
@@ -317,7 +338,7 @@ impl<C: Cursor> Input<C> {
         self
     }
 
-    /// Sets whether any match will do, as `set_earliest` does, and returns the input.
+    /// Sets whether any match may be reported, and returns the input.
     pub fn earliest(&mut self, yes: bool) -> &mut Input<C>
         ensures set { result.now ≡ record self.old {
           asked = record self.old.asked { earliest = yes };
@@ -328,8 +349,8 @@ impl<C: Cursor> Input<C> {
         self
     }
 
-    /// Returns whether no character is cut at the position: it is the content's end, or its byte
-    /// continues no character. It reads the piece that is shown alone.
+    /// Returns whether the position is a character boundary: the end of the haystack, or a byte
+    /// that isn't a continuation byte. Reads only the current chunk.
     pub fn is_char_boundary(&self) -> bool
         ensures { IsTrue result ↔ IsCharBoundary self.now.cursor.content self.now.position }
     {
@@ -339,8 +360,8 @@ impl<C: Cursor> Input<C> {
         }
     }
 
-    /// Moves the position to a place, or to the content's end where that comes first. It costs the
-    /// steps over the pieces between.
+    /// Moves the position to `at`, but not past the end of the haystack. Takes one step of the
+    /// cursor for each chunk passed.
     pub fn move_to(&mut self, at: usize)
         ensures { IsMoved self.old self.new (min at (length self.old.cursor.content))
             self.old.asked }
@@ -348,8 +369,8 @@ impl<C: Cursor> Input<C> {
         self.chunk_pos = move_to(&mut self.cursor, at);
     }
 
-    /// Moves the position to the end of the piece, and shows the next piece, if there is one, which
-    /// it returns.
+    /// Moves the position to the end of the current chunk, moves to the next chunk, and returns
+    /// whether there is one.
     pub fn advance(&mut self) -> bool
         ensures moved { IsMoved self.old self.new self.old.cursor.end self.old.asked }
         ensures next { OnTrue result (self.new.cursor.start ≡ self.old.cursor.end) }
@@ -362,9 +383,9 @@ impl<C: Cursor> Input<C> {
         moves
     }
 
-    /// Returns the bytes of the slice from four before the position up to four behind it, which
-    /// tell whether a look holds there. The piece that is shown may be another then. It costs the
-    /// steps over the pieces in which they lie.
+    /// Returns the bytes of the slice from four before the position to four after it, which decide
+    /// look-around assertions there. May change the current chunk. Takes one step of the cursor for
+    /// each chunk passed.
     pub fn look_around(&mut self) -> LookAround
         ensures bytes { result ≡ seen_around self.old }
         ensures same { IsMoved self.old self.new self.old.position self.old.asked }
@@ -382,14 +403,16 @@ impl<C: Cursor> Input<C> {
         LookAround::new(bytes, len, at.saturating_sub(from).min(len))
     }
 
-    /// Does nothing: what was seen around a position isn't kept.
+    /// Does nothing, because no look-behind is cached.
     pub fn clear_look_behind(&mut self)
         ensures { self.new ≡ self.old }
     {}
 
-    /// Returns the same input over a clone of the cursor. It takes no memory of its own.
+    /// Returns the same input over a clone of the cursor. Allocates nothing itself.
     ///
-    /// Requires that cloning a cursor of this type never fails and gives an equal one.
+    /// # Requires
+    ///
+    /// Cloning the cursor never fails and gives an equal one.
     pub fn clone(&self) -> Input<C>
     where
         C: Clone,

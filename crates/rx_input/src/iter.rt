@@ -1,4 +1,4 @@
-//! Matches one after the other.
+//! Iteration over matches.
 
 ghost use Rattle.std.specs.Prelude.{◌≡◌, ◌+◌, ◌^◌, ◌<◌, ◌≤◌, None, Some, true, false};
 ghost use Rattle.rx_input.specs.Searchers.{HasPassedMatch, IsEmptyAtLast, IsSetTo};
@@ -11,21 +11,23 @@ use crate::input::Input;
 use rx_util::{HalfMatch, Match, MatchError};
 use std::marker::Model;
 
-/// What a searcher goes through: an `Input`, over any cursor.
+/// What a searcher searches: an `Input` over any cursor.
 pub trait Searched {
     ghost use Rattle.std.specs.Prelude.{◌≡◌, ◌+◌, ◌≤◌};
     ghost use Rattle.rx_input.specs.Inputs.{InputState, HasSpan};
 
-    // What is asked for.
+    // The settings and the position.
     ghost state: { Self → InputState };
 
-    /// Returns where the span starts.
+    /// Returns the start of the span.
     fn start(&self) -> usize
         ensures { result ≡ (state self.now).asked.span.start };
 
-    /// Sets where the span starts.
+    /// Sets the start of the span.
     ///
-    /// Requires that `start` is at most one place past the span's end.
+    /// # Requires
+    ///
+    /// `start` is at most one byte past the span's end.
     fn set_start(&mut self, start: usize)
         requires { start ≤ (state self.old).asked.span.end + 1 }
         ensures { HasSpan (state self.old) (state self.new)
@@ -44,9 +46,11 @@ impl<C: Cursor> Searched for Input<C> {
     }
 }
 
-/// Goes over the matches in an input one after the other. Each comes from a finder, which searches
-/// in the input's span; the span starts then where the match ends. An empty match where the one
-/// before ends is thrown away, and the search repeated one byte further.
+/// Steps from match to match of an input.
+///
+/// Each match comes from a finder, which searches the span of the input; then the span starts at
+/// the match's end. An empty match at the end of the previous one is skipped: the search is
+/// repeated from one byte further on.
 #[derive(Drop)]
 pub struct Searcher<I: Searched> {
     input: I,
@@ -68,7 +72,7 @@ impl<I: Searched> Searcher<I> {
     ghost use Rattle.std.specs.Borrow.{sem};
     ghost use Rattle.rx_input.specs.Lending.{LendsInput};
 
-    /// Returns a searcher that begins with the input's span as it is.
+    /// Returns a searcher that starts with the input's span.
     pub fn new(input: I) -> Searcher<I>
         ensures { result ≡ record { input = I.state input; last_match_end = None } }
     {
@@ -78,9 +82,9 @@ impl<I: Searched> Searcher<I> {
         }
     }
 
-    /// Returns the input in which the next search is, which may be changed. The end of the last
-    /// match is kept: where the next search finds an empty match there, or any half match, that is
-    /// passed over, and the search repeated one byte further on, whose answer is told as it is.
+    /// Returns the input of the next search, which may be changed. The end of the last match is
+    /// kept: if the next search finds an empty match there, or any half match that ends there, it
+    /// is repeated once from one byte further on.
     pub fn input(&mut self) -> &mut I
         ensures* writes_back { sem 𝓛 (LendsInput I.row I.Searched self.entry result) }
         ensures input { I.state result.now ≡ self.old.input }
@@ -88,7 +92,7 @@ impl<I: Searched> Searcher<I> {
         &mut self.input
     }
 
-    /// Returns the next match, as `try_advance` does, with its errors and under its conditions.
+    /// Returns the next match. The same as [`try_advance`](Self::try_advance).
     pub fn advance<F>(&mut self, finder: F) -> Result<Option<Match>, MatchError>
     where
         F: FnMut(&mut I) -> Result<Option<Match>, MatchError>,
@@ -98,15 +102,21 @@ impl<I: Searched> Searcher<I> {
         self.try_advance(finder)
     }
 
-    /// Returns the next match: what the finder tells of the input, or, where that is an empty match
-    /// at the end of the last one, what it tells from one byte further on. Behind a match the span
-    /// starts at its end. `None` where the finder tells none.
+    /// Returns the next match, or `None` if the finder finds none.
     ///
-    /// Errors are those of the finder; the end of the last match is kept.
+    /// This is what the finder returns for the input. If that is an empty match at the end of the
+    /// last one, it is what the finder returns from one byte further on. After a match the span
+    /// starts at its end.
     ///
-    /// Requires that the finder may be called with any input, again and again; that a match that it
-    /// tells ends in the span, not before its start and below the greatest `usize`; and that it
-    /// leaves what the input asks for as it is.
+    /// # Requires
+    ///
+    /// The finder may be called repeatedly, with any input. A match that it returns ends in the
+    /// span, not before the span's start and not at `usize::MAX`. It doesn't change the settings of
+    /// the input.
+    ///
+    /// # Errors
+    ///
+    /// Those of the finder. The end of the last match is kept.
     pub fn try_advance<F>(&mut self, mut finder: F) -> Result<Option<Match>, MatchError>
     where
         F: FnMut(&mut I) -> Result<Option<Match>, MatchError>,
@@ -130,10 +140,11 @@ impl<I: Searched> Searcher<I> {
         Ok(Some(further))
     }
 
-    /// Returns the next half match, as `try_advance` does a match. The first one that the finder
-    /// tells is passed over where it ends at the end of the last one, whether empty or not, since
-    /// its start is not known; the one that is told from one byte further on is not. Errors and
-    /// conditions are those of `try_advance`.
+    /// Returns the next half match, as [`try_advance`](Self::try_advance) returns a match, with the
+    /// same requirements and errors.
+    ///
+    /// A half match has no start, so the first one is skipped if it ends at the end of the last
+    /// one, whether it is empty or not. The one found from one byte further on isn't.
     pub fn try_advance_half<F>(&mut self, mut finder: F) -> Result<Option<HalfMatch>, MatchError>
     where
         F: FnMut(&mut I) -> Result<Option<HalfMatch>, MatchError>,
@@ -143,7 +154,7 @@ impl<I: Searched> Searcher<I> {
         self.advance_half_by(&mut finder)
     }
 
-    /// The next half match, by a finder that is used again.
+    /// Returns the next half match. The finder remains usable.
     fn advance_half_by<F>(&mut self, finder: &mut F) -> Result<Option<HalfMatch>, MatchError>
     where
         F: FnMut(&mut I) -> Result<Option<HalfMatch>, MatchError>,
@@ -169,8 +180,8 @@ impl<I: Searched> Searcher<I> {
         Ok(Some(further))
     }
 
-    /// Returns an iterator over all half matches that are left, by a finder for which the
-    /// conditions of `try_advance` hold.
+    /// Returns an iterator over the remaining half matches. The finder has to meet what
+    /// [`try_advance`](Self::try_advance) requires.
     pub fn into_half_matches_iter<F>(self, finder: F) -> TryHalfMatchesIter<I, F>
     where
         F: FnMut(&mut I) -> Result<Option<HalfMatch>, MatchError>,
@@ -185,7 +196,7 @@ impl<I: Searched> Searcher<I> {
         }
     }
 
-    /// Whether the last match ended here.
+    /// Returns whether the last match ended at `end`.
     fn is_at_last(&self, end: usize) -> bool
         ensures here { result ≡ true → self.now.last_match_end ≡ Some end }
         ensures elsewhere { result ≡ false → self.now.last_match_end ≡ Some end → ⊥ }
@@ -196,7 +207,7 @@ impl<I: Searched> Searcher<I> {
         }
     }
 
-    /// Whether this is an empty match where the last one ended.
+    /// Returns whether the match is empty and at the end of the last one.
     fn is_empty_at_last(&self, found: &Match) -> bool
         ensures here { result ≡ true → IsEmptyAtLast self.now.last_match_end found.now }
         ensures elsewhere { result ≡ false
@@ -205,7 +216,7 @@ impl<I: Searched> Searcher<I> {
         found.is_empty() && self.is_at_last(found.end())
     }
 
-    /// Searches further on from the end of a match.
+    /// Continues after a match.
     fn pass(&mut self, end: usize)
         requires inside { end ≤ self.old.input.asked.span.end + 1 }
         ensures { HasPassedMatch self.old.input end self.new }
@@ -214,7 +225,7 @@ impl<I: Searched> Searcher<I> {
         self.last_match_end = Some(end);
     }
 
-    /// Searches from one byte further on.
+    /// Continues one byte further on.
     fn step(&mut self)
         requires inside { self.old.input.asked.span.start ≤ self.old.input.asked.span.end }
         requires fits { self.old.input.asked.span.start + 1 < 2 ^ 64 }
@@ -227,12 +238,12 @@ impl<I: Searched> Searcher<I> {
     }
 }
 
-/// Half matches one after the other, each or a refusal, after which there are no more.
+/// An iterator over half matches. After an error it ends.
 #[derive(Drop)]
 pub struct TryHalfMatchesIter<I: Searched, F> {
     searcher: Searcher<I>,
     finder: F,
-    // No more come.
+    // The iterator has ended.
     is_over: bool,
 }
 

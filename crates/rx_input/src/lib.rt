@@ -1,4 +1,4 @@
-//! Contents that lie in pieces, what a search in one is asked for, and matches one after the other.
+//! Haystacks in chunks, the input of a search, and iteration over matches.
 #![tactic(auto)]
 
 mod chunk_cursor;

@@ -1,14 +1,14 @@
-//! What stands around a place.
+//! The bytes around a position.
 
 ghost use Rattle.std.specs.Prelude.{◌≡◌, ◌≤◌, take, drop};
 
 use std::marker::Model;
 
-/// How many bytes on each side of a place tell whether a look holds there: as many as the longest
-/// character has.
+/// The number of bytes on each side that decide a look-around assertion: the length of the longest
+/// character.
 pub(crate) const SIDE: usize = 4;
 
-/// The bytes around a place, and the index in them of that place.
+/// The bytes around a position, and the position among them.
 #[derive(Debug, Drop)]
 pub struct LookAround {
     bytes: [u8; 2 * SIDE],
@@ -28,7 +28,7 @@ impl Model for LookAround {
 }
 
 impl LookAround {
-    // The first bytes of an array, and the place among them.
+    // Returns the first `len` bytes of an array, and the position among them.
     pub(crate) fn new(bytes: [u8; 2 * SIDE], len: usize, position: usize) -> LookAround
         requires len { len ≤ 8 }
         requires position { position ≤ len }
@@ -49,21 +49,21 @@ impl LookAround {
         &self.bytes[..self.len]
     }
 
-    /// Returns how many of them stand before the place.
+    /// Returns the number of bytes before the position.
     pub fn position(&self) -> usize
         ensures { result ≡ self.now.position }
     {
         self.position
     }
 
-    /// Returns the bytes before the place.
+    /// Returns the bytes before the position.
     pub fn before(&self) -> &[u8]
         ensures { result.now ≡ take self.now.position self.now.bytes }
     {
         &self.bytes[..self.position]
     }
 
-    /// Returns the bytes behind the place.
+    /// Returns the bytes after the position.
     pub fn after(&self) -> &[u8]
         ensures { result.now ≡ drop self.now.position self.now.bytes }
     {

@@ -1,4 +1,4 @@
-//! Moving a cursor to a place of its content, and reading there.
+//! Moving a cursor to an offset, and reading there.
 
 ghost use Rattle.std.specs.Prelude.{◌≡◌, ◌+◌, ◌-◌, ◌≤◌, length, min, take, drop, slice_get, ◌^◌, ◌<◌};
 ghost use Rattle.rx_input.specs.Cursors.{IsSameContent};
@@ -6,7 +6,7 @@ ghost use Rattle.rx_input.specs.Inputs.{HoldsPlace};
 
 use crate::cursor::Cursor;
 
-/// Goes back until the piece starts at the place or before it.
+/// Moves back until the chunk starts at or before the offset.
 fn back_to<C: Cursor>(cursor: &mut C, at: usize)
     ensures same { IsSameContent (C.state cursor.old) (C.state cursor.new) }
     ensures reached { (C.state cursor.new).start ≤ at }
@@ -16,8 +16,8 @@ fn back_to<C: Cursor>(cursor: &mut C, at: usize)
     }
 }
 
-/// Goes on until the piece holds the byte at the place, or is the last one, and answers the index
-/// in the piece of the place, or of the content's end where that comes first.
+/// Moves forward until the chunk contains the byte at the offset, or is the last one. Returns the
+/// position in the chunk: that of the offset, or of the end of the haystack if that is less.
 fn on_to<C: Cursor>(cursor: &mut C, at: usize) -> usize
     requires { (C.state cursor.old).start ≤ at }
     ensures same { IsSameContent (C.state cursor.old) (C.state cursor.new) }
@@ -35,8 +35,8 @@ fn on_to<C: Cursor>(cursor: &mut C, at: usize) -> usize
     }
 }
 
-/// Shows the piece that holds the byte at the place, or the last one, and answers the index in the
-/// piece of the place, or of the content's end where that comes first.
+/// Moves to the chunk that contains the byte at the offset, or to the last one. Returns the
+/// position in the chunk: that of the offset, or of the end of the haystack if that is less.
 pub(crate) fn move_to<C: Cursor>(cursor: &mut C, at: usize) -> usize
     ensures same { IsSameContent (C.state cursor.old) (C.state cursor.new) }
     ensures holds { HoldsPlace (C.state cursor.new)
@@ -48,7 +48,7 @@ pub(crate) fn move_to<C: Cursor>(cursor: &mut C, at: usize) -> usize
     on_to(cursor, at)
 }
 
-/// The byte at a place, if there is one. The cursor may then show another piece.
+/// Returns the byte at an offset. May change the current chunk.
 fn byte_at<C: Cursor>(cursor: &mut C, at: usize) -> Option<u8>
     ensures same { IsSameContent (C.state cursor.old) (C.state cursor.new) }
     ensures byte { result ≡ slice_get (C.state cursor.old).content at }
@@ -57,8 +57,8 @@ fn byte_at<C: Cursor>(cursor: &mut C, at: usize) -> Option<u8>
     cursor.chunk().get(index).copied()
 }
 
-/// Reads the bytes from a place on one by one, as many as there is room for, and answers how many
-/// there are.
+/// Reads bytes from an offset on, one by one, until `buf` is full or the haystack ends. Returns
+/// their number.
 fn read_bytes<C: Cursor>(cursor: &mut C, from: usize, buf: &mut [u8]) -> usize
     requires { from + length buf.old < 2 ^ 64 }
     ensures same { IsSameContent (C.state cursor.old) (C.state cursor.new) }
@@ -76,8 +76,8 @@ fn read_bytes<C: Cursor>(cursor: &mut C, from: usize, buf: &mut [u8]) -> usize
     buf.len()
 }
 
-/// Reads the bytes from a place on, as many as there is room for, and answers how many there are.
-/// The cursor may then show another piece.
+/// Reads bytes from an offset on, until `buf` is full or the haystack ends. Returns their number.
+/// May change the current chunk.
 pub(crate) fn read_at<C: Cursor>(cursor: &mut C, from: usize, buf: &mut [u8]) -> usize
     requires { from + length buf.old < 2 ^ 64 }
     ensures same { IsSameContent (C.state cursor.old) (C.state cursor.new) }

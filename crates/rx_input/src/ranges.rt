@@ -1,4 +1,4 @@
-//! Ranges of places, as a caller writes them.
+//! Ranges of offsets, as a caller writes them.
 
 ghost use Rattle.std.specs.Prelude.{◌≡◌, Some, None};
 ghost use Rattle.std.specs.Range.{range_inclusive_start, range_inclusive_end};
@@ -8,22 +8,23 @@ ghost use Rattle.rx_input.specs.declared.ranges.Ends.{Ends};
 
 use std::ops::{Bound, Range, RangeFrom, RangeFull, RangeInclusive, RangeTo, RangeToInclusive};
 
-/// The ends of a range of places. One that the range leaves open is none.
+/// The ends of a range of offsets, `None` if open.
 #[derive(Clone, Copy, Debug, PartialEq, Eq)]
 pub struct Ends {
-    /// The first place.
+    /// The first offset.
     pub start: Option<usize>,
-    /// The place behind the last.
+    /// The offset after the last.
     pub end: Option<usize>,
 }
 
-/// A range of places: one of the six range types of std, or a pair of bounds.
+/// A range of offsets: one of the six range types of std, or a pair of bounds.
 pub trait TextRange: Drop {
     ghost ends: { Self → Ends };
 
-    /// The range's ends. Behind the greatest `usize` there is no place, and a range up to and with
-    /// it ends there, which no content reaches. A range `a..=b` that was iterated to its end is
-    /// empty and lies before `b`.
+    /// Returns the ends of the range.
+    ///
+    /// A range that includes `usize::MAX` ends there, which no haystack reaches. A range `a..=b`
+    /// that was iterated to its end is empty and ends at `b`.
     fn ends(&self) -> Ends
         ensures { result ≡ ends self.now };
 }

@@ -1,4 +1,4 @@
--- A law of the definitions themselves.
+-- A law of the definitions.
 use Rattle.std.specs.Prelude.{◌≡◌, ◌↔◌, ℕ, List}
 use Rattle.rx_sets.specs.Sets.{Range, IsScalar, IsCanonical, Holds}
 

@@ -14,35 +14,35 @@ IsScalar c = (c < 0xD800) ⊎ ((0xE000 ≤ c) × (c ≤ 0x10_FFFF))
 abbrev pub is_scalar : ℕ → Bool
 is_scalar c = nat_lt c 0xD800 || (nat_le 0xE000 c && nat_le c 0x10_FFFF)
 
--- how many scalar values there are
+-- the number of scalar values
 abbrev pub scalar_count : ℕ
 scalar_count = 0x10_F800
 
--- how many scalar values are below this one: U+D7FF and U+E000 are neighbours
+-- the number of scalar values below this one, so that U+D7FF and U+E000 are neighbours
 abbrev pub ordinal : ℕ → ℕ
 ordinal c = if nat_lt c 0xD800 then c else c - 0x800
 
--- the ordinals of the first and of the last scalar value of a range
+-- the ordinals of the first and the last scalar value of a range
 abbrev pub Range : Type 0
 Range = ℕ × ℕ
 
--- the ordinals from one up to another, if there are any between them
+-- the ordinals from `start` to `end`, exclusive, if there are any
 abbrev pub part : ℕ → ℕ → List Range
 part start end = if nat_lt start end then (start, end - 1) ∷ [] else []
 
 abbrev pub in_range : ℕ → Range → Bool
 in_range n range = nat_le range.0 n && nat_le n range.1
 
--- an ordinal lies in one of the ranges
+-- an ordinal is in one of the ranges
 abbrev pub in_ranges : List Range → ℕ → Bool
 in_ranges ranges n = list_any (in_range n) ranges
 
--- a scalar value lies in one of the ranges
+-- a scalar value is in one of the ranges
 abbrev pub Holds : List Range → ℕ → Type 0
 Holds ranges c = IsTrue (in_ranges ranges (ordinal c))
 
--- each range has a member and ends below the count of scalar values; the first begins at n or later,
--- and between two of them there is a scalar value that is in neither
+-- each range has a member and ends below the number of scalar values; the first starts at n or
+-- later, and between two of them is a scalar value that is in neither
 abbrev pub RiseFrom : ℕ → List Range → Type 0
 RiseFrom n [] = Unit {0}
 RiseFrom n (range ∷ ranges) = (n ≤ range.0) × (range.0 ≤ range.1) × (range.1 < scalar_count) × RiseFrom (range.1 + 2) ranges
@@ -60,20 +60,20 @@ pub record IsSetOf (ranges : List Range) (P : ℕ → Type 0) : Type 0 where
 abbrev pub FoldsInto : (ℕ → Type 0) → ℕ → Type 0
 FoldsInto P c = (d : ℕ) × IsScalar d × P d × (simple_fold c ≡ simple_fold d)
 
--- the ranges hold these ordinals, as far as there are scalar values
+-- the ranges have exactly these ordinals, below the number of scalar values
 abbrev pub HasExactly : List Range → (ℕ → Bool) → Type 0
 HasExactly ranges p = (n : ℕ) → n < scalar_count → in_ranges ranges n ≡ p n
 
--- what P names, or that closed under folding
+-- P, closed under folding if `fold` is true
 abbrev pub FoldedIf : Bool → (ℕ → Type 0) → ℕ → Type 0
 FoldedIf fold P c = elim fold [ true ↦ FoldsInto P c | false ↦ P c ]
 
--- a letter class names this scalar value
+-- the scalar value is in the letter class
 abbrev pub in_kind : ClassPerlKind → ℕ → Bool
 in_kind Digit c = is_digit_char c
 in_kind Space c = is_space_char c
 in_kind Word c = is_word_char c
 
--- `\d`, `\s` and `\w`, and with a capital letter what isn't in them
+-- `\d`, `\s` and `\w`; a capital letter negates them
 abbrev pub InPerl : ClassPerlKind → Bool → ℕ → Type 0
 InPerl kind negated c = IsTrue (if negated then not (in_kind kind c) else in_kind kind c)

@@ -1,4 +1,4 @@
-//! The sets that the atoms of a pattern stand for.
+//! The sets of a pattern's atoms.
 
 ghost use Rattle.std.specs.Prelude.{◌≡◌, ◌≢◌, ◌↔◌, [], ◌∷◌, ◌++◌, Contains, IsTrue, IfOk, OnOk, IfSome};
 ghost use Rattle.rx_sets.specs.Sets.{IsSetOf, FoldedIf, InPerl};
@@ -22,7 +22,7 @@ const LETTER_CLASSES: [(ClassPerlKind, bool); 6] = [
     (ClassPerlKind::Word, true),
 ];
 
-/// The letter class that the items are, if they are one.
+/// Returns the letter class if it is the only item.
 fn only_letters(items: &[ClassItem]) -> Option<(ClassPerlKind, bool)>
     ensures { IfSome result (λ r. items.now ≡ ClassItem.Perl r.0 r.1 ∷ []) }
 {
@@ -32,7 +32,7 @@ fn only_letters(items: &[ClassItem]) -> Option<(ClassPerlKind, bool)>
     }
 }
 
-/// Whether the item is this letter class.
+/// Returns whether the item is this letter class.
 fn is_letters(item: ClassItem, kind: ClassPerlKind, negated: bool) -> bool
     ensures { IsTrue result ↔ (item ≡ ClassItem.Perl kind negated) }
 {
@@ -42,7 +42,7 @@ fn is_letters(item: ClassItem, kind: ClassPerlKind, negated: bool) -> bool
     }
 }
 
-/// Whether the letter class is among the items.
+/// Returns whether the letter class is among the items.
 fn has_letters(items: &[ClassItem], kind: ClassPerlKind, negated: bool) -> bool
     ensures { IsTrue result ↔ Contains items.now (ClassItem.Perl kind negated) }
 {
@@ -61,7 +61,7 @@ fn push_set(ranges: &mut Vec<Range>, set: &CharacterSet) -> Result<(), AllocErro
     ranges.extend_from_slice(set.ranges())
 }
 
-/// The one character, closed under folding or as it is.
+/// Returns the set of one character, closed under folding if `fold` is true.
 fn character_set(alloc: Global, fold: bool, c: char) -> Result<CharacterSet, AllocError>
     ensures { IfOk result (λ set. IsSetOf set (FoldedIf fold (λ d. d ≡ c))) }
 {
@@ -70,7 +70,7 @@ fn character_set(alloc: Global, fold: bool, c: char) -> Result<CharacterSet, All
     CharacterSet::from_ranges(ranges)
 }
 
-/// All characters.
+/// Returns the set of all characters.
 fn any_set(alloc: Global) -> Result<CharacterSet, AllocError>
     ensures { IfOk result (λ set. IsSetOf set (λ d. Unit {0})) }
 {
@@ -78,7 +78,7 @@ fn any_set(alloc: Global) -> Result<CharacterSet, AllocError>
     none.complement()
 }
 
-/// All characters but one.
+/// Returns the set of all characters but one.
 fn all_but(alloc: Global, c: char) -> Result<CharacterSet, AllocError>
     ensures { IfOk result (λ set. IsSetOf set (λ d. d ≢ c)) }
 {
@@ -86,12 +86,27 @@ fn all_but(alloc: Global, c: char) -> Result<CharacterSet, AllocError>
     one.complement()
 }
 
-/// How many sets of classes in brackets are kept, at most, to be shared.
+/// The most sets of classes in brackets that are kept for sharing.
 const KEPT_CLASSES: usize = 8;
 
-/// Makes the sets of a pattern's atoms. The set of a letter class is made once and shared, and so
-/// is that of a class in brackets where it is one of the last few: a pattern that says one again
-/// and again takes memory for one.
+/// Makes the sets of a pattern's atoms.
+///
+/// The set of a letter class is made once and shared. The set of a class in brackets is shared with
+/// an equal one among the last few, so a pattern that repeats a class takes memory for one.
+///
+/// # Examples
+///
+/// ```rust
+/// let mut sets = AtomSets::new(rt.alloc());
+/// let items = [
+///     ClassItem::Span('a', 'f'),
+///     ClassItem::Perl(ClassPerlKind::Digit, false),
+/// ];
+/// let set = sets.class(true, true, &items)?;
+/// assert!(rt; !set.contains(ordinal('D')));
+/// assert!(rt; !set.contains(ordinal('7')));
+/// assert!(rt; set.contains(ordinal('x')));
+/// ```
 #[derive(Drop)]
 pub struct AtomSets {
     alloc: Global,
@@ -100,7 +115,7 @@ pub struct AtomSets {
 }
 
 impl AtomSets {
-    /// No set is made yet.
+    /// Returns a maker that has made no set yet.
     pub fn new(alloc: Global) -> AtomSets {
         AtomSets {
             alloc,
@@ -109,7 +124,7 @@ impl AtomSets {
         }
     }
 
-    /// This set, or one of those that are kept, if it is the same.
+    /// Returns the set, shared with an equal one that is kept.
     fn shared(&mut self, set: CharacterSet) -> Result<Rc<CharacterSet>, AllocError>
         ensures { IfOk result (λ shared. shared.value ≡ set) }
     {
@@ -126,7 +141,7 @@ impl AtomSets {
         Ok(made)
     }
 
-    /// What a letter class names, closed under folding or as it is.
+    /// Returns the set of a letter class, closed under folding if `fold` is true.
     fn letters(
         &mut self,
         fold: bool,
@@ -146,7 +161,7 @@ impl AtomSets {
         Ok(set)
     }
 
-    /// What a letter class outside brackets stands for.
+    /// Returns the set of a letter class outside brackets.
     pub fn perl(
         &mut self,
         kind: ClassPerlKind,
@@ -157,7 +172,7 @@ impl AtomSets {
         self.letters(false, kind, negated)
     }
 
-    /// What a literal stands for, closed under folding or as it is.
+    /// Returns the set of a literal, closed under folding if `fold` is true.
     pub fn literal(&self, fold: bool, c: char) -> Result<Rc<CharacterSet>, AllocError>
         ensures { IfOk result (λ set. IsSetOf set.value (FoldedIf fold (λ d. d ≡ c))) }
     {
@@ -165,21 +180,21 @@ impl AtomSets {
         Ok(Rc::new(self.alloc, set)?)
     }
 
-    /// All characters.
+    /// Returns the set of all characters.
     pub fn any(&self) -> Result<Rc<CharacterSet>, AllocError>
         ensures { IfOk result (λ set. IsSetOf set.value (λ d. Unit {0})) }
     {
         Ok(Rc::new(self.alloc, any_set(self.alloc)?)?)
     }
 
-    /// All characters but one.
+    /// Returns the set of all characters but one.
     pub fn all_but(&self, c: char) -> Result<Rc<CharacterSet>, AllocError>
         ensures { IfOk result (λ set. IsSetOf set.value (λ d. d ≢ c)) }
     {
         Ok(Rc::new(self.alloc, all_but(self.alloc, c)?)?)
     }
 
-    /// Appends what a letter class names, if it is among the items.
+    /// Appends the set of a letter class if that is among the items.
     fn push_letters(
         &mut self,
         ranges: &mut Vec<Range>,
@@ -198,7 +213,7 @@ impl AtomSets {
         push_set(ranges, &set)
     }
 
-    /// Appends what the letter classes among the items name, each once.
+    /// Appends the sets of the letter classes among the items, each once.
     fn push_all_letters(
         &mut self,
         ranges: &mut Vec<Range>,
@@ -214,7 +229,7 @@ impl AtomSets {
         Ok(())
     }
 
-    /// What the items of a class name, closed under folding or as it is.
+    /// Returns the union of a class's items, closed under folding if `fold` is true.
     fn union(&mut self, fold: bool, items: &[ClassItem]) -> Result<CharacterSet, AllocError>
         ensures { IfOk result (λ set. IsSetOf set (FoldedIf fold (λ d. InItems d items.now))) }
     {
@@ -224,7 +239,7 @@ impl AtomSets {
         CharacterSet::from_ranges(ranges)
     }
 
-    /// The same set, shared where the items are one letter class.
+    /// Returns the same set, shared if the only item is a letter class.
     fn named(&mut self, fold: bool, items: &[ClassItem]) -> Result<Rc<CharacterSet>, AllocError>
         ensures { IfOk result (λ set. IsSetOf set.value
             (FoldedIf fold (λ d. InItems d items.now))) }
@@ -236,7 +251,8 @@ impl AtomSets {
         self.shared(set)
     }
 
-    /// What a class in brackets stands for, closed under folding before it is negated, or as it is.
+    /// Returns the set of a class in brackets. If `fold` is true, it is closed under folding before
+    /// it is negated.
     pub fn class(
         &mut self,
         fold: bool,

@@ -7,13 +7,14 @@ use std::alloc::{AllocError, Global};
 use std::marker::Model;
 use unicode::case::fold_pairs;
 
-/// The ordinals of the first and of the last scalar value of a range.
+/// The ordinals of the first and the last scalar value of a range.
 pub type Range = (u32, u32);
 
-/// How many scalar values there are.
+/// The number of scalar values.
 const SCALARS: u32 = 0x11_0000 - 0x800;
 
-/// How many scalar values are below `c`: its ordinal. So U+D7FF and U+E000 are neighbours.
+/// Returns the ordinal of `c`: the number of scalar values below it. So U+D7FF and U+E000 are
+/// neighbours.
 pub fn ordinal(c: char) -> u32
     ensures value { result ≡ ordinal c }
     ensures bound { result < scalar_count }
@@ -22,7 +23,8 @@ pub fn ordinal(c: char) -> u32
     if code < 0xD800 { code } else { code - 0x800 }
 }
 
-/// The scalar value with this ordinal, and `None` where there is none: the inverse of `ordinal`.
+/// Returns the scalar value with this ordinal, or `None` if there is none: the inverse of
+/// `ordinal`.
 pub fn from_ordinal(index: u32) -> Option<char>
     ensures { MatchOption result (scalar_count ≤ index) (λ c. ordinal c ≡ index) }
 {
@@ -35,29 +37,29 @@ pub fn from_ordinal(index: u32) -> Option<char>
     None
 }
 
-/// The ordinal of the scalar value with this code point.
+/// Returns the ordinal of the scalar value with this code point.
 pub(crate) fn ordinal_of_code(code: u32) -> u32
     ensures { result ≡ ordinal code }
 {
     if code < 0xD800 { code } else { code - 0x800 }
 }
 
-/// Whether the code point is a scalar value.
+/// Returns whether the code point is a scalar value.
 pub(crate) fn is_scalar(code: u32) -> bool
     ensures { result ≡ is_scalar code }
 {
     code < 0xD800 || (0xE000 <= code && code <= 0x10_FFFF)
 }
 
-/// Returns whether they are the same ranges in the same order. Those of sets are so exactly where
-/// the sets are the same. `O(n)`.
+/// Returns whether the ranges are the same, in the same order. For two sets, this is equality of
+/// the sets. `O(n)`.
 pub fn is_same(ranges: &[Range], others: &[Range]) -> bool
     ensures { IsTrue result ↔ (ranges.now ≡ others.now) }
 {
     ranges == others
 }
 
-/// Appends the ordinals from `start` up to `end`, if there are any between them.
+/// Appends the ordinals from `start` to `end`, exclusive, if there are any.
 pub(crate) fn push_part(ranges: &mut Vec<Range>, start: u32, end: u32) -> Result<(), AllocError>
     ensures { OnOk result (ranges.new.items ≡ ranges.old.items ++ part start end) }
 {
@@ -67,7 +69,7 @@ pub(crate) fn push_part(ranges: &mut Vec<Range>, start: u32, end: u32) -> Result
     Ok(())
 }
 
-/// A set of scalar values, as its maximal ranges in order.
+/// A set of scalar values, stored as its maximal ranges in order.
 #[derive(Debug, Drop)]
 pub struct CharacterSet {
     ranges: Vec<Range>,
@@ -85,7 +87,7 @@ impl Model for CharacterSet {
 }
 
 impl CharacterSet {
-    /// The set without a member.
+    /// Returns the empty set.
     pub fn empty(alloc: Global) -> CharacterSet
         ensures { result ≡ [] }
     {
@@ -94,15 +96,15 @@ impl CharacterSet {
         }
     }
 
-    /// The maximal ranges in order, by ordinals.
+    /// Returns the maximal ranges in order, as ordinals.
     pub fn ranges(&self) -> &[Range]
         ensures { result.now ≡ self.now }
     {
         &self.ranges
     }
 
-    /// What is in any of the ranges. These come in any order; one that ends before it begins is
-    /// empty, and ordinals of no scalar value are left out.
+    /// Returns the union of ranges, which may be in any order. A range that ends before it starts
+    /// is empty, and ordinals of no scalar value are ignored.
     pub fn from_ranges(mut ranges: Vec<Range>) -> Result<CharacterSet, AllocError>
         ensures canonical { IfOk result IsCanonical }
         ensures members { IfOk result (λ set. HasExactly set (in_ranges ranges.items)) }
@@ -125,7 +127,7 @@ impl CharacterSet {
         Ok(CharacterSet { ranges: joined })
     }
 
-    /// The scalar values that aren't in this set.
+    /// Returns the scalar values that aren't in this set.
     pub fn complement(&self) -> Result<CharacterSet, AllocError>
         ensures canonical { IfOk result IsCanonical }
         ensures members { IfOk result (λ set. HasExactly set (λ n. not (in_ranges self.now n))) }
@@ -140,7 +142,7 @@ impl CharacterSet {
         Ok(CharacterSet { ranges: gaps })
     }
 
-    /// Whether the scalar value with this ordinal is in the set.
+    /// Returns whether the scalar value with this ordinal is in the set.
     pub fn contains(&self, ordinal: u32) -> bool
         ensures { result ≡ in_ranges self.now ordinal }
     {
@@ -160,7 +162,7 @@ impl CharacterSet {
         false
     }
 
-    /// Whether both code points are scalar values, and the first is a member.
+    /// Returns whether both code points are scalar values, and the first is a member.
     fn folds_from(&self, first: u32, second: u32) -> bool
         ensures { result ≡ (is_scalar first && (is_scalar second && in_ranges self.now
             (ordinal first))) }
@@ -168,7 +170,7 @@ impl CharacterSet {
         is_scalar(first) && is_scalar(second) && self.contains(ordinal_of_code(first))
     }
 
-    /// The scalar values with the same simple case folding as a member.
+    /// Returns the scalar values with the same simple case folding as a member.
     pub fn closed_under_folding(&self) -> Result<CharacterSet, AllocError>
         ensures canonical { IfOk result IsCanonical }
         ensures members { IfOk result (λ set. (c : ℕ) → IsScalar c → Holds set c ↔ FoldsInto

@@ -1,4 +1,4 @@
-//! Ranges of what an item of a class names, and of what has the same simple case folding.
+//! Ranges of the items of a class, and of their simple case foldings.
 
 ghost use Rattle.std.specs.Prelude.{◌≡◌, ◌≢◌, ℕ, ◌↔◌, ◌&&◌, IsTrue, OnOk, Contains};
 ghost use Rattle.unicode.specs.CaseFolding.{simple_fold};
@@ -10,7 +10,8 @@ use crate::items::ClassItem;
 use std::alloc::AllocError;
 use unicode::case::fold_pairs;
 
-/// The pairs of code points with one simple case folding whose first part is from `low` to `high`.
+/// Returns the pairs of code points with the same simple case folding whose first part is from
+/// `low` to `high`.
 fn pairs_between(low: char, high: char) -> &'static [(u32, u32)]
     ensures { (a b : ℕ) → Contains result.now (a, b) ↔
         ((a ≢ b) × (simple_fold a ≡ simple_fold b) × Between low high a) }
@@ -21,21 +22,21 @@ fn pairs_between(low: char, high: char) -> &'static [(u32, u32)]
     between
 }
 
-/// Whether both parts are scalar values.
+/// Returns whether both parts are scalar values.
 fn are_scalars(pair: (u32, u32)) -> bool
     ensures { result ≡ (is_scalar pair.0 && is_scalar pair.1) }
 {
     is_scalar(pair.0) && is_scalar(pair.1)
 }
 
-/// Whether the code point is from `low` to `high`.
+/// Returns whether the code point is from `low` to `high`.
 fn is_between(low: char, high: char, code: u32) -> bool
     ensures { IsTrue result ↔ Between low high code }
 {
     low as u32 <= code && code <= high as u32
 }
 
-/// Appends the second part of a pair of scalar values, unless it is from `low` to `high` itself.
+/// Appends the second part of a pair of scalar values, unless it is itself from `low` to `high`.
 fn push_second(
     ranges: &mut Vec<Range>,
     low: char,
@@ -52,8 +53,8 @@ fn push_second(
     Ok(())
 }
 
-/// Appends the second part of each pair of scalar values, unless it is from `low` to `high` itself.
-/// So ranges that are closed already stay short.
+/// Appends the second part of each pair of scalar values, unless it is itself from `low` to `high`.
+/// So ranges that are already closed stay short.
 fn push_seconds(
     ranges: &mut Vec<Range>,
     low: char,
@@ -85,7 +86,7 @@ fn push_folded(ranges: &mut Vec<Range>, low: char, high: char) -> Result<(), All
     push_seconds(ranges, low, high, pairs_between(low, high))
 }
 
-/// Appends the scalar values from `low` to `high`, closed under folding or as they are.
+/// Appends the scalar values from `low` to `high`, closed under folding if `fold` is true.
 pub(crate) fn push_folded_if(
     ranges: &mut Vec<Range>,
     fold: bool,
@@ -102,7 +103,7 @@ pub(crate) fn push_folded_if(
     }
 }
 
-/// Appends what the item names, unless it is a letter class.
+/// Appends the scalar values of the item, unless it is a letter class.
 fn push_item(ranges: &mut Vec<Range>, fold: bool, item: ClassItem) -> Result<(), AllocError>
     ensures { OnOk result (Adds ranges.old.items ranges.new.items (λ c. InSpan fold c item)) }
 {
@@ -112,7 +113,7 @@ fn push_item(ranges: &mut Vec<Range>, fold: bool, item: ClassItem) -> Result<(),
     }
 }
 
-/// Appends what the items name that are no letter classes.
+/// Appends the scalar values of the items that are no letter classes.
 pub(crate) fn push_items(
     ranges: &mut Vec<Range>,
     fold: bool,

@@ -1,7 +1,6 @@
-//! What a class in brackets is made of.
+//! The items of a class in brackets.
 
-/// What a letter class names: `\d`, `\s` or `\w`. The capital letter names the characters that
-/// aren't in it.
+/// A letter class: `\d`, `\s` or `\w`. A capital letter negates it.
 #[derive(Debug, Clone, Copy, PartialEq, Eq, Hash)]
 pub enum ClassPerlKind {
     /// `\d`: the decimal digits, General_Category Nd.
@@ -13,11 +12,11 @@ pub enum ClassPerlKind {
     Word,
 }
 
-/// What an item of a class names.
+/// An item of a class.
 #[derive(Debug, Clone, Copy, PartialEq, Eq)]
 pub enum ClassItem {
-    /// The characters from one to another.
+    /// The characters from one to another, inclusive.
     Span(char, char),
-    /// A letter class, negated or not.
+    /// A letter class, negated if the flag is true.
     Perl(ClassPerlKind, bool),
 }

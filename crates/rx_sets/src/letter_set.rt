@@ -1,4 +1,4 @@
-//! The sets of the letter classes, `\d`, `\s` and `\w`.
+//! The sets of the letter classes `\d`, `\s` and `\w`.
 
 ghost use Rattle.std.specs.Prelude.{◌≡◌, IfOk, OnOk, IsTrue};
 ghost use Rattle.unicode.specs.Rows.{in_ranges, HasExactly};
@@ -12,7 +12,7 @@ use std::marker::Model;
 use std::rc::Rc;
 use unicode::perl::{digit_ranges, space_ranges, word_ranges};
 
-/// How many scalar values have a code point below this one.
+/// Returns the number of scalar values below a code point.
 fn scalars_below(code: u32) -> u32
     ensures { result ≡ scalars_below code }
 {
@@ -25,7 +25,7 @@ fn scalars_below(code: u32) -> u32
     }
 }
 
-/// Appends the scalar values from `low` to `high`, two code points.
+/// Appends the scalar values from `low` to `high`, which are code points.
 fn push_codes(ranges: &mut Vec<Range>, low: u32, high: u32) -> Result<(), AllocError>
     ensures { OnOk result (Adds ranges.old.items ranges.new.items (Between low high)) }
 {
@@ -33,7 +33,7 @@ fn push_codes(ranges: &mut Vec<Range>, low: u32, high: u32) -> Result<(), AllocE
     push_part(ranges, scalars_below(low), scalars_below(end))
 }
 
-/// The scalar values in these ranges of code points.
+/// Returns the scalar values in these ranges of code points.
 fn set_of_codes(alloc: Global, codes: &[(u32, u32)]) -> Result<CharacterSet, AllocError>
     ensures { IfOk result (λ set. IsSetOf set (λ c. IsTrue (in_ranges codes.now c))) }
 {
@@ -44,7 +44,7 @@ fn set_of_codes(alloc: Global, codes: &[(u32, u32)]) -> Result<CharacterSet, All
     CharacterSet::from_ranges(ranges)
 }
 
-/// The code points that a letter class names with its small letter, as ranges.
+/// Returns the code points of a letter class that isn't negated, as ranges.
 fn kind_ranges(alloc: Global, kind: ClassPerlKind) -> Result<Vec<(u32, u32)>, AllocError>
     ensures { IfOk result (λ codes. HasExactly codes.items (in_kind kind)) }
 {
@@ -55,7 +55,7 @@ fn kind_ranges(alloc: Global, kind: ClassPerlKind) -> Result<Vec<(u32, u32)>, Al
     }
 }
 
-/// What a letter class names with its small letter.
+/// Returns the set of a letter class that isn't negated.
 fn kind_set(alloc: Global, kind: ClassPerlKind) -> Result<CharacterSet, AllocError>
     ensures { IfOk result (λ set. IsSetOf set (λ c. IsTrue (in_kind kind c))) }
 {
@@ -63,7 +63,7 @@ fn kind_set(alloc: Global, kind: ClassPerlKind) -> Result<CharacterSet, AllocErr
     set_of_codes(alloc, &codes)
 }
 
-/// What a letter class names.
+/// Returns the set of a letter class.
 fn perl_set(alloc: Global, kind: ClassPerlKind, negated: bool) -> Result<CharacterSet, AllocError>
     ensures { IfOk result (λ set. IsSetOf set (InPerl kind negated)) }
 {
@@ -71,7 +71,7 @@ fn perl_set(alloc: Global, kind: ClassPerlKind, negated: bool) -> Result<Charact
     if negated { set.complement() } else { Ok(set) }
 }
 
-/// What a letter class names, closed under folding or as it is.
+/// Returns the set of a letter class, closed under folding if `fold` is true.
 fn letter_set(
     alloc: Global,
     fold: bool,
@@ -88,7 +88,7 @@ fn letter_set(
     }
 }
 
-/// The set of a letter class, closed under folding or as it is, to be shared.
+/// The set of a letter class, closed under folding or not, for sharing.
 #[derive(Drop)]
 pub(crate) struct LetterSet {
     fold: bool,
@@ -109,7 +109,7 @@ impl Model for LetterSet {
 }
 
 impl LetterSet {
-    /// The set, made from its table.
+    /// Returns the set, made from its table.
     pub(crate) fn new(
         alloc: Global,
         fold: bool,
@@ -127,14 +127,14 @@ impl LetterSet {
         })
     }
 
-    /// Whether it is the set of this letter class.
+    /// Returns whether it is the set of this letter class.
     pub(crate) fn is_of(&self, fold: bool, kind: ClassPerlKind, negated: bool) -> bool
         ensures { IsTrue result → IsSetOf self.now (FoldedIf fold (InPerl kind negated)) }
     {
         self.fold == fold && self.kind == kind && self.negated == negated
     }
 
-    /// One more owner of the set.
+    /// Returns one more owner of the set.
     pub(crate) fn share(&self) -> Result<Rc<CharacterSet>, AllocError>
         ensures { IfOk result (λ set. set.value ≡ self.now) }
     {

@@ -1,4 +1,4 @@
-//! Sets of characters: how they are kept, and those that the atoms of a pattern stand for.
+//! Sets of characters, and the sets of a pattern's atoms.
 #![tactic(auto)]
 
 mod atom_sets;

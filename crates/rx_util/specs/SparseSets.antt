@@ -1,4 +1,4 @@
--- Sets of states, which keep the order of insertion.
+-- Sets of states, in order of insertion.
 use Rattle.std.specs.Prelude.{◌≡◌, ◌≢◌, ℕ, ◌<◌, ◌≤◌, List, length, All, AllPairs, Some, slice_get}
 
 -- states below a capacity, in order of insertion
@@ -11,7 +11,7 @@ pub record IsSetBelow (capacity : ℕ) (members : List ℕ) : Type 0 where
   pub below : All (λ id. id < capacity) members
   pub apart : AllPairs (λ a b. a ≢ b) members
 
--- the first `len` of the dense list are members, and the sparse one tells of each where it stands there
+-- the first `len` of the dense list are members, and the sparse list has the index of each
 pub record IsIndexed (dense sparse : List ℕ) (len : ℕ) : Type 0 where
   pub room : length sparse ≤ length dense
   pub filled : len ≤ length dense

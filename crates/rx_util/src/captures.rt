@@ -1,4 +1,4 @@
-//! Groups of patterns, their slots, and what a search notes in them.
+//! Groups of patterns, their slots, and the spans that a search stores in them.
 
 ghost use Rattle.std.specs.Prelude.{ℕ, ◌≡◌, [], ◌+◌, ◌*◌, ◌^◌, ◌<◌, ◌≤◌, ◌↔◌, length, replicate, Option, Some, None, IsTrue, IsSome, IfOk, IfErr, IfSome, MatchOption, option_map, slice_get, string_bytes};
 ghost use Rattle.std.specs.Option.{option_copied, ForSome};
@@ -11,30 +11,30 @@ use std::alloc::{AllocError, Global};
 use std::marker::Model;
 use std::rc::Rc;
 
-/// Which groups a program notes. What is spelled in a pattern keeps its number and its name in
-/// any case.
+/// Which groups a program captures. Groups keep the numbers and names that they have in the
+/// pattern.
 #[derive(Clone, Copy, Debug, PartialEq, Eq, Hash)]
 pub enum WhichCaptures {
     /// All groups.
     All,
-    /// Group 0 alone, which is the whole match.
+    /// Only group 0, the whole match.
     Implicit,
-    /// It acts as `Implicit`.
+    /// The same as `Implicit`.
     None,
 }
 
-/// The groups of patterns, laid out.
+/// The groups of patterns and the layout of their slots.
 #[derive(Debug, Drop)]
 struct GroupInfoInner {
     /// By pattern, the names of its groups from group 1 on.
     names: Vec<Vec<Option<String>>>,
-    /// By pattern, the slot where its group 1 starts, or would start.
+    /// By pattern, the first slot of its group 1, or where that would be.
     starts: Vec<usize>,
-    /// How many slots there are.
+    /// The number of slots.
     slot_len: usize,
 }
 
-/// Whether the group has this name.
+/// Returns whether the group has this name.
 fn is_named(group: &Option<String>, name: &str) -> bool
     ensures { IsTrue result ↔ (option_map string_bytes group.now ≡ Some name.now) }
 {
@@ -44,7 +44,7 @@ fn is_named(group: &Option<String>, name: &str) -> bool
     }
 }
 
-/// The number of the group with this name, if there is one, among groups from group 1 on.
+/// Returns the number of the group with this name, given the groups from group 1 on.
 fn group_named(groups: &[Option<String>], name: &str) -> Option<usize>
     ensures { MatchOption result
         ((g : ℕ) → name_among (names_of groups.now) g ≡ Some name.now → ⊥)
@@ -58,7 +58,7 @@ fn group_named(groups: &[Option<String>], name: &str) -> Option<usize>
     None
 }
 
-/// The name of a group that has one.
+/// Returns the name of a group.
 fn text_of(group: &Option<String>) -> Option<&str>
     ensures { option_copied result ≡ option_map string_bytes group.now }
 {
@@ -68,7 +68,7 @@ fn text_of(group: &Option<String>) -> Option<&str>
     }
 }
 
-/// The name of a group, if there is the group and it has one, among groups from group 1 on.
+/// Returns the name of a group, given the groups from group 1 on.
 fn name_of_group(groups: &[Option<String>], group: usize) -> Option<&str>
     ensures { option_copied result ≡ name_among (names_of groups.now) group }
 {
@@ -78,13 +78,12 @@ fn name_of_group(groups: &[Option<String>], group: usize) -> Option<&str>
     text_of(&groups[group - 1])
 }
 
-/// The groups of patterns: how many there are, their names, and the slots in which a search notes
-/// them. Contracts see, for each pattern, the names of its groups from group 1 on. Group 0 is the
-/// whole match, which has no name.
+/// The groups of patterns: their number, their names, and the slots in which a search stores their
+/// spans. Contracts see, for each pattern, the names of its groups from group 1 on.
 ///
-/// Each group has two slots, one for the place where it starts and one for that where it ends.
-/// Those of the groups 0 stand first, pattern by pattern, then those of the further groups,
-/// pattern by pattern. A clone shares its source, and takes `O(1)`.
+/// Group 0 is the whole match and has no name. Each group has two slots, one for the start and one
+/// for the end. The slots of the groups 0 come first, pattern by pattern, then those of the other
+/// groups, pattern by pattern. A clone shares the data, in `O(1)`.
 #[derive(Debug, Drop)]
 pub struct GroupInfo {
     inner: Rc<GroupInfoInner>,
@@ -111,14 +110,14 @@ impl Clone for GroupInfo {
     }
 }
 
-/// How many slots there are with those of further groups, if a `usize` tells it.
+/// Returns the number of slots with those of more groups, or `None` if it exceeds `usize::MAX`.
 fn slots_after(slots: usize, groups: usize) -> Option<usize>
     ensures { IfSome result (λ more. (more ≡ slots + 2 * groups) × (more < 2 ^ 64)) }
 {
     slots.checked_add(groups.checked_mul(2)?)
 }
 
-/// So many patterns without a further group.
+/// Returns the names of `count` patterns that have only group 0.
 fn without_further_groups(
     alloc: Global,
     count: usize,
@@ -133,8 +132,16 @@ fn without_further_groups(
 }
 
 impl GroupInfo {
-    /// The groups of patterns that are noted, given as for `new`: all of them, and under `Implicit`
-    /// and `None` the groups 0 alone. It is refused as `new` is. `O(n)` in the number of patterns.
+    /// Returns the groups that are captured: all of them, or only the groups 0 for `Implicit` and
+    /// `None`. `O(n)` in the number of patterns.
+    ///
+    /// # Requires
+    ///
+    /// As [`new`](Self::new).
+    ///
+    /// # Errors
+    ///
+    /// As [`new`](Self::new).
     pub fn noted(
         alloc: Global,
         which: WhichCaptures,
@@ -151,9 +158,16 @@ impl GroupInfo {
         }
     }
 
-    /// The groups of patterns, given for each pattern the names of its groups from group 1 on. No
-    /// two groups of a pattern have one name. It is refused for want of memory, also where a
-    /// `usize` doesn't tell how many slots there are. `O(n)` in the number of patterns.
+    /// Returns the groups of patterns, given for each pattern the names of its groups from group 1
+    /// on. `O(n)` in the number of patterns.
+    ///
+    /// # Requires
+    ///
+    /// No two groups of a pattern have the same name.
+    ///
+    /// # Errors
+    ///
+    /// Out of memory, also if the number of slots exceeds `usize::MAX`.
     pub fn new(alloc: Global, names: Vec<Vec<Option<String>>>) -> Result<GroupInfo, AllocError>
         requires distinct { HasDistinctNames (named_groups names.items) }
         ensures { IfOk result (λ info. info ≡ named_groups names.items) }
@@ -180,7 +194,7 @@ impl GroupInfo {
         Ok(GroupInfo { inner })
     }
 
-    /// The names of a pattern's groups from group 1 on.
+    /// Returns the names of a pattern's groups from group 1 on.
     fn further_names(&self, pid: PatternID) -> Option<&[Option<String>]>
         ensures names { option_map (λ names. names_of names.now) result ≡ slice_get self.now pid }
         ensures distinct { HasDistinctNames self.now }
@@ -189,15 +203,15 @@ impl GroupInfo {
         Some(names)
     }
 
-    /// How many patterns there are. `O(1)`.
+    /// Returns the number of patterns. `O(1)`.
     pub fn pattern_len(&self) -> usize
         ensures { result ≡ length self.now }
     {
         self.inner.names.len()
     }
 
-    /// How many groups a pattern has, group 0 among them: none where there is no such pattern.
-    /// `O(1)`.
+    /// Returns the number of a pattern's groups, including group 0, or 0 if there is no such
+    /// pattern. `O(1)`.
     pub fn group_len(&self, pid: PatternID) -> usize
         ensures { result ≡ group_len self.now pid }
     {
@@ -207,14 +221,14 @@ impl GroupInfo {
         }
     }
 
-    /// How many slots there are. `O(1)`.
+    /// Returns the number of slots. `O(1)`.
     pub fn slot_len(&self) -> usize
         ensures { result ≡ slot_len self.now }
     {
         self.inner.slot_len
     }
 
-    /// How many slots the groups 0 have, which stand first. `O(1)`.
+    /// Returns the number of slots of the groups 0, which come first. `O(1)`.
     pub fn implicit_slot_len(&self) -> usize
         ensures len { result ≡ 2 * length self.now }
         ensures few { result ≤ slot_len self.now }
@@ -222,8 +236,8 @@ impl GroupInfo {
         2 * self.inner.names.len()
     }
 
-    /// The index of a pattern's group with this name, if there is one. `O(n)` in the number of the
-    /// pattern's groups.
+    /// Returns the index of a pattern's group by its name. `O(n)` in the number of the pattern's
+    /// groups.
     pub fn to_index(&self, pid: PatternID, name: &str) -> Option<usize>
         ensures { (group : ℕ) → (result ≡ Some group) ↔
             (name_of self.now pid group ≡ Some name.now) }
@@ -231,15 +245,16 @@ impl GroupInfo {
         group_named(self.further_names(pid)?, name)
     }
 
-    /// The name of a pattern's group, if there is the group and it has one. `O(1)`.
+    /// Returns the name of a pattern's group, or `None` if there is no such group or it has no
+    /// name. `O(1)`.
     pub fn to_name(&self, pid: PatternID, group_index: usize) -> Option<&str>
         ensures { option_copied result ≡ name_of self.now pid group_index }
     {
         name_of_group(self.further_names(pid)?, group_index)
     }
 
-    /// The first slot of a pattern's group, if there is the group. The second one is the next.
-    /// `O(1)`.
+    /// Returns the first of a group's two slots, which are adjacent, or `None` if there is no such
+    /// group. `O(1)`.
     pub fn slot(&self, pid: PatternID, group_index: usize) -> Option<usize>
         ensures slot { result ≡ first_slot self.now pid group_index }
         ensures in_range { (slot : ℕ) → result ≡ Some slot → slot + 1 < slot_len self.now }
@@ -254,7 +269,7 @@ impl GroupInfo {
         Some(inner.starts[pid.as_usize()] + 2 * (group_index - 1))
     }
 
-    /// The two slots of a pattern's group, if there is the group. `O(1)`.
+    /// Returns the two slots of a group, or `None` if there is no such group. `O(1)`.
     pub fn slots(&self, pid: PatternID, group_index: usize) -> Option<(usize, usize)>
         ensures { result ≡
             option_map (λ slot. (slot, slot + 1)) (first_slot self.now pid group_index) }
@@ -264,9 +279,9 @@ impl GroupInfo {
     }
 }
 
-/// What a search notes: the pattern that matches, and in slots where its groups match. Contracts
-/// see the groups, the pattern, and for each slot a place, which is a byte index, or none. There
-/// are at most as many slots as the groups have.
+/// The pattern that a search has matched, and the spans of its groups in slots. Contracts see the
+/// groups, the pattern, and for each slot an optional byte offset. There are at most as many slots
+/// as the groups have.
 #[derive(Debug, Drop)]
 pub struct Captures {
     group_info: GroupInfo,
@@ -295,7 +310,7 @@ impl Captures {
     ghost use Rattle.rx_util.specs.Captured.{nothing_noted, place_in, group_span, group_name, match_found};
     ghost use Rattle.rx_util.specs.Lending.{LendsSlots};
 
-    /// Nothing noted yet, with so many slots.
+    /// Returns captures of no match, with `len` slots.
     fn with_slots(alloc: Global, group_info: &GroupInfo, len: usize) -> Result<Captures, MatchError>
         requires few { len ≤ slot_len group_info.now }
         ensures made { IfOk result (λ caps. caps ≡ nothing_noted group_info.now len) }
@@ -310,8 +325,12 @@ impl Captures {
         })
     }
 
-    /// Nothing noted yet, with slots for all groups. The groups are shared. The one refusal is
-    /// `Memory`. `O(n)` in the number of slots.
+    /// Returns captures of no match, with slots for all groups. Shares `group_info`. `O(n)` in the
+    /// number of slots.
+    ///
+    /// # Errors
+    ///
+    /// `Memory`.
     pub fn all(alloc: Global, group_info: &GroupInfo) -> Result<Captures, MatchError>
         ensures made { IfOk result (λ caps. caps ≡
             nothing_noted group_info.now (slot_len group_info.now)) }
@@ -320,8 +339,12 @@ impl Captures {
         Captures::with_slots(alloc, group_info, group_info.slot_len())
     }
 
-    /// Nothing noted yet, with slots for the whole match of each pattern. The groups are shared.
-    /// The one refusal is `Memory`. `O(n)` in the number of patterns.
+    /// Returns captures of no match, with slots for the whole match of each pattern. Shares
+    /// `group_info`. `O(n)` in the number of patterns.
+    ///
+    /// # Errors
+    ///
+    /// `Memory`.
     pub fn matches(alloc: Global, group_info: &GroupInfo) -> Result<Captures, MatchError>
         ensures made { IfOk result (λ caps. caps ≡
             nothing_noted group_info.now (2 * length group_info.now)) }
@@ -330,28 +353,28 @@ impl Captures {
         Captures::with_slots(alloc, group_info, group_info.implicit_slot_len())
     }
 
-    /// Whether a pattern matches. `O(1)`.
+    /// Returns whether there is a match. `O(1)`.
     pub fn is_match(&self) -> bool
         ensures { IsTrue result ↔ IsSome self.now.pattern }
     {
         self.pattern.is_some()
     }
 
-    /// The pattern that matches. `O(1)`.
+    /// Returns the pattern that matched. `O(1)`.
     pub fn pattern(&self) -> Option<PatternID>
         ensures { result ≡ self.now.pattern }
     {
         self.pattern
     }
 
-    /// Sets the pattern that matches, or that there is none. The slots stay. `O(1)`.
+    /// Sets or clears the pattern that matched. The slots are unchanged. `O(1)`.
     pub fn set_pattern(&mut self, pid: Option<PatternID>)
         ensures { self.new ≡ record self.old { pattern = pid } }
     {
         self.pattern = pid;
     }
 
-    /// The place noted in a slot, if there is one.
+    /// Returns the offset in a slot.
     fn place(&self, slot: usize) -> Option<usize>
         ensures { result ≡ place_in self.now.slots slot }
     {
@@ -361,9 +384,12 @@ impl Captures {
         }
     }
 
-    /// The whole match: the pattern, and the span of group 0. There is none where no pattern
-    /// matches or one of the two places isn't noted. The second of them must not lie before the
-    /// first. `O(1)`.
+    /// Returns the whole match: the pattern, and the span of group 0. `None` if there is no match
+    /// or one of the two slots is empty. `O(1)`.
+    ///
+    /// # Requires
+    ///
+    /// The span doesn't end before it starts.
     pub fn get_match(&self) -> Option<Match>
         requires { ForSome (group_span self.now 0) (λ span. span.start ≤ span.end) }
         ensures { result ≡ match_found self.now }
@@ -373,9 +399,8 @@ impl Captures {
         Some(Match::new(pattern, span))
     }
 
-    /// What a group of the pattern that matches has matched. There is none where no pattern
-    /// matches, the pattern has no such group, or one of the group's two places isn't noted.
-    /// `O(1)`.
+    /// Returns the span of a group of the matched pattern. `None` if there is no match, no such
+    /// group, or one of the group's two slots is empty. `O(1)`.
     pub fn get_group(&self, index: usize) -> Option<Span>
         ensures { result ≡ group_span self.now index }
     {
@@ -385,7 +410,7 @@ impl Captures {
         Some(Span { start, end })
     }
 
-    /// The number of the group with this name, of the pattern that matches.
+    /// Returns the number of the matched pattern's group with this name.
     fn group_named(&self, name: &str) -> Option<usize>
         ensures { (group : ℕ) → (result ≡ Some group) ↔
             (group_name self.now group ≡ Some name.now) }
@@ -393,8 +418,9 @@ impl Captures {
         self.group_info.to_index(self.pattern?, name)
     }
 
-    /// What the group with this name, of the pattern that matches, has matched. There is none
-    /// also where the pattern has no such name. `O(n)` in the number of the pattern's groups.
+    /// Returns the span of the matched pattern's group with this name, as
+    /// [`get_group`](Self::get_group) does. `None` also if no group has this name. `O(n)` in the
+    /// number of the pattern's groups.
     pub fn get_group_by_name(&self, name: &str) -> Option<Span>
         ensures named { (group : ℕ) → group_name self.now group ≡ Some name.now →
             result ≡ group_span self.now group }
@@ -405,7 +431,7 @@ impl Captures {
         self.get_group(index)
     }
 
-    /// The slots, to be written. `O(1)`.
+    /// Returns the slots for writing. `O(1)`.
     pub fn slots_mut(&mut self) -> &mut [Option<NonMaxUsize>]
         ensures* writes_back { sem 𝓛 (LendsSlots self.entry result) }
         ensures slots { result.now ≡ self.old.slots }
@@ -414,15 +440,19 @@ impl Captures {
         self.slots.as_mut_slice()
     }
 
-    /// The groups of the patterns. `O(1)`.
+    /// Returns the groups of the patterns. `O(1)`.
     pub fn group_info(&self) -> &GroupInfo
         ensures { result.now ≡ self.now.groups }
     {
         &self.group_info
     }
 
-    /// The same, noted in slots of its own. The groups are shared. The one refusal is `Memory`.
-    /// `O(n)` in the number of slots.
+    /// Returns a copy with slots of its own, which shares the groups. `O(n)` in the number of
+    /// slots.
+    ///
+    /// # Errors
+    ///
+    /// `Memory`.
     pub fn clone(&self) -> Result<Captures, MatchError>
         ensures same { IfOk result (λ caps. caps ≡ self.now) }
         ensures refused { IfErr result (λ error. error ≡ MatchError.Memory) }

@@ -1,5 +1,4 @@
-//! What a search is asked for and what it tells: small types, groups and their slots, and sets of
-//! states.
+//! Types of a search's request and its result, groups and their slots, and sets of states.
 #![tactic(auto)]
 
 pub mod captures;

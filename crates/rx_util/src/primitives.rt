@@ -1,11 +1,11 @@
-//! Numbers with a meaning of their own: of patterns, of states, and places in slots.
+//! Identifiers of patterns and states, and offsets as slots store them.
 
 ghost use Rattle.std.specs.Prelude.{ℕ, ◌≡◌, ◌+◌, ◌^◌, ◌<◌, SomeIff};
 
 use std::marker::Model;
 
-/// The number of a pattern among those that are searched for together, from 0 on. Contracts see the
-/// number, and any `usize` is one.
+/// The identifier of a pattern: its index among those that are searched for together. Contracts see
+/// the number, which is any `usize`.
 #[derive(Clone, Copy, Debug, Default, PartialEq, Eq, PartialOrd, Ord, Hash)]
 pub struct PatternID {
     value: usize,
@@ -23,14 +23,14 @@ impl PatternID {
     /// The first pattern.
     pub const ZERO: PatternID = PatternID { value: 0 };
 
-    /// The pattern with this number.
+    /// Returns the pattern with this number.
     pub fn new(value: usize) -> PatternID
         ensures { result ≡ value }
     {
         PatternID { value }
     }
 
-    /// Its number.
+    /// Returns the number.
     pub fn as_usize(&self) -> usize
         ensures { result ≡ self.now }
     {
@@ -38,8 +38,8 @@ impl PatternID {
     }
 }
 
-/// The number of a state of a program or an automaton, from 0 on. Contracts see the number, and any
-/// `usize` is one.
+/// The identifier of a state of a program or an automaton. Contracts see the number, which is any
+/// `usize`.
 #[derive(Clone, Copy, Debug, Default, PartialEq, Eq, PartialOrd, Ord, Hash)]
 pub struct StateID {
     value: usize,
@@ -57,14 +57,14 @@ impl StateID {
     /// The first state.
     pub const ZERO: StateID = StateID { value: 0 };
 
-    /// The state with this number.
+    /// Returns the state with this number.
     pub fn new(value: usize) -> StateID
         ensures { result ≡ value }
     {
         StateID { value }
     }
 
-    /// Its number.
+    /// Returns the number.
     pub fn as_usize(&self) -> usize
         ensures { result ≡ self.now }
     {
@@ -72,7 +72,7 @@ impl StateID {
     }
 }
 
-/// Any `usize` but the greatest one: a place, as slots keep it. Contracts see the number.
+/// A `usize` other than `usize::MAX`: an offset as slots store it. Contracts see the number.
 #[derive(Clone, Copy, Debug, PartialEq, Eq, PartialOrd, Ord, Hash)]
 pub struct NonMaxUsize {
     value: usize,
@@ -89,7 +89,7 @@ impl Model for NonMaxUsize {
 }
 
 impl NonMaxUsize {
-    /// The same number, and `None` for the greatest `usize`.
+    /// Returns the number, or `None` for `usize::MAX`.
     pub fn new(value: usize) -> Option<NonMaxUsize>
         ensures { SomeIff result (value + 1 < 2 ^ 64) value }
     {
@@ -100,7 +100,7 @@ impl NonMaxUsize {
         }
     }
 
-    /// The number.
+    /// Returns the number.
     pub fn get(self) -> usize
         ensures value { result ≡ self }
         ensures bound { result + 1 < 2 ^ 64 }

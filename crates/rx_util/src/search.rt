@@ -1,4 +1,4 @@
-//! What a search is asked for, what it finds, and why it may give up.
+//! Spans, matches, the settings of a search, and its errors.
 
 ghost use Rattle.std.specs.Prelude.{◌≡◌, ◌-◌, ◌<◌, ◌≤◌, ◌↔◌, Option, Some, None, IsTrue};
 ghost use Rattle.rx_util.specs.declared.search.MatchError.TheVariants.{Memory};
@@ -9,17 +9,17 @@ use std::marker::Model;
 use std::ops::Range;
 use thiserror::Error;
 
-/// A part of a content, from the byte index `start` up to the byte index `end`.
+/// A part of a haystack, from the byte offset `start` to the byte offset `end`, exclusive.
 #[derive(Clone, Copy, Debug, PartialEq, Eq, Hash)]
 pub struct Span {
-    /// The byte index at which it starts.
+    /// The byte offset of the start.
     pub start: usize,
-    /// The byte index at which it ends, which is past its last byte.
+    /// The byte offset of the end, exclusive.
     pub end: usize,
 }
 
 impl Span {
-    /// The same part as a range.
+    /// Returns the span as a range.
     pub fn range(&self) -> Range<usize>
         ensures start { result.start ≡ self.now.start }
         ensures end { result.end ≡ self.now.end }
@@ -27,14 +27,14 @@ impl Span {
         self.start..self.end
     }
 
-    /// How many bytes it has: none where it ends before it starts.
+    /// Returns the number of bytes, 0 if the span ends before it starts.
     pub fn len(&self) -> usize
         ensures { result ≡ self.now.end - self.now.start }
     {
         self.end.saturating_sub(self.start)
     }
 
-    /// Whether it has no byte.
+    /// Returns whether the span has no bytes.
     pub fn is_empty(&self) -> bool
         ensures { IsTrue result ↔ (self.now.end ≤ self.now.start) }
     {
@@ -61,7 +61,7 @@ impl From<Span> for Range<usize> {
     }
 }
 
-/// A match: the pattern that matches, and where. It doesn't end before it starts.
+/// A match: the pattern, and its span, which doesn't end before it starts.
 #[derive(Clone, Copy, Debug, PartialEq, Eq, Hash)]
 pub struct Match {
     pattern: PatternID,
@@ -82,7 +82,11 @@ impl Model for Match {
 }
 
 impl Match {
-    /// The match of a pattern in a span, which must not end before it starts.
+    /// Returns a match of a pattern.
+    ///
+    /// # Requires
+    ///
+    /// `span.start <= span.end`.
     pub fn new(pattern: PatternID, span: Span) -> Match
         requires ordered { span.start ≤ span.end }
         ensures pattern { result.pattern ≡ pattern }
@@ -91,14 +95,14 @@ impl Match {
         Match { pattern, span }
     }
 
-    /// The pattern that matches.
+    /// Returns the pattern that matched.
     pub fn pattern(&self) -> PatternID
         ensures { result ≡ self.now.pattern }
     {
         self.pattern
     }
 
-    /// Where the match lies.
+    /// Returns the span of the match.
     pub fn span(&self) -> Span
         ensures span { result ≡ self.now.span }
         ensures ordered { result.start ≤ result.end }
@@ -106,7 +110,7 @@ impl Match {
         self.span
     }
 
-    /// The byte index at which the match starts.
+    /// Returns the byte offset at which the match starts.
     pub fn start(&self) -> usize
         ensures start { result ≡ self.now.span.start }
         ensures ordered { result ≤ self.now.span.end }
@@ -114,7 +118,7 @@ impl Match {
         self.span.start
     }
 
-    /// The byte index at which the match ends.
+    /// Returns the byte offset at which the match ends.
     pub fn end(&self) -> usize
         ensures end { result ≡ self.now.span.end }
         ensures ordered { self.now.span.start ≤ result }
@@ -122,7 +126,7 @@ impl Match {
         self.span.end
     }
 
-    /// Where the match lies, as a range.
+    /// Returns the span of the match as a range.
     pub fn range(&self) -> Range<usize>
         ensures start { result.start ≡ self.now.span.start }
         ensures end { result.end ≡ self.now.span.end }
@@ -131,14 +135,14 @@ impl Match {
         self.span.range()
     }
 
-    /// How many bytes the match has.
+    /// Returns the number of bytes of the match.
     pub fn len(&self) -> usize
         ensures { result ≡ self.now.span.end - self.now.span.start }
     {
         self.span.len()
     }
 
-    /// Whether the match has no byte.
+    /// Returns whether the match is empty.
     pub fn is_empty(&self) -> bool
         ensures { IsTrue result ↔ (self.now.span.start ≡ self.now.span.end) }
     {
@@ -146,8 +150,7 @@ impl Match {
     }
 }
 
-/// The pattern that matches, and one end of the match: the end, or where a search goes backwards,
-/// the start.
+/// The pattern that matched, and one end of the match: its end, or its start for a reverse search.
 #[derive(Clone, Copy, Debug, PartialEq, Eq, Hash)]
 pub struct HalfMatch {
     pattern: PatternID,
@@ -165,7 +168,7 @@ impl Model for HalfMatch {
 }
 
 impl HalfMatch {
-    /// One end of a match of a pattern.
+    /// Returns one end of a match of a pattern.
     pub fn new(pattern: PatternID, offset: usize) -> HalfMatch
         ensures pattern { result.pattern ≡ pattern }
         ensures offset { result.offset ≡ offset }
@@ -173,14 +176,14 @@ impl HalfMatch {
         HalfMatch { pattern, offset }
     }
 
-    /// The pattern that matches.
+    /// Returns the pattern that matched.
     pub fn pattern(&self) -> PatternID
         ensures { result ≡ self.now.pattern }
     {
         self.pattern
     }
 
-    /// The byte index of that end.
+    /// Returns the byte offset of that end.
     pub fn offset(&self) -> usize
         ensures { result ≡ self.now.offset }
     {
@@ -188,14 +191,14 @@ impl HalfMatch {
     }
 }
 
-/// Where in its span a match may start, and of which patterns.
+/// Where in the span a match may start, and which patterns may match.
 #[derive(Clone, Copy, Debug, PartialEq, Eq, Hash)]
 pub enum Anchored {
-    /// Anywhere, and of any pattern.
+    /// Anywhere, any pattern.
     No,
-    /// At the start of the span alone, and of any pattern.
+    /// Only at the start of the span, any pattern.
     Yes,
-    /// At the start of the span alone, and of this pattern. A pattern that isn't there matches
+    /// Only at the start of the span, only this pattern. A pattern that doesn't exist matches
     /// nowhere.
     Pattern(PatternID),
 }
@@ -203,7 +206,7 @@ pub enum Anchored {
 impl Anchored {
     ghost use Rattle.rx_util.specs.Anchoring.{is_anchored, pattern_of};
 
-    /// Whether a match may start at the start of the span alone.
+    /// Returns whether a match may only start at the start of the span.
     pub fn is_anchored(&self) -> bool
         ensures { result ≡ is_anchored self.now }
     {
@@ -213,7 +216,7 @@ impl Anchored {
         }
     }
 
-    /// The one pattern that may match, if there is one.
+    /// Returns the pattern if only one may match.
     pub fn pattern(&self) -> Option<PatternID>
         ensures { result ≡ pattern_of self.now }
     {
@@ -224,13 +227,13 @@ impl Anchored {
     }
 }
 
-/// Which of all matches a search finds.
+/// Which of all matches a search reports.
 #[derive(Clone, Copy, Debug, PartialEq, Eq, Hash)]
 pub enum MatchKind {
     /// The leftmost one, and of those that start there the one that the pattern prefers.
     LeftmostFirst,
-    /// Of all matches one with the greatest end: of these one with the least start, and of these the
-    /// one of the first pattern.
+    /// One with the greatest end, of these one with the least start, and of these the one of the
+    /// first pattern.
     All,
 }
 
@@ -242,30 +245,30 @@ impl Default for MatchKind {
     }
 }
 
-/// Why a search, or what is made for one, has no answer.
+/// Why a search, or building something for one, failed.
 #[derive(Clone, Copy, Debug, PartialEq, Eq, Hash, Error)]
 pub enum MatchError {
-    /// There is a byte in the content with which the engine can't go on.
+    /// The haystack has a byte at which the engine must stop.
     #[error("the search met the byte {byte} at {offset}, and can't go on")]
     Quit {
         /// The byte.
         byte: u8,
-        /// Its byte index.
+        /// Its offset.
         offset: usize,
     },
-    /// The engine gave up: another one may search.
+    /// The engine gave up; another one may search.
     #[error("the search gave up at {offset}")]
     GaveUp {
-        /// The byte index that the engine had come to.
+        /// The byte offset that the engine had reached.
         offset: usize,
     },
-    /// The engine doesn't search so anchored.
+    /// The engine doesn't support this kind of anchored search.
     #[error("the search doesn't support this anchoring")]
     UnsupportedAnchored {
-        /// What was asked for.
+        /// The requested kind.
         mode: Anchored,
     },
-    /// There was no memory.
+    /// Out of memory.
     #[error("there was no memory for the search")]
     Memory,
 }

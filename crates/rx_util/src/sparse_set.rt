@@ -1,4 +1,4 @@
-//! Sets of states that are emptied at once and keep the order of insertion.
+//! Sets of states that are cleared in `O(1)` and keep the order of insertion.
 
 ghost use Rattle.std.specs.Prelude.{◌≡◌, ◌<◌, ◌↔◌, [], ◌∷◌, ◌++◌, length, Contains, IsTrue, IfOk, OnOk, IfErr, if◌then◌else◌};
 ghost use Rattle.rx_util.specs.declared.search.MatchError.{MatchError};
@@ -11,16 +11,26 @@ use std::iter::FusedIterator;
 use std::marker::Model;
 use std::mem::size_of;
 
-/// A set of states below a capacity, which keeps the order of insertion. Contracts see the capacity
-/// and the members as a list without repeats in that order.
+/// A set of states below a capacity, in order of insertion. Contracts see the capacity and the list
+/// of members, which has no repeats.
 ///
-/// To insert, to look up and to empty the set takes `O(1)` and no memory. It keeps its allocator.
+/// Inserting, testing and clearing take `O(1)` and don't allocate. The set keeps its allocator.
+///
+/// # Examples
+///
+/// ```rust
+/// let mut set = SparseSet::new(rt.alloc(), 4)?;
+/// assert!(rt; set.capacity() == 4);
+/// assert!(rt; set.is_empty());
+/// assert!(rt; set.insert(StateID::new(3)));
+/// assert!(rt; set.insert(StateID::new(1)));
+/// assert!(rt; !set.insert(StateID::new(3)));
+/// ```
 #[derive(Debug, Drop)]
 pub struct SparseSet {
-    // The members, in order of insertion, are its first `len`; what stands after them has no
-    // meaning.
+    // The first `len` are the members, in order of insertion; the rest has no meaning.
     dense: Vec<StateID>,
-    // By state, where it stands in `dense` if it is a member; else any number.
+    // By state, its index in `dense` if it is a member, else any number.
     sparse: Vec<usize>,
     len: usize,
 }
@@ -40,8 +50,11 @@ impl Model for SparseSet {
 }
 
 impl SparseSet {
-    /// The empty set, with room for the states below `capacity`. The one refusal is `Memory`.
-    /// `O(n)` in the capacity.
+    /// Returns an empty set for the states below `capacity`. `O(n)` in the capacity.
+    ///
+    /// # Errors
+    ///
+    /// `Memory`.
     pub fn new(alloc: Global, capacity: usize) -> Result<SparseSet, MatchError>
         ensures made { IfOk result (λ set. (set.capacity ≡ capacity) × (set.members ≡ [])) }
         ensures refused { IfErr result (λ error. error ≡ MatchError.Memory) }
@@ -55,8 +68,11 @@ impl SparseSet {
         Ok(set)
     }
 
-    /// Empties the set, and gives it another capacity. The one refusal is `Memory`, and the set
-    /// then stays as it was. `O(n)` in what the capacity grows by.
+    /// Clears the set and changes its capacity. `O(n)` in the growth of the capacity.
+    ///
+    /// # Errors
+    ///
+    /// `Memory`, which leaves the set unchanged.
     pub fn resize(&mut self, new_capacity: usize) -> Result<(), MatchError>
         ensures capacity { OnOk result (self.new.capacity ≡ new_capacity) }
         ensures members { OnOk result (self.new.members ≡ []) }
@@ -71,14 +87,14 @@ impl SparseSet {
         Ok(())
     }
 
-    /// How many states there is room for: the states below it may be members. `O(1)`.
+    /// Returns the capacity: the states below it may be members. `O(1)`.
     pub fn capacity(&self) -> usize
         ensures { result ≡ self.now.capacity }
     {
         self.sparse.len()
     }
 
-    /// How many members there are. `O(1)`.
+    /// Returns the number of members. `O(1)`.
     pub fn len(&self) -> usize
         ensures len { result ≡ length self.now.members }
         ensures set { IsSetBelow self.now.capacity self.now.members }
@@ -86,15 +102,18 @@ impl SparseSet {
         self.len
     }
 
-    /// Whether there is no member. `O(1)`.
+    /// Returns whether the set is empty. `O(1)`.
     pub fn is_empty(&self) -> bool
         ensures { IsTrue result ↔ (self.now.members ≡ []) }
     {
         self.len == 0
     }
 
-    /// Adds a state as the last member, if it is none yet, and tells whether it was none. The
-    /// state is below the capacity. `O(1)`.
+    /// Inserts a state, and returns whether it was not a member before. `O(1)`.
+    ///
+    /// # Requires
+    ///
+    /// `id` is below the capacity.
     pub fn insert(&mut self, id: StateID) -> bool
         requires in_range { id < self.old.capacity }
         ensures added { IsTrue result ↔ (Contains self.old.members id → ⊥) }
@@ -111,7 +130,11 @@ impl SparseSet {
         true
     }
 
-    /// Whether a state is a member. The state is below the capacity. `O(1)`.
+    /// Returns whether a state is a member. `O(1)`.
+    ///
+    /// # Requires
+    ///
+    /// `id` is below the capacity.
     pub fn contains(&self, id: StateID) -> bool
         requires in_range { id < self.now.capacity }
         ensures { IsTrue result ↔ Contains self.now.members id }
@@ -120,7 +143,7 @@ impl SparseSet {
         index < self.len && self.dense[index] == id
     }
 
-    /// Empties the set, whose capacity stays. `O(1)`.
+    /// Clears the set and keeps its capacity. `O(1)`.
     pub fn clear(&mut self)
         ensures members { self.new.members ≡ [] }
         ensures capacity { self.new.capacity ≡ self.old.capacity }
@@ -128,7 +151,7 @@ impl SparseSet {
         self.len = 0;
     }
 
-    /// The members, in order of insertion.
+    /// Returns an iterator over the members, in order of insertion.
     pub fn iter(&self) -> SparseSetIter<'_>
         ensures { result ≡ self.now.members }
     {
@@ -137,13 +160,17 @@ impl SparseSet {
         }
     }
 
-    /// About how many bytes its lists take: a count that no contract fixes.
+    /// Returns the approximate number of bytes of the set's lists. No contract fixes it.
     pub fn memory_usage(&self) -> usize {
         self.capacity().saturating_mul(2 * size_of::<usize>())
     }
 
-    /// A set with the same capacity and the same members in the same order. The one refusal is
-    /// `Memory`. `O(n)` in the capacity.
+    /// Returns a copy with the same capacity and the same members in the same order. `O(n)` in the
+    /// capacity.
+    ///
+    /// # Errors
+    ///
+    /// `Memory`.
     pub fn clone(&self) -> Result<SparseSet, MatchError>
         ensures same { IfOk result (λ set. set ≡ self.now) }
         ensures refused { IfErr result (λ error. error ≡ MatchError.Memory) }
@@ -158,7 +185,7 @@ impl SparseSet {
     }
 }
 
-/// The members of a set in order of insertion. Contracts see those that are left.
+/// An iterator over the members of a set, in order of insertion. Contracts see the remaining ones.
 #[derive(Debug, Drop)]
 pub struct SparseSetIter<'a> {
     rest: &'a [StateID],

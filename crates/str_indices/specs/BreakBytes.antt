@@ -1,4 +1,4 @@
--- The numbers of the bytes of a text, where each break counts at its last byte.
+-- The weights of the bytes of a text if each break counts at its last byte.
 use Rattle.std.proofs.Common.{inl, inr, ◌≡◌, ℕ, ◌+◌, ◌/◌, ◌%◌, ◌<◌, ◌≤◌, Bool, false, List, [], ◌∷◌, cond, refl, ap, ◌∙◌, arith}
 use Rattle.std.specs.Prelude.{encode_utf8_all}
 use Rattle.std.proofs.lemmas.Bool.{cases_lt}
@@ -51,7 +51,7 @@ ends_break_same is_break c cs = rw (starts_with_lf-encodes cs) refl
 abbrev break_count : (ℕ → Bool) → ℕ → List ℕ → ℕ
 break_count is_break c rest = cond (ends_break is_break c rest) 1 0
 
--- whatever stands before the text
+-- for any two bytes before the text
 tested_weights_of_text : (is_break : ℕ → Bool) (test : ℕ → ℕ → ℕ → List ℕ → Bool) (b2 b1 : ℕ) (text : List ℕ) → FindsBreaks is_break test
     → tested_weights test b2 b1 (encode_utf8_all text) ≡ at_last_bytes (break_count is_break) text
 tested_weights_of_text is_break test b2 b1 [] k = refl

@@ -1,8 +1,9 @@
--- What the bytes of a text count for: one number for each byte. The loops over bytes are stated by these, and the public functions by the words of Text.
+-- The weights of the bytes of a text. Contracts of loops over bytes use these; contracts of public
+-- functions use the words of Text.
 use Rattle.std.specs.Prelude.{ℕ, ◌+◌, ◌<◌, ◌≤◌, Bool, not, ◌&&◌, ◌||◌, if◌then◌else◌, List, [], ◌∷◌, length, map, sum, take, drop, slice_index, nat_le, nat_lt, ◌==◌}
 use Rattle.str_indices.specs.Text.{starts_with_lf}
 
--- the first byte of a character: no continuation byte
+-- the first byte of a character, which is no continuation byte
 abbrev pub is_lead : ℕ → Bool
 is_lead b = nat_lt b 0x80 || nat_le 0xC0 b
 
@@ -10,28 +11,30 @@ is_lead b = nat_lt b 0x80 || nat_le 0xC0 b
 abbrev pub is_lead_of_four : ℕ → Bool
 is_lead_of_four b = nat_le 0xF0 b
 
--- each character counts at its first byte
+-- each character counts once, at its first byte
 abbrev pub char_weights : List ℕ → List ℕ
 char_weights bytes = map (λ b. if is_lead b then 1 else 0) bytes
 
--- each character of two units counts at its first byte
+-- each character of two code units counts once, at its first byte
 abbrev pub pair_weights : List ℕ → List ℕ
 pair_weights bytes = map (λ b. if is_lead_of_four b then 1 else 0) bytes
 
--- each character counts its units at its first byte
+-- each character counts its code units, at its first byte
 abbrev pub unit_weights : List ℕ → List ℕ
 unit_weights bytes = map (λ b. (if is_lead b then 1 else 0) + (if is_lead_of_four b then 1 else 0)) bytes
 
--- a byte that is tested with the two bytes before it and what follows it
+-- a byte counts if it passes a test, given the two bytes before it and the bytes after it
 abbrev pub tested_weights : (ℕ → ℕ → ℕ → List ℕ → Bool) → ℕ → ℕ → List ℕ → List ℕ
 tested_weights test b2 b1 [] = []
 tested_weights test b2 b1 (b ∷ bs) = (if test b2 b1 b bs then 1 else 0) ∷ tested_weights test b1 b bs
 
--- a test of the byte at a place, with the two bytes before it, each 0 where there is none, and what follows it
+-- a test of the byte at an offset, given the two bytes before it, each 0 if there is none, and the
+-- bytes after it
 abbrev pub passes_at : (ℕ → ℕ → ℕ → List ℕ → Bool) → List ℕ → ℕ → Bool
 passes_at test bytes at = test (slice_index (0 ∷ 0 ∷ bytes) at) (slice_index (0 ∷ bytes) at) (slice_index bytes at) (drop (at + 1) bytes)
 
--- the last byte of a break: of one byte and not a CR before an LF; of U+0085, which is C2 85; of U+2028 or U+2029, which are E2 80 A8 and E2 80 A9
+-- the last byte of a break: of one byte, except a CR before an LF; of U+0085, which is C2 85; of
+-- U+2028 or U+2029, which are E2 80 A8 and E2 80 A9
 abbrev pub ends_ascii_line : ℕ → Bool → Bool
 ends_ascii_line b before_lf = (nat_le 10 b && nat_le b 13) && not ((b == 13) && before_lf)
 
@@ -64,7 +67,7 @@ crlf_line_weights bytes = tested_weights ends_crlf_line 0 0 bytes
 abbrev pub lf_line_weights : List ℕ → List ℕ
 lf_line_weights bytes = tested_weights ends_lf_line 0 0 bytes
 
--- the first byte with which the weights add up to more than k, or the length
+-- the first byte with which the sum of the weights exceeds k, or the length
 pub record IsFirstPast (weights : List ℕ) (k at : ℕ) : Type 0 where
   pub within : at ≤ length weights
   pub before : sum (take at weights) ≤ k

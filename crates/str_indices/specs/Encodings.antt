@@ -1,4 +1,4 @@
--- The bytes of one character, in the four lengths.
+-- The UTF-8 of one character, in its four lengths.
 use Rattle.std.proofs.Common.{◌≡◌, ℕ, ◌+◌, ◌/◌, ◌%◌, ◌<◌, ◌≤◌, [], ◌∷◌, refl, arith}
 use Rattle.std.specs.Char.{encode_utf8, len_utf8}
 use Rattle.std.proofs.lemmas.Bool.{lt-ltb, le-ltb}

@@ -1,4 +1,4 @@
--- The numbers of the bytes of a text, where each character counts at its first byte.
+-- The weights of the bytes of a text if each character counts at its first byte.
 use Rattle.std.proofs.Common.{inl, inr, ◌≡◌, ℕ, ◌+◌, ◌/◌, ◌%◌, ◌<◌, ◌≤◌, List, [], ◌∷◌, ◌++◌, map, cond, nat_le, refl, ap, ◌∙◌, arith}
 use Rattle.std.specs.Char.{encode_utf8, len_utf8}
 use Rattle.std.specs.Prelude.{encode_utf8_all}
@@ -12,7 +12,7 @@ use Rattle.str_indices.specs.Encodings.{encode_two, encode_three, encode_four, l
 use Rattle.str_indices.specs.Weights.{map_len}
 use Rattle.str_indices.specs.FirstAndLastBytes.{CountsFirstBytes, at_first_bytes, first_block}
 
--- f is w of the character at its first byte, and 0 at the others
+-- the weight w of a character is f of its first byte, and f of its others is 0
 record CountsFirst (f : ℕ → ℕ) (w : ℕ → ℕ) : Type 0 where
   one : (c : ℕ) → c < 128 → f c ≡ w c
   two : (c : ℕ) → 128 ≤ c → c < 2048 → f (192 + c / 64) ≡ w c

@@ -1,4 +1,4 @@
--- The numbers of a text's bytes: there is one for each byte, and none is above 2.
+-- The weights of a text's bytes: one for each byte, each at most 2.
 use Rattle.std.proofs.Common.{◌≡◌, ℕ, zero, suc, ◌+◌, ◌*◌, ◌≤◌, Bool, List, [], ◌∷◌, length, map, take, sum, get_or, cond, refl, ap, arith}
 use Rattle.std.proofs.lemmas.List.Sums.{sum_by-cons}
 use Rattle.std.proofs.lemmas.Bool.{cond_both}
@@ -34,7 +34,7 @@ tested_small test b2 b1 [] at = omega arith
 tested_small test b2 b1 (b ∷ bs) zero = omega (arith, bit_small (test b2 b1 b bs))
 tested_small test b2 b1 (b ∷ bs) (suc at) = tested_small test b1 b bs at
 
--- sums of numbers that are 2 at most
+-- sums of weights of at most 2
 sum_small : (ws : List ℕ) → ((at : ℕ) → get_or ws at 0 ≤ 2) → (n : ℕ) → sum (take n ws) ≤ 2 * n
 sum_small ws h zero = omega arith
 sum_small [] h (suc n) = omega arith

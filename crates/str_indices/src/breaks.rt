@@ -1,4 +1,4 @@
-//! Line breaks, which count at their last byte.
+//! Measures of line breaks, which count at their last byte.
 
 ghost use Rattle.std.specs.Prelude.{refl, ◌≡◌, ◌+◌, ◌<◌, ◌&&◌, ◌||◌, not, ◌==◌, ◌∷◌, length, drop, slice_index};
 ghost use Rattle.str_indices.specs.Text.{starts_with_lf, is_line_break, is_crlf_break, is_lf_break};
@@ -15,7 +15,7 @@ const LF: u8 = 0x0A;
 
 const CR: u8 = 0x0D;
 
-/// The byte before the one at `at`, and 0 before the first.
+/// Returns the byte before the one at `at`, or 0 before the first.
 fn byte_before(bytes: &[u8], at: usize) -> u8
     requires { at < length bytes.now }
     ensures { result ≡ slice_index (0 ∷ bytes.now) at }
@@ -23,7 +23,7 @@ fn byte_before(bytes: &[u8], at: usize) -> u8
     if at == 0 { 0 } else { bytes[at - 1] }
 }
 
-/// The second byte before the one at `at`, and 0 before the first.
+/// Returns the second byte before the one at `at`, or 0 if there is none.
 fn second_byte_before(bytes: &[u8], at: usize) -> u8
     requires { at < length bytes.now }
     ensures { result ≡ slice_index (0 ∷ 0 ∷ bytes.now) at }
@@ -38,7 +38,7 @@ fn is_before_lf(bytes: &[u8], at: usize) -> bool
     at + 1 < bytes.len() && bytes[at + 1] == LF
 }
 
-/// Whether a byte is the LF of a CR LF.
+/// Returns whether a byte is the LF of a CR LF.
 pub(crate) fn ends_cr_lf(bytes: &[u8], at: usize) -> bool
     requires { at < length bytes.now }
     ensures { result ≡ is_cr_lf_end bytes.now at }
@@ -46,7 +46,7 @@ pub(crate) fn ends_cr_lf(bytes: &[u8], at: usize) -> bool
     bytes[at] == LF && byte_before(bytes, at) == CR
 }
 
-/// Whether a byte is the last of a line break.
+/// Returns whether a byte is the last of a Unicode line break.
 #[tactic(auto, using(std::proofs::lemmas::Bool::Decides::nat_tests))]
 fn ends_line(bytes: &[u8], at: usize) -> bool
     requires { at < length bytes.now }
@@ -90,7 +90,7 @@ fn three_byte_breaks<C: ByteChunk>(chunk: C, before: C, second_before: C) -> C
     chunk.bytes_between(0xA8, 0xA9).bitand(lead)
 }
 
-/// Each break of Unicode's mandatory ones counts once.
+/// Counts each of Unicode's mandatory breaks once.
 pub(crate) struct LineBreaks;
 
 impl Measure for LineBreaks {
@@ -138,7 +138,7 @@ fn crlf_breaks<C: ByteChunk>(chunk: C, next: C) -> C
     chunk.cmp_eq_byte(LF).add(cr.sub(split))
 }
 
-/// Whether a byte is the last of an LF, a CR or a CR LF.
+/// Returns whether a byte is the last of an LF, a CR or a CR LF.
 fn ends_crlf_line(bytes: &[u8], at: usize) -> bool
     requires { at < length bytes.now }
     ensures { result ≡ passes_at ends_crlf_line bytes.now at }
@@ -146,7 +146,7 @@ fn ends_crlf_line(bytes: &[u8], at: usize) -> bool
     bytes[at] == LF || (bytes[at] == CR && !is_before_lf(bytes, at))
 }
 
-/// Each LF, CR and CR LF counts once.
+/// Counts each LF, CR and CR LF once.
 pub(crate) struct CrlfBreaks;
 
 impl Measure for CrlfBreaks {
@@ -185,7 +185,7 @@ impl BreakMeasure for CrlfBreaks {
     ghost lf_beside_cr = { λ _. refl };
 }
 
-/// Each LF counts once.
+/// Counts each LF once.
 pub(crate) struct LfBreaks;
 
 impl Measure for LfBreaks {

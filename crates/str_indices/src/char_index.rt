@@ -1,4 +1,4 @@
-//! Characters of a text that count once or more, each at its first byte.
+//! Counts and indices of characters, each counted once or more at its first byte.
 
 ghost use Rattle.std.specs.Prelude.{◌≡◌, ◌+◌, ◌≤◌, min, length, slice_index_or};
 ghost use Rattle.std.specs.Str.{chars};

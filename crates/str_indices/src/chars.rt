@@ -1,8 +1,8 @@
-//! Characters, which are Unicode scalar values, as the Rust crate `str_indices` counts them: its
-//! `chars::count`, `from_byte_idx` and `to_byte_idx`.
+//! Characters, which are Unicode scalar values, like the module `chars` of the Rust crate
+//! `str_indices`.
 //!
-//! Each call takes `O(n)` for a text of n bytes, by 64 bytes at a time, and no memory. Every index
-//! has an answer.
+//! Each call takes `O(n)` for n bytes, up to 64 bytes at a time, and allocates nothing. Every index
+//! has a result.
 
 ghost use Rattle.std.specs.Prelude.{◌≡◌, ◌+◌, ◌≤◌, min, length};
 ghost use Rattle.std.specs.Str.{chars};
@@ -13,27 +13,26 @@ use crate::char_index;
 use crate::leads::CharStarts;
 use counters::Counter;
 
-/// How many characters a text has. `O(n)`.
+/// Returns the number of characters. `O(n)`.
 pub fn count(text: &str) -> usize
     ensures { result ≡ length (chars text.now) }
 {
     char_index::count::<CharStarts>(text)
 }
 
-/// The characters before a byte index: how many end at or before it. `O(byte_idx)`.
+/// Returns the character index of a byte index: the number of characters that end at or before it.
+/// `O(byte_idx)`.
 ///
-/// A byte inside a character answers the index of that character. An index past the text's length
-/// acts as the length.
+/// Inside a character this is the index of that character. An index past the text's length acts as
+/// the length.
 pub fn from_byte_idx(text: &str, byte_idx: usize) -> usize
     ensures { result ≡ ends_up_to byte_idx (char_ends (chars text.now)) }
 {
     char_index::from_byte_idx::<CharStarts>(text, byte_idx)
 }
 
-/// The byte index at which a character starts, characters counted from 0. `O(n)`, up to that
-/// character.
-///
-/// An index past the last character answers the text's length.
+/// Returns the byte index of the start of a character, or the text's length past the last one.
+/// `O(n)`, up to that character.
 pub fn to_byte_idx(text: &str, char_idx: usize) -> usize
     ensures { result ≡ end_place (char_ends (chars text.now)) char_idx
         (length text.now) }
@@ -41,8 +40,8 @@ pub fn to_byte_idx(text: &str, char_idx: usize) -> usize
     char_index::to_byte_idx::<CharStarts>(text, char_idx)
 }
 
-/// `count` by chunks of any type, with at least the first `leading` bytes one by one. `turns`
-/// counts the turns of loops that look at one byte.
+/// `count` over chunks of any type; at least the first `leading` bytes are counted one by one.
+/// `turns` counts the iterations over single bytes.
 pub fn count_impl<C: ByteChunk>(text: &str, leading: usize, turns: &mut Counter) -> usize
     ensures count { result ≡ length (chars text.now) }
     ensures one_by_one { turns.old + min leading (length text.now) ≤ turns.new }
@@ -51,8 +50,8 @@ pub fn count_impl<C: ByteChunk>(text: &str, leading: usize, turns: &mut Counter)
     char_index::count_impl::<CharStarts, C>(text, leading, turns)
 }
 
-/// `to_byte_idx` by chunks of any type, with at least the first `leading` bytes one by one. `turns`
-/// counts the turns of loops that look at one byte.
+/// `to_byte_idx` over chunks of any type; at least the first `leading` bytes are scanned one by
+/// one. `turns` counts the iterations over single bytes.
 pub fn to_byte_idx_impl<C: ByteChunk>(
     text: &str,
     char_idx: usize,

@@ -1,13 +1,13 @@
-//! Laws of the definitions that the contracts of this crate cite. Each function does nothing: its
-//! contract is the law, which holds of every text.
+//! Laws of the definitions that this crate's contracts cite. Each function does nothing: its
+//! contract is the law, for every text.
 
 ghost use Rattle.std.specs.Prelude.{ℕ, Bool, length};
 ghost use Rattle.str_indices.specs.Text.{NoCrLfBetween, is_line_break, is_crlf_break, is_lf_break, breaks, break_ends, char_ends, unit_ends, units, surrogate_pairs};
 ghost use Rattle.str_indices.specs.FirstBreak.{GoesOnBehindFirstBreak};
 ghost use Rattle.str_indices.specs.Laws.{JoinsEnds, JoinsBreaks, LosesBreakInCrLf, LosesNoBreak, AddsUp, UnitsAreCharsAndPairs, FewerBreaks, NoMoreThanBytes, RisesWithPlace, RisesWithIndex, UnitStartsRise, EndsAreBoundaries, UnitStartsAreBoundaries, ComesBack, SecondUnitComesBackToFirst, OtherUnitsComeBack, EndsAndPlacesAgree, LastEndIsBefore, LastUnitStartIsBefore, CharsAndBoundariesAgree, UnitsAndBoundariesAgree, CharsGoToLastBoundary, UnitsGoToLastBoundary, AnyTexts, EndsAddUp, PlacesAddUp, UnitStartsAddUp, EndsBehind};
 
-/// Breaks of two texts joined are the sum, less one exactly if the first ends in CR and the second
-/// starts with LF, in a scheme where CR is a break.
+/// Joining two texts adds up their line breaks. If CR is a break, and the first text ends in CR and
+/// the second starts with LF, that is one break less.
 pub fn breaks_of_joined_texts()
     ensures any { (is_break : ℕ → Bool) → JoinsBreaks is_break }
     ensures lines { LosesBreakInCrLf is_line_break }
@@ -15,30 +15,31 @@ pub fn breaks_of_joined_texts()
     ensures lines_lf { LosesNoBreak is_lf_break }
 {}
 
-/// Where no CR LF is cut between two texts, the break ends of both joined are those of the first,
-/// and those of the second past the first one's bytes.
+/// If no CR LF is split between two texts, the break ends of the joined text are those of the
+/// first, then those of the second moved by the first one's bytes.
 pub fn break_ends_of_joined_texts()
     ensures { (is_break : ℕ → Bool) → JoinsEnds is_break }
 {}
 
-/// Behind the first break of a text, its breaks are those of the rest.
+/// After the first line break of a text, its breaks are those of the rest.
 pub fn breaks_behind_the_first()
     ensures { (is_break : ℕ → Bool) → GoesOnBehindFirstBreak is_break }
 {}
 
-/// Characters, code units and surrogate pairs of two texts joined are the sums.
+/// Characters, code units and surrogate pairs of two joined texts add up.
 pub fn counts_of_joined_texts()
     ensures chars { AddsUp length }
     ensures units { AddsUp units }
     ensures surrogates { AddsUp surrogate_pairs }
 {}
 
-/// A text has as many code units as characters and surrogate pairs.
+/// The code units of a text are its characters plus its surrogate pairs.
 pub fn units_are_chars_and_pairs()
     ensures { UnitsAreCharsAndPairs }
 {}
 
-/// A break by LF is one by LF and CR, and such a break is one of Unicode's.
+/// A text has at most as many breaks by LF as by LF and CR, and at most as many of those as Unicode
+/// breaks.
 pub fn schemes_of_breaks()
     ensures lf { FewerBreaks is_lf_break is_crlf_break }
     ensures crlf { FewerBreaks is_crlf_break is_line_break }
@@ -51,29 +52,29 @@ pub fn counts_are_at_most_bytes()
     ensures lines { (is_break : ℕ → Bool) → NoMoreThanBytes (breaks is_break) }
 {}
 
-/// No `from_byte_idx` falls where its index rises.
+/// `from_byte_idx` is monotone.
 pub fn from_byte_idx_is_monotone()
     ensures chars { RisesWithPlace char_ends }
     ensures units { RisesWithPlace unit_ends }
     ensures lines { (is_break : ℕ → Bool) → RisesWithPlace (break_ends is_break) }
 {}
 
-/// No `to_byte_idx` falls where its index rises.
+/// `to_byte_idx` is monotone.
 pub fn to_byte_idx_is_monotone()
     ensures chars { RisesWithIndex char_ends }
     ensures units { UnitStartsRise }
     ensures lines { (is_break : ℕ → Bool) → RisesWithIndex (break_ends is_break) }
 {}
 
-/// Every `to_byte_idx` answers a character boundary.
+/// `to_byte_idx` returns a character boundary.
 pub fn to_byte_idx_is_a_boundary()
     ensures chars { EndsAreBoundaries char_ends }
     ensures units { UnitStartsAreBoundaries }
     ensures lines { (is_break : ℕ → Bool) → EndsAreBoundaries (break_ends is_break) }
 {}
 
-/// `from_byte_idx` of `to_byte_idx` is the smaller of the index and the count; at the second code
-/// unit of a surrogate pair it is one less.
+/// `from_byte_idx` of `to_byte_idx` is the smaller of the index and the count. For the second unit
+/// of a surrogate pair it is the index of the first.
 pub fn conversion_there_and_back()
     ensures chars { ComesBack char_ends }
     ensures lines { (is_break : ℕ → Bool) → ComesBack (break_ends is_break) }
@@ -81,21 +82,21 @@ pub fn conversion_there_and_back()
     ensures other_units { OtherUnitsComeBack }
 {}
 
-/// An end lies at or before a place exactly if so many ends do, for an index up to the count.
+/// For k up to the count, the k-th end is at or before an offset exactly if at least k ends are.
 pub fn ends_and_places_agree()
     ensures chars { EndsAndPlacesAgree char_ends }
     ensures lines { (is_break : ℕ → Bool) → EndsAndPlacesAgree (break_ends is_break) }
 {}
 
-/// A character boundary lies at or before `to_byte_idx` of an index exactly if `from_byte_idx` of
-/// it is no greater than the index.
+/// A character boundary is at or before `to_byte_idx` of an index exactly if `from_byte_idx` of the
+/// boundary is at most the index.
 pub fn boundaries_and_indices_agree()
     ensures chars { CharsAndBoundariesAgree }
     ensures units { UnitsAndBoundariesAgree }
 {}
 
-/// `to_byte_idx` of `from_byte_idx` lies at or before the place and the text's length. For
-/// characters and code units no boundary up to the place lies behind it.
+/// `to_byte_idx` of `from_byte_idx` is at most the offset and the text's length. For characters and
+/// code units it is the last boundary at or before the offset.
 pub fn place_there_and_back()
     ensures lines { (is_break : ℕ → Bool) → LastEndIsBefore (break_ends is_break) }
     ensures chars { LastEndIsBefore char_ends }
@@ -104,8 +105,8 @@ pub fn place_there_and_back()
     ensures nearest_unit { UnitsGoToLastBoundary }
 {}
 
-/// Ends up to a place in a part of a text are those before the part and those up to the place in
-/// it. For lines no CR LF may be cut at either side of the part.
+/// The ends up to an offset in a part of a text are those before the part plus those up to that
+/// offset in it. For lines, no CR LF may be split at either side of the part.
 pub fn ends_of_a_part()
     ensures chars { EndsAddUp AnyTexts length char_ends }
     ensures units { EndsAddUp AnyTexts units unit_ends }
@@ -113,8 +114,8 @@ pub fn ends_of_a_part()
         → EndsAddUp NoCrLfBetween (breaks is_break) (break_ends is_break) }
 {}
 
-/// The place of an end in a part of a text is its place in the part, past the bytes before the
-/// part. For lines no CR LF may be cut at either side of the part.
+/// The offset of an end in a part of a text is its offset in the part plus the bytes before the
+/// part. For lines, no CR LF may be split at either side of the part.
 pub fn places_of_a_part()
     ensures chars { PlacesAddUp AnyTexts length char_ends }
     ensures units { UnitStartsAddUp }
@@ -122,8 +123,8 @@ pub fn places_of_a_part()
         → PlacesAddUp NoCrLfBetween (breaks is_break) (break_ends is_break) }
 {}
 
-/// Ends up to a place behind a character boundary are those up to the boundary and those of the
-/// text that starts there. A CR LF that the boundary cuts ends behind it, as its LF alone does.
+/// The ends up to an offset after a character boundary are those up to the boundary plus those of
+/// the text from there on. A CR LF split by the boundary ends after it, as its LF alone does.
 pub fn ends_behind_a_boundary()
     ensures chars { EndsBehind char_ends }
     ensures units { EndsBehind unit_ends }

@@ -1,4 +1,4 @@
-//! Characters, which count at their first byte.
+//! Measures of characters, which count at their first byte.
 
 ghost use Rattle.std.specs.Prelude.{◌≡◌, if◌then◌else◌, nat_le};
 ghost use Rattle.str_indices.specs.Text.{units_of};
@@ -21,7 +21,7 @@ fn is_lead_of_four(byte: u8) -> bool
     byte >= 0xF0
 }
 
-/// Each character counts once.
+/// Counts each character once.
 pub(crate) struct CharStarts;
 
 impl Measure for CharStarts {
@@ -50,7 +50,7 @@ impl CharMeasure for CharStarts {
     ghost at_first_bytes = { chars_at_first_bytes };
 }
 
-/// Each character whose UTF-16 is a surrogate pair counts once, at its first byte.
+/// Counts each character of two UTF-16 code units once, at its first byte.
 pub(crate) struct SurrogatePairs;
 
 impl Measure for SurrogatePairs {
@@ -78,7 +78,7 @@ impl CharMeasure for SurrogatePairs {
     ghost at_first_bytes = { pairs_at_first_bytes };
 }
 
-/// Each character counts its UTF-16 code units, at its first byte.
+/// Counts the UTF-16 code units of each character, at its first byte.
 pub(crate) struct Utf16Units;
 
 impl Measure for Utf16Units {

@@ -1,5 +1,16 @@
-//! Counts over text and conversions between indices of bytes, characters, UTF-16 code units and
-//! lines, as the Rust crate `str_indices` has them.
+//! Counts over text, and conversions between indices of bytes, characters, UTF-16 code units and
+//! lines, like the Rust crate `str_indices`.
+//!
+//! # Examples
+//!
+//! ```rust
+//! let text = "one\r\ntwo🐸three";
+//! assert_eq!(rt; lines::count_breaks(text), 1);
+//! assert_eq!(rt; lines::to_byte_idx(text, 1), 5);
+//! assert_eq!(rt; lines::first_break(text), Some(3..5));
+//! assert_eq!(rt; chars::from_byte_idx(text, 8), 8);
+//! assert_eq!(rt; utf16::to_byte_idx(text, 9), 8);
+//! ```
 #![tactic(auto)]
 
 mod breaks;

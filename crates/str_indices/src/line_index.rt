@@ -1,4 +1,4 @@
-//! Breaks and lines of a text, for any set of breaks.
+//! Line breaks and lines of a text, for any set of break characters.
 
 ghost use Rattle.std.specs.Prelude.{◌≡◌, ◌+◌, ◌-◌, ◌<◌, ◌&&◌, if◌then◌else◌, ◌≤◌, ◌↔◌, min, length, IsNone, IfSome};
 ghost use Rattle.std.specs.Str.{chars};
@@ -36,7 +36,7 @@ pub(crate) fn to_byte_idx<M: BreakMeasure>(text: &str, line_idx: usize) -> usize
     if last < text.len() { last + 1 } else { last }
 }
 
-/// Where the break starts whose last character starts at a byte.
+/// Returns the start of a break, given the first byte of its last character.
 fn break_start<M: BreakMeasure>(bytes: &[u8], at: usize) -> usize
     requires { at < length bytes.now }
     ensures { result ≡ if M.is_break 13 && is_cr_lf_end bytes.now at then at - 1 else at }

@@ -1,8 +1,8 @@
-//! Lines by LF alone, as the Rust crate `str_indices` counts them. A CR before an LF is part of the
-//! line.
+//! Lines by LF alone, like the module `lines_lf` of the Rust crate `str_indices`. A CR before an LF
+//! is part of the line.
 //!
-//! Each call takes `O(n)` for a text of n bytes, by 64 bytes at a time, and no memory. Every index
-//! has an answer.
+//! Each call takes `O(n)` for n bytes, up to 64 bytes at a time, and allocates nothing. Every index
+//! has a result.
 
 ghost use Rattle.std.specs.Prelude.{◌≡◌, ◌+◌, ◌≤◌, ◌↔◌, min, length, IsNone, IfSome};
 ghost use Rattle.std.specs.Str.{chars};
@@ -15,15 +15,15 @@ use crate::line_index;
 use counters::Counter;
 use std::ops::Range;
 
-/// How many line breaks a text has: one less than its lines. `O(n)`.
+/// Returns the number of line breaks, one less than the number of lines. `O(n)`.
 pub fn count_breaks(text: &str) -> usize
     ensures { result ≡ breaks is_lf_break (chars text.now) }
 {
     line_index::count_breaks::<LfBreaks>(text)
 }
 
-/// The line, counted from 0, in which a byte index lies: the number of breaks that end at or before
-/// it. `O(byte_idx)`.
+/// Returns the line, counted from 0, of a byte index: the number of line breaks that end at or
+/// before it. `O(byte_idx)`.
 ///
 /// An index past the text's length acts as the length.
 pub fn from_byte_idx(text: &str, byte_idx: usize) -> usize
@@ -32,8 +32,8 @@ pub fn from_byte_idx(text: &str, byte_idx: usize) -> usize
     line_index::from_byte_idx::<LfBreaks>(text, byte_idx)
 }
 
-/// The byte index at which a line starts, lines counted from 0, and the text's length for a line
-/// past the last. `O(n)`, up to that line.
+/// Returns the byte index of the start of a line, counted from 0, or the text's length past the
+/// last line. `O(n)`, up to that line.
 pub fn to_byte_idx(text: &str, line_idx: usize) -> usize
     ensures { result ≡ end_place (break_ends is_lf_break (chars text.now)) line_idx
         (length text.now) }
@@ -41,12 +41,12 @@ pub fn to_byte_idx(text: &str, line_idx: usize) -> usize
     line_index::to_byte_idx::<LfBreaks>(text, line_idx)
 }
 
-/// The bytes of the first break: from where the first line's text ends to where the second line
-/// starts. `None` exactly where there is no break. `O(n)`, up to that break.
+/// Returns the byte range of the first line break, or `None` if there is none. `O(n)`, up to that
+/// break.
 ///
-/// Both ends are character boundaries, so a caller may cut the text there. The breaks of what
-/// follows are the other breaks of the text (`laws::breaks_behind_the_first`). This call is this
-/// crate's own.
+/// The range starts where the text of line 0 ends and ends where line 1 starts. Both ends are
+/// character boundaries. The breaks of the text after it are the text's other breaks
+/// (`laws::breaks_behind_the_first`). The Rust crate has no such call.
 pub fn first_break(text: &str) -> Option<Range<usize>>
     ensures none { IsNone result ↔ (breaks is_lf_break (chars text.now) ≡ 0) }
     ensures first { IfSome result (λ at. IsFirstBreak is_lf_break text.now at.start at.end) }
@@ -54,8 +54,8 @@ pub fn first_break(text: &str) -> Option<Range<usize>>
     line_index::first_break::<LfBreaks>(text)
 }
 
-/// `count_breaks` by chunks of any type, with at least the first `leading` bytes one by one.
-/// `turns` counts the turns of loops that look at one byte.
+/// `count_breaks` over chunks of any type; at least the first `leading` bytes are counted one by
+/// one. `turns` counts the iterations over single bytes.
 pub fn count_breaks_impl<C: ByteChunk>(text: &str, leading: usize, turns: &mut Counter) -> usize
     ensures count { result ≡ breaks is_lf_break (chars text.now) }
     ensures one_by_one { turns.old + min leading (length text.now) ≤ turns.new }
@@ -64,8 +64,8 @@ pub fn count_breaks_impl<C: ByteChunk>(text: &str, leading: usize, turns: &mut C
     line_index::count_breaks_impl::<LfBreaks, C>(text, leading, turns)
 }
 
-/// `to_byte_idx` by chunks of any type, with at least the first `leading` bytes one by one. `turns`
-/// counts the turns of loops that look at one byte.
+/// `to_byte_idx` over chunks of any type; at least the first `leading` bytes are scanned one by
+/// one. `turns` counts the iterations over single bytes.
 pub fn to_byte_idx_impl<C: ByteChunk>(
     text: &str,
     line_idx: usize,

@@ -1,4 +1,4 @@
-//! How often each byte of a text counts.
+//! Measures: how much each byte of a text counts.
 
 ghost use Rattle.std.specs.Prelude.{◌≡◌, ℕ, Bool, ◌+◌, ◌*◌, ◌<◌, ◌≤◌, if◌then◌else◌, true, List, length, take, sum, slice_index};
 ghost use Rattle.str_indices.specs.Text.{ends_break};
@@ -7,7 +7,7 @@ ghost use Rattle.str_indices.specs.Lanes.{HasLanes};
 
 use crate::byte_chunk::ByteChunk;
 
-/// A number for each byte of a text.
+/// Gives a weight to each byte of a text.
 pub(crate) trait Measure {
     ghost weights: { List ℕ → List ℕ };
 
@@ -15,8 +15,8 @@ pub(crate) trait Measure {
         requires { at < length bytes.now }
         ensures { result ≡ slice_index (weights bytes.now) at };
 
-    /// The numbers of as many bytes as a chunk has lanes. There are two bytes before them, and one
-    /// after them.
+    /// Returns the weights of one chunk of bytes from `at` on. Two bytes before it and one after it
+    /// must exist.
     fn chunk_weights<C: ByteChunk>(bytes: &[u8], at: usize) -> C
         requires before { 2 ≤ at }
         requires after { at + C.SIZE < length bytes.now }
@@ -32,7 +32,7 @@ pub(crate) trait Measure {
 
 /// A measure in which each character counts at its first byte.
 pub(crate) trait CharMeasure: Measure {
-    /// How often a character counts.
+    /// How much a character counts.
     ghost count: { ℕ → List ℕ → ℕ };
 
     ghost at_first_bytes: { CountsFirstBytes Self.weights count };
@@ -43,7 +43,7 @@ pub(crate) trait BreakMeasure: Measure {
     /// The set of break characters.
     ghost is_break: { ℕ → Bool };
 
-    /// Whether CR is of the set, so that CR LF is one break.
+    /// Returns whether the set contains CR, so that CR LF is one break.
     fn has_cr() -> bool
         ensures { result ≡ is_break 13 };
 

@@ -1,5 +1,5 @@
-//! Loops over the bytes of a text, for any measure: by chunks, and by single bytes before and after
-//! them.
+//! Loops over the bytes of a text, for any measure: over chunks, and over single bytes before and
+//! after them.
 
 ghost use Rattle.std.specs.Prelude.{◌≡◌, ◌⊎◌, ◌+◌, ◌-◌, ◌*◌, ◌<◌, ◌≤◌, min, length, sum, take};
 ghost use Rattle.std.specs.ControlFlow.{ForBreak, ForContinue};
@@ -10,11 +10,11 @@ use crate::measure::Measure;
 use counters::Counter;
 use std::ops::ControlFlow;
 
-/// How many bytes, or else one chunk, are summed at a time where a search may have to go back to
+/// The number of bytes, or else one chunk, that a search sums at a time. It may have to go back to
 /// the first of them.
 const SEARCH_ROUND: usize = 64;
 
-/// What the bytes from `from` to `end` count, one by one.
+/// Returns the weight of the bytes from `from` to `end`, counted one by one.
 fn count_bytes<M: Measure>(bytes: &[u8], from: usize, end: usize, turns: &mut Counter) -> usize
     requires order { from ≤ end }
     requires within { end ≤ length bytes.now }
@@ -30,7 +30,8 @@ fn count_bytes<M: Measure>(bytes: &[u8], from: usize, end: usize, turns: &mut Co
     count
 }
 
-/// What up to `limit` chunks from `from` on count, none past `last`, and the place after them.
+/// Returns the weight of up to `limit` chunks from `from` on, none past `last`, and the offset
+/// after them.
 #[inline(always)]
 fn sum_chunks<M: Measure, C: ByteChunk>(
     bytes: &[u8],
@@ -60,8 +61,8 @@ fn sum_chunks<M: Measure, C: ByteChunk>(
     (acc.sum_bytes(), at)
 }
 
-/// What the bytes from `from` on count by chunks, and the place after the last chunk: what is left
-/// before `end` is no longer than a chunk.
+/// Returns the weight of the chunks from `from` on, and the offset after the last one. At most a
+/// chunk is then left before `end`.
 #[inline(always)]
 fn count_chunks<M: Measure, C: ByteChunk>(bytes: &[u8], from: usize, end: usize) -> (usize, usize)
     requires before { min 2 end ≤ from }
@@ -84,8 +85,8 @@ fn count_chunks<M: Measure, C: ByteChunk>(bytes: &[u8], from: usize, end: usize)
     (count, at)
 }
 
-/// What the bytes before `end` count, with at least the first `leading` of them one by one, by wide
-/// chunks and then by others.
+/// Returns the weight of the bytes before `end`. At least the first `leading` are counted one by
+/// one, the others by wide chunks, then by small ones.
 #[inline(always)]
 pub(crate) fn count_before<M: Measure, W: ByteChunk, C: ByteChunk>(
     bytes: &[u8],
@@ -106,8 +107,8 @@ pub(crate) fn count_before<M: Measure, W: ByteChunk, C: ByteChunk>(
     head + wide + middle + tail
 }
 
-/// Goes on from `from`, before which the bytes count `count`, to the first byte with which they
-/// count more than `k`, or to `end`.
+/// Advances from `from`, where the weight so far is `count`, to the first byte with which it
+/// exceeds `k`, or to `end`. Returns the weight and the offset there.
 fn skip_bytes<M: Measure>(
     bytes: &[u8],
     k: usize,
@@ -139,8 +140,8 @@ fn skip_bytes<M: Measure>(
     (count, end)
 }
 
-/// Goes on from `from`, before which the bytes count `count`, by up to `limit` chunks at a time, as
-/// long as they count no more than `k`.
+/// Advances from `from`, where the weight so far is `count`, by up to `limit` chunks at a time
+/// while it doesn't exceed `k`. Returns the weight and the offset there.
 #[inline(always)]
 fn skip_chunks<M: Measure, C: ByteChunk>(
     bytes: &[u8],
@@ -176,8 +177,8 @@ fn skip_chunks<M: Measure, C: ByteChunk>(
     (count, at)
 }
 
-/// The first byte with which the bytes count more than `k`, or the length, with at least the first
-/// `leading` bytes one by one. It goes by wide chunks and then by others.
+/// Returns the first byte with which the weight exceeds `k`, or the length. At least the first
+/// `leading` bytes are scanned one by one, the others by wide chunks, then by small ones.
 #[inline(always)]
 pub(crate) fn find_past<M: Measure, W: ByteChunk, C: ByteChunk>(
     bytes: &[u8],
@@ -203,8 +204,8 @@ pub(crate) fn find_past<M: Measure, W: ByteChunk, C: ByteChunk>(
     at
 }
 
-/// Looks for a byte that counts, one by one from `from` to `end`: `Break` with the first such byte,
-/// or `Continue` with `end`.
+/// Searches the bytes from `from` to `end` one by one for one with a weight: `Break` with its
+/// offset, or `Continue` with `end`.
 fn search_bytes<M: Measure>(bytes: &[u8], from: usize, end: usize) -> ControlFlow<usize, usize>
     requires order { from ≤ end }
     requires within { end ≤ length bytes.now }
@@ -221,8 +222,8 @@ fn search_bytes<M: Measure>(bytes: &[u8], from: usize, end: usize) -> ControlFlo
     ControlFlow::Continue(end)
 }
 
-/// Looks for a byte that counts, by chunks from `from` on: `Break` with the first such byte, or
-/// `Continue` with the place after the last chunk.
+/// Searches the chunks from `from` on for a byte with a weight: `Break` with its offset, or
+/// `Continue` with the offset after the last chunk.
 #[inline(always)]
 fn search_chunks<M: Measure, C: ByteChunk>(bytes: &[u8], from: usize) -> ControlFlow<usize, usize>
     requires before { min 2 (length bytes.now) ≤ from }
@@ -245,7 +246,7 @@ fn search_chunks<M: Measure, C: ByteChunk>(bytes: &[u8], from: usize) -> Control
     ControlFlow::Continue(at)
 }
 
-/// Looks for a byte that counts: `Break` with the first one, or `Continue` with the length.
+/// Searches for a byte with a weight: `Break` with its offset, or `Continue` with the length.
 #[inline(always)]
 fn search<M: Measure, C: ByteChunk>(bytes: &[u8]) -> ControlFlow<usize, usize>
     ensures found { ForBreak result (IsFirstPast (M.weights bytes.now) 0) }
@@ -255,13 +256,13 @@ fn search<M: Measure, C: ByteChunk>(bytes: &[u8]) -> ControlFlow<usize, usize>
     let end = bytes.len();
     let at = search_bytes::<M>(bytes, 0, end.min(2))?;
     let at = search_chunks::<M, C>(bytes, at)?;
-    // Of what is left, less than a chunk, eight bytes may still go at once.
+    // Less than a chunk is left, but eight bytes may still be tested at once.
     let at = search_chunks::<M, usize>(bytes, at)?;
     search_bytes::<M>(bytes, at, end)
 }
 
-/// The first byte that counts, or the length: `find_past` for 0. Such a byte is often near, so each
-/// chunk is tested by itself.
+/// Returns the first byte with a weight, or the length: `find_past` for 0. Such a byte is often
+/// near, so each chunk is tested by itself.
 #[inline(always)]
 pub(crate) fn find_first<M: Measure, C: ByteChunk>(bytes: &[u8]) -> usize
     ensures { IsFirstPast (M.weights bytes.now) 0 result }

@@ -1,4 +1,4 @@
-//! The scans by the widest chunks, for callers that count no turns.
+//! The scans over the widest chunks, for callers that count no iterations.
 
 ghost use Rattle.std.specs.Prelude.{◌≡◌, ◌≤◌, length, sum, take};
 ghost use Rattle.str_indices.specs.Bytes.{IsFirstPast};
@@ -8,7 +8,7 @@ use crate::measure::Measure;
 use crate::scan;
 use counters::Counter;
 
-/// What the bytes before `end` count.
+/// Returns the weight of the bytes before `end`.
 pub(crate) fn count_before<M: Measure>(bytes: &[u8], end: usize) -> usize
     requires { end ≤ length bytes.now }
     ensures { result ≡ sum (take end (M.weights bytes.now)) }
@@ -17,7 +17,7 @@ pub(crate) fn count_before<M: Measure>(bytes: &[u8], end: usize) -> usize
     scan::count_before::<M, WideChunk, Chunk>(bytes, end, 0, &mut turns)
 }
 
-/// The first byte with which the bytes count more than `k`, or the length.
+/// Returns the first byte with which the weight exceeds `k`, or the length.
 pub(crate) fn find_past<M: Measure>(bytes: &[u8], k: usize) -> usize
     ensures { IsFirstPast (M.weights bytes.now) k result }
 {
@@ -25,7 +25,7 @@ pub(crate) fn find_past<M: Measure>(bytes: &[u8], k: usize) -> usize
     scan::find_past::<M, WideChunk, Chunk>(bytes, k, 0, &mut turns)
 }
 
-/// The first byte that counts, or the length.
+/// Returns the first byte with a weight, or the length.
 pub(crate) fn find_first<M: Measure>(bytes: &[u8]) -> usize
     ensures { IsFirstPast (M.weights bytes.now) 0 result }
 {

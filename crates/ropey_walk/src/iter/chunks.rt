@@ -1,4 +1,4 @@
-//! The chunks of a text, both ways.
+//! The iterator over the chunks of a text.
 
 ghost use Rattle.std.specs.Prelude.{◌≡◌, ⊤};
 ghost use Rattle.ropey_walk.specs.Chunks.{IsRopeText};
@@ -12,19 +12,20 @@ use std::alloc::AllocError;
 use std::iter::FusedIterator;
 use std::marker::Model;
 
-/// The chunks of a text, both ways. Contracts see those ahead and those behind, as texts.
+/// An iterator over the chunks of a text, in both directions. Contracts see the texts on both
+/// sides.
 ///
-/// No chunk is empty, each has 984 bytes at most, and together they are the text; a text of no
-/// characters has none. A step goes down from the node above the last chunk, and from the root, in
-/// `O(log n)`, where no chunk is left under that node.
+/// Chunks have 1 to 984 bytes; joined they are the text. An empty text has none. A step descends
+/// from the node above the last chunk, or from the root, in `O(log n)`, if that node has no further
+/// chunk.
 #[derive(Drop)]
 pub struct Chunks<'a> {
     slice: RopeSlice<'a>,
-    // The byte index of the place between two chunks.
+    // The byte index of the position, between two chunks.
     byte_idx: usize,
     // The length of the text in bytes.
     len: usize,
-    // The node above the leaf of the last step, from which the next one goes on.
+    // The node above the leaf of the last step, from which the next step starts.
     near: Option<OnTheWay<'a>>,
     is_reversed: bool,
 }
@@ -48,7 +49,7 @@ impl<'a> Model for Chunks<'a> {
 }
 
 impl<'a> Chunks<'a> {
-    /// The chunks of a text, from the place at a byte at which a chunk starts, or at the end.
+    /// Returns an iterator from a byte index at which a chunk starts, or from the end.
     pub(crate) fn at(slice: RopeSlice<'a>, byte_idx: usize) -> Self
         requires { IsBetweenPieces (slice_pieces slice) byte_idx }
         ensures place { result ≡ before_item (pieces_before byte_idx (slice_pieces slice.entry))
@@ -64,14 +65,14 @@ impl<'a> Chunks<'a> {
         }
     }
 
-    /// Turns the iterator round: `next` gives what `prev` gave, and `prev` what `next` gave.
+    /// Reverses the direction: `next` and `prev` swap.
     pub fn reverse(&mut self)
         ensures { self.new ≡ turned self.old }
     {
         self.is_reversed = !self.is_reversed;
     }
 
-    /// The iterator turned round, as by `reverse`.
+    /// Returns the iterator with its direction reversed.
     pub fn reversed(mut self) -> Self
         ensures { result ≡ turned self.entry }
     {
@@ -79,8 +80,7 @@ impl<'a> Chunks<'a> {
         self
     }
 
-    /// The chunk behind the place, which moves before it; none where none is, and the iterator
-    /// stays.
+    /// Returns the preceding chunk and moves back before it, or returns `None` and stays.
     pub fn prev(&mut self) -> Option<&'a str>
         ensures { GivesPrev GivesChunk self.old result self.new }
     {

@@ -1,4 +1,4 @@
-//! Searches where all matches are wanted.
+//! Searches for all matches.
 
 ghost use Rattle.std.specs.Prelude.{◌≡◌, ◌<◌, ◌^◌, IfOk, IfErr, OnErr, Some, length};
 ghost use Rattle.std.specs.Option.{ForSome};
@@ -17,8 +17,8 @@ use rx_steps as search;
 use rx_steps::clear_slots;
 use rx_util::{Match, MatchError, NonMaxUsize, PatternID};
 
-/// Puts the places of a match into the two slots of its pattern's group 0, as far as there are
-/// slots; all others hold none.
+/// Writes the offsets of a match into the two slots of its pattern's group 0, as far as there are
+/// slots. All others become `None`.
 fn put_whole(slots: &mut [Option<NonMaxUsize>], found: Match)
     requires start { found.span.start < 2 ^ 63 }
     requires end { found.span.end < 2 ^ 63 }
@@ -41,7 +41,7 @@ fn put_whole(slots: &mut [Option<NonMaxUsize>], found: Match)
     slots[2 * number + 1] = NonMaxUsize::new(found.end());
 }
 
-/// The best of all matches of an engine's program. `earliest` is as it is said here.
+/// Returns the best of all matches of an engine's program, with this `earliest`.
 fn best_of_all<C: Cursor>(
     vm: &PikeVM,
     cache: &mut search::Cache,
@@ -62,8 +62,8 @@ fn best_of_all<C: Cursor>(
     search::search_all(vm.program(), cache, input, utf8_empty, earliest)
 }
 
-/// Searches as `search_slots` does with an engine for all matches: of groups the whole match alone
-/// is noted. `earliest` is as it is said here.
+/// Searches as `search_slots` does with an engine for all matches, with this `earliest`. Only the
+/// whole match is captured.
 pub(super) fn seek_all<C: Cursor>(
     vm: &PikeVM,
     cache: &mut search::Cache,

@@ -11,8 +11,8 @@ use rx_literals::Prefilter;
 use rx_util::{MatchError, MatchKind, WhichCaptures};
 use std::marker::Model;
 
-/// Settings of a PikeVM. One that wasn't set is the default. Contracts see those that its engine is
-/// built under, and the needles of the prefilter.
+/// Settings of a PikeVM. A setting that isn't set has its default. Contracts see the settings of
+/// its engine, and the needles of the prefilter.
 #[derive(Debug, Drop)]
 pub struct Config {
     engine: rx_engine::Config,
@@ -38,7 +38,11 @@ impl Config {
         }
     }
 
-    /// Returns the same settings. The one error is `Memory`.
+    /// Returns a copy.
+    ///
+    /// # Errors
+    ///
+    /// `Memory`.
     pub fn clone(&self) -> Result<Config, MatchError>
         ensures same { IfOk result (λ config. config ≡ self.now) }
         ensures refused { IfErr result (λ error. error ≡ MatchError.Memory) }
@@ -49,7 +53,7 @@ impl Config {
         })
     }
 
-    /// Sets which of all matches a search finds.
+    /// Sets which of all matches a search reports.
     pub fn match_kind(mut self, kind: MatchKind) -> Config
         ensures { result ≡ record self { engine = record self.engine { match_kind = Some kind } } }
     {
@@ -57,8 +61,8 @@ impl Config {
         self
     }
 
-    /// Sets literals of the caller's own, or none. They are kept and told: a PikeVM goes by none,
-    /// and so what builds it drops them. It changes no answer.
+    /// Sets a prefilter, or none. It is only stored: a PikeVM uses none, so its builder drops it.
+    /// No result depends on it.
     pub fn prefilter(mut self, prefilter: Option<Prefilter>) -> Config
         ensures { result ≡ record self { prefilter = Some prefilter } }
     {
@@ -66,7 +70,7 @@ impl Config {
         self
     }
 
-    /// Sets whether empty matches inside a character are passed over.
+    /// Sets whether empty matches inside a character are skipped.
     pub fn utf8_empty(mut self, yes: bool) -> Config
         ensures { result ≡ record self { engine = record self.engine { utf8_empty = Some yes } } }
     {
@@ -74,8 +78,8 @@ impl Config {
         self
     }
 
-    /// Sets the byte at which lines end for `^` and `$` under `(?m)`. The one that `.` doesn't
-    /// match is a setting of the syntax.
+    /// Sets the byte that ends lines for `^` and `$` with `(?m)`. For `.` it is a setting of the
+    /// syntax.
     pub fn line_terminator(mut self, byte: u8) -> Config
         ensures { result ≡ record self {
           engine = record self.engine { line_terminator = Some byte };
@@ -85,8 +89,8 @@ impl Config {
         self
     }
 
-    /// Sets how large a program may be: a pattern is refused where 40 times its weight is above the
-    /// limit. Without one it is where the weight is above 2,147,483,646.
+    /// Sets the size limit of programs: a pattern is refused if 40 times its weight exceeds it.
+    /// Without a limit, the weight may be at most 2,147,483,646.
     pub fn nfa_size_limit(mut self, limit: Option<usize>) -> Config
         ensures { result ≡ record self {
           engine = record self.engine { nfa_size_limit = Some limit };
@@ -96,10 +100,11 @@ impl Config {
         self
     }
 
-    /// Sets which groups are noted: those of the engine, and so of captures, are then all groups of
-    /// its patterns, or under `Implicit` and `None` alike group 0 of each alone. A pattern weighs
-    /// the same. A search notes places in as many slots as it is given: what stands in those behind
-    /// the slots of the engine's groups has no meaning.
+    /// Sets which groups are captured: all, or for `Implicit` and `None` only group 0 of each
+    /// pattern.
+    ///
+    /// The weight of a pattern is the same. A search writes as many slots as it is given; slots
+    /// past those of the captured groups have no meaning.
     pub fn which_captures(mut self, which: WhichCaptures) -> Config
         ensures { result ≡ record self {
           engine = record self.engine { which_captures = Some which };
@@ -109,14 +114,14 @@ impl Config {
         self
     }
 
-    /// Returns which of all matches a search finds: by default the leftmost one.
+    /// Returns which of all matches a search reports, by default the leftmost.
     pub fn get_match_kind(&self) -> MatchKind
         ensures { result ≡ unwrap_or self.now.engine.match_kind MatchKind.LeftmostFirst }
     {
         self.engine.get_match_kind()
     }
 
-    /// Returns the literals of the caller's own: by default there are none.
+    /// Returns the prefilter, by default none.
     pub fn get_prefilter(&self) -> Option<&Prefilter>
         ensures { option_map (λ prefilter. prefilter.now) result ≡ prefilter_of self.now }
     {
@@ -126,35 +131,35 @@ impl Config {
         }
     }
 
-    /// Returns whether empty matches inside a character are passed over: by default they are.
+    /// Returns whether empty matches inside a character are skipped, by default true.
     pub fn get_utf8_empty(&self) -> bool
         ensures { result ≡ unwrap_or self.now.engine.utf8_empty true }
     {
         self.engine.get_utf8_empty()
     }
 
-    /// Returns the byte at which lines end for `^` and `$` under `(?m)`: by default LF.
+    /// Returns the byte that ends lines for `^` and `$` with `(?m)`, by default LF.
     pub fn get_line_terminator(&self) -> u8
         ensures { result ≡ unwrap_or self.now.engine.line_terminator 10 }
     {
         self.engine.get_line_terminator()
     }
 
-    /// Returns how large a program may be: by default without a limit.
+    /// Returns the size limit of programs, by default none.
     pub fn get_nfa_size_limit(&self) -> Option<usize>
         ensures { result ≡ size_limit_of self.now.engine }
     {
         self.engine.get_nfa_size_limit()
     }
 
-    /// Returns which groups are noted: by default all.
+    /// Returns which groups are captured, by default all.
     pub fn get_which_captures(&self) -> WhichCaptures
         ensures { result ≡ unwrap_or self.now.engine.which_captures WhichCaptures.All }
     {
         self.engine.get_which_captures()
     }
 
-    /// What is set of the engine that a PikeVM searches by.
+    /// Returns the settings of the engine.
     pub(super) fn of_engine(self) -> rx_engine::Config
         ensures { result ≡ self.engine }
     {
@@ -162,7 +167,7 @@ impl Config {
     }
 }
 
-/// The same literals, if any are set.
+/// Returns a copy of a prefilter.
 fn cloned(prefilter: &Option<Option<Prefilter>>) -> Result<Option<Option<Prefilter>>, MatchError>
     ensures same { IfOk result (λ copy. copy ≡ prefilter.now) }
     ensures refused { IfErr result (λ error. error ≡ MatchError.Memory) }

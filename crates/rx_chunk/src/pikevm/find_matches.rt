@@ -7,16 +7,16 @@ use rx_input::{Cursor, Input};
 use rx_util::{Match, MatchError};
 use std::iter::FusedIterator;
 
-/// Matches one after the other, each or a refusal, after which there are no more. An empty match
-/// where the one before ended is passed over. `find_iter` makes it.
+/// An iterator over matches. After an error it ends. An empty match at the end of the previous one
+/// is skipped. `find_iter` returns it.
 #[derive(Drop)]
 pub struct FindMatches<'r, 'c, C: Cursor> {
     vm: &'r PikeVM,
     cache: &'c mut Cache,
-    // The span starts where the last match ended.
+    // Its span starts at the end of the last match.
     input: Input<C>,
     last_match_end: Option<usize>,
-    // No more come.
+    // The iterator has ended.
     is_over: bool,
     ghost serves: { IsCacheOf vm.now.program cache.now },
 }
@@ -27,7 +27,7 @@ impl<'r, 'c, C: Cursor> FindMatches<'r, 'c, C> {
     ghost use Rattle.rx_chunk.specs.Iterating.{matches_from};
     ghost use Rattle.rx_chunk.specs.FindMatches.{cache_of, engine_of, left_of};
 
-    /// None of the matches in an input has come yet.
+    /// Returns an iterator over all matches in an input.
     pub(super) fn new(
         vm: &'r PikeVM,
         cache: &'c mut Cache,

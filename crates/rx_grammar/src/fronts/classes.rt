@@ -1,4 +1,4 @@
-//! What stands between brackets, character by character.
+//! Classes in brackets, character by character.
 
 use crate::classes::doubles;
 use crate::fronts::escapes::{Escape, Escaped};
@@ -7,27 +7,27 @@ use crate::refusals::Mistake;
 /// A class that isn't closed yet.
 #[derive(Debug, Clone, Copy, PartialEq, Eq)]
 pub(crate) enum Class {
-    /// Its `[` alone.
+    /// Only its `[`.
     Start,
     /// `[^`.
     Negation,
-    /// Its items up to here: the number of the last character, if it may begin a range, and the
-    /// character that doesn't stand behind them.
+    /// Its items so far: the scalar value of the last character if it may start a range, and the
+    /// character that may not follow.
     Items(Option<u32>, Option<char>),
     /// A `-` that is the last item.
     LastHyphen,
-    /// A character, which has this number, and a `-` after it.
+    /// A character, with this scalar value, and a `-` after it.
     Range(u32),
-    /// An escape, and the number of the character whose range it is to end, if it is.
+    /// An escape, and the scalar value of the character whose range it ends, if there is one.
     Escape(Escape, Option<u32>),
 }
 
-/// The character that doesn't stand behind this one in a class.
+/// Returns the character that may not follow this one in a class.
 fn twin(c: char) -> Option<char> {
     if doubles(c) { Some(c) } else { None }
 }
 
-/// An item's first character.
+/// Reads an item's first character.
 fn item(c: char) -> Result<Class, Mistake> {
     match c {
         '[' => Err(Mistake::ClassItem),
@@ -36,7 +36,7 @@ fn item(c: char) -> Result<Class, Mistake> {
     }
 }
 
-/// A class's first item, where `]` and `-` stand for themselves.
+/// Reads the first character of the first item, where `]` and `-` are literals.
 fn first_item(c: char) -> Result<Class, Mistake> {
     match c {
         ']' => Ok(Class::Items(None, None)),
@@ -45,7 +45,7 @@ fn first_item(c: char) -> Result<Class, Mistake> {
     }
 }
 
-/// What follows a character and a `-`, but for a `]`.
+/// Reads the character after a character and a `-`, unless it is `]`.
 fn range_end(low: u32, c: char) -> Result<Class, Mistake> {
     match c {
         '[' | '-' => Err(Mistake::ClassItem),
@@ -55,7 +55,7 @@ fn range_end(low: u32, c: char) -> Result<Class, Mistake> {
     }
 }
 
-/// An escape with one character more. It ends the range that begins with `low`.
+/// Reads one character of an escape. It ends the range that starts with `low`.
 fn escape(escape: Escape, low: Option<u32>, c: char) -> Result<Class, Mistake> {
     match (escape.take(c, low.unwrap_or(0))?, low) {
         (Escaped::Open(escape), _) => Ok(Class::Escape(escape, low)),
@@ -68,7 +68,7 @@ fn escape(escape: Escape, low: Option<u32>, c: char) -> Result<Class, Mistake> {
 }
 
 impl Class {
-    /// The class with one character more, and `None` where that closes it.
+    /// Reads one more character. Returns `None` if it closes the class.
     pub(crate) fn take(self, c: char) -> Result<Option<Class>, Mistake> {
         let class = match (self, c) {
             (Class::Start, '^') => Class::Negation,
@@ -85,7 +85,7 @@ impl Class {
         Ok(Some(class))
     }
 
-    /// What the class wants yet where the text ends.
+    /// Returns what is missing if the text ends here.
     pub(crate) fn wanted(self) -> Mistake {
         match self {
             Class::Escape(_, _) => Mistake::Escape,

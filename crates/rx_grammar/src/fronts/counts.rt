@@ -1,27 +1,27 @@
-//! What stands in the braces of a repetition, character by character.
+//! Counts in braces, character by character.
 
 use crate::refusals::Mistake;
 
 /// The greatest number in braces.
 const MAX_NUMBER: u32 = 65_535;
 
-/// How many digits that number has.
+/// The number of its digits.
 const MAX_DIGITS: u32 = 5;
 
 /// A count that isn't closed yet.
 #[derive(Debug, Clone, Copy, PartialEq, Eq)]
 pub(crate) enum Count {
-    /// Its `{` alone.
+    /// Only its `{`.
     Start,
     /// Digits of the least number, and their value.
     Least(u32),
     /// The least number and a comma.
     Comma(u32),
-    /// The least number, and the digits after the comma: their value.
+    /// The least number, and the value of the digits after the comma.
     Most(u32, u32),
 }
 
-/// The number with one digit more.
+/// Returns the number with one more digit.
 fn appended(number: u32, digit: u32) -> Result<u32, Mistake> {
     let number = number.saturating_mul(10).saturating_add(digit);
     if number > MAX_NUMBER {
@@ -30,7 +30,7 @@ fn appended(number: u32, digit: u32) -> Result<u32, Mistake> {
     Ok(number)
 }
 
-/// Whether some number of at most 65,535 that begins with these digits is at least `least`.
+/// Returns whether some number of at most 65,535 that starts with these digits is at least `least`.
 fn reaches(digits: u32, least: u32) -> bool {
     let mut low = digits;
     let mut high = digits;
@@ -44,7 +44,7 @@ fn reaches(digits: u32, least: u32) -> bool {
     false
 }
 
-/// The greatest number with one digit more.
+/// Returns the greatest number with one more digit.
 fn most(least: u32, number: u32, digit: u32) -> Result<Count, Mistake> {
     let number = appended(number, digit)?;
     if !reaches(number, least) {
@@ -54,7 +54,7 @@ fn most(least: u32, number: u32, digit: u32) -> Result<Count, Mistake> {
 }
 
 impl Count {
-    /// The count with one character more, and `None` where that closes it.
+    /// Reads one more character. Returns `None` if it closes the count.
     pub(crate) fn take(self, c: char) -> Result<Option<Count>, Mistake> {
         match (self, c.to_digit(10), c) {
             (Count::Start, Some(digit), _) => Ok(Some(Count::Least(digit))),

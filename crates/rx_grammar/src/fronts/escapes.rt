@@ -1,40 +1,40 @@
-//! What follows a backslash, character by character.
+//! Escapes, character by character.
 
 use crate::atoms::look_of;
 use crate::classes::letter_named;
 use crate::escapes::{MAX_SCALAR, escaped_by};
 use crate::refusals::Mistake;
 
-/// How many digits stand in braces at most.
+/// The most digits in braces.
 const MAX_BRACED: u32 = 8;
 
 /// An escape that isn't finished yet.
 #[derive(Debug, Clone, Copy, PartialEq, Eq)]
 pub(crate) enum Escape {
-    /// Its `\` alone.
+    /// Only its `\`.
     Start,
-    /// `\x` or `\u`, and how many digits are to follow where they don't stand in braces.
+    /// `\x` or `\u`, and the number of digits unless they are in braces.
     Marked(u32),
-    /// What the digits after it spell, and how many more are to follow.
+    /// The value of the digits so far, and how many must follow.
     Digits(u32, u32),
-    /// What the digits in braces spell, and how many more may follow.
+    /// The value of the digits in braces so far, and how many may follow.
     Braced(u32, u32),
 }
 
-/// An escape with one character more.
+/// An escape after one more character.
 #[derive(Debug, Clone, Copy, PartialEq, Eq)]
 pub(crate) enum Escaped {
     /// It isn't finished yet.
     Open(Escape),
-    /// It spells the character with this number.
+    /// It is the character with this scalar value.
     Character(u32),
     /// It is a letter class.
     LetterClass,
-    /// It is a look.
+    /// It is a look-around assertion.
     Look,
 }
 
-/// Whether one of the numbers from `low` to `high` is a scalar value from `least` on.
+/// Returns whether a number from `low` to `high` is a scalar value that is at least `least`.
 fn has_scalar(low: u64, high: u64, least: u32) -> bool {
     let last = match high.min(u64::from(MAX_SCALAR)) {
         0xD800..=0xDFFF => 0xD7FF,
@@ -43,8 +43,8 @@ fn has_scalar(low: u64, high: u64, least: u32) -> bool {
     last >= low.max(u64::from(least))
 }
 
-/// Whether digits of this value spell a scalar value from `least` on with some digits after them,
-/// at least `fewest` and at most `most`.
+/// Returns whether digits of this value, followed by `fewest` to `most` digits, can be a scalar
+/// value that is at least `least`.
 fn may_spell(number: u32, fewest: u32, most: u32, least: u32) -> bool {
     let mut low = u64::from(number);
     let mut high = low;
@@ -58,8 +58,7 @@ fn may_spell(number: u32, fewest: u32, most: u32, least: u32) -> bool {
     false
 }
 
-/// Digits with one more behind which at least `fewest` and at most `most` may follow: what they
-/// spell.
+/// Returns the value with one more digit, which `fewest` to `most` digits may follow.
 fn appended(number: u32, c: char, fewest: u32, most: u32, least: u32) -> Result<u32, Mistake> {
     let Some(digit) = c.to_digit(16) else {
         return Err(Mistake::Escape);
@@ -74,7 +73,7 @@ fn appended(number: u32, c: char, fewest: u32, most: u32, least: u32) -> Result<
     Ok(number)
 }
 
-/// What a character after a backslash spells.
+/// Reads the character after a backslash.
 fn after_backslash(c: char) -> Result<Escaped, Mistake> {
     match c {
         'x' => return Ok(Escaped::Open(Escape::Marked(2))),
@@ -93,7 +92,7 @@ fn after_backslash(c: char) -> Result<Escaped, Mistake> {
     Err(Mistake::Escape)
 }
 
-/// One digit more of those without braces, of which `left` are to follow.
+/// Reads one more digit outside braces. `left` digits were to follow.
 fn digit(number: u32, left: u32, c: char, least: u32) -> Result<Escaped, Mistake> {
     let left = left.saturating_sub(1);
     let number = appended(number, c, left, left, least)?;
@@ -104,7 +103,7 @@ fn digit(number: u32, left: u32, c: char, least: u32) -> Result<Escaped, Mistake
     })
 }
 
-/// One character more in braces.
+/// Reads one more character in braces.
 fn in_braces(number: u32, left: u32, c: char, least: u32) -> Result<Escaped, Mistake> {
     if c == '}' && left < MAX_BRACED {
         if !may_spell(number, 0, 0, 0) {
@@ -121,8 +120,7 @@ fn in_braces(number: u32, left: u32, c: char, least: u32) -> Result<Escaped, Mis
 }
 
 impl Escape {
-    /// The escape with one character more. Where digits spell it, it is to be a character from
-    /// `least` on.
+    /// Reads one more character. A character given by digits has to be at least `least`.
     pub(crate) fn take(self, c: char, least: u32) -> Result<Escaped, Mistake> {
         match self {
             Escape::Start => after_backslash(c),

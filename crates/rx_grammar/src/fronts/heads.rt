@@ -1,4 +1,4 @@
-//! What follows the parenthesis of a group or a setting, character by character.
+//! Heads of groups and settings, character by character.
 
 use crate::flags::Flag;
 use crate::refusals::Mistake;
@@ -6,7 +6,7 @@ use crate::refusals::Mistake;
 /// A group's head, or a setting, that isn't finished yet.
 #[derive(Debug, Clone, Copy, PartialEq, Eq)]
 pub(crate) enum Head {
-    /// Its `(` alone.
+    /// Only its `(`.
     Start,
     /// `(?`.
     Marked,
@@ -14,13 +14,13 @@ pub(crate) enum Head {
     NameMark,
     /// `(?P<` or `(?<`.
     NameStart,
-    /// That and a part of a name.
+    /// One of these and a part of a name.
     Name,
     /// `(?` and flags.
     Flags(Flags),
 }
 
-/// Flags that may go on.
+/// Flags that aren't finished yet.
 #[derive(Debug, Clone, Copy, PartialEq, Eq)]
 pub(crate) struct Flags {
     case_insensitive: bool,
@@ -32,7 +32,7 @@ pub(crate) struct Flags {
     dot: Option<bool>,
 }
 
-/// The flag that a letter spells.
+/// Returns the flag of a letter.
 fn flag_of(letter: char) -> Option<Flag> {
     match letter {
         'i' => Some(Flag::CaseInsensitive),
@@ -44,7 +44,7 @@ fn flag_of(letter: char) -> Option<Flag> {
 }
 
 impl Flags {
-    /// No flags yet.
+    /// Returns no flags.
     pub(crate) fn none() -> Flags {
         Flags {
             case_insensitive: false,
@@ -57,22 +57,23 @@ impl Flags {
         }
     }
 
-    /// Whether they are flags, to which nothing has to be added.
+    /// Returns whether the flags may end here.
     pub(crate) fn may_end(self) -> bool {
         self.may_end
     }
 
-    /// Whether `.` matches the line terminator behind the flags, where it does or doesn't before.
+    /// Returns whether `.` matches the line terminator after the flags, given whether it did
+    /// before.
     pub(crate) fn dot(self, before: bool) -> bool {
         self.dot.unwrap_or(before)
     }
 
-    /// Whether each letter stands.
+    /// Returns whether all four letters were read.
     fn are_all(self) -> bool {
         self.case_insensitive && self.multi_line && self.dot_matches_new_line && self.swap_greed
     }
 
-    /// Notes that a flag's letter stands, and answers whether it stood before.
+    /// Records the letter of a flag, and returns whether it was already there.
     fn note(&mut self, flag: Flag) -> bool {
         let noted = match flag {
             Flag::CaseInsensitive => &mut self.case_insensitive,
@@ -83,7 +84,7 @@ impl Flags {
         std::mem::replace(noted, true)
     }
 
-    /// The flags with one character more: a letter, or the `-` behind which flags are turned off.
+    /// Reads one more character: a letter, or the `-` after which flags are turned off.
     pub(crate) fn take(mut self, c: char) -> Result<Flags, Mistake> {
         if c == '-' && !self.turns_off && !self.are_all() {
             self.turns_off = true;

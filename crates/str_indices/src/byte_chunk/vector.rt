@@ -1,4 +1,4 @@
-//! Sixteen bytes in a vector.
+//! Chunks of 16 bytes in a vector.
 
 ghost use Rattle.std.specs.Prelude.{◌≤◌, ◌<◌, ◌==◌, slice_index, nat_le};
 ghost use Rattle.std.proofs.Common.{«lit≤», «lit<»};

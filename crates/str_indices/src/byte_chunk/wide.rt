@@ -1,4 +1,4 @@
-//! Sixty-four bytes in a vector: a loop over these makes a quarter of the turns.
+//! Chunks of 64 bytes in a vector, for loops with a quarter of the iterations.
 
 ghost use Rattle.std.proofs.Common.{«lit≤», «lit<»};
 

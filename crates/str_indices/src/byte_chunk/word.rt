@@ -1,4 +1,4 @@
-//! Eight bytes in a number, the first byte lowest.
+//! Chunks of eight bytes in a number, the first byte lowest.
 
 ghost use Rattle.std.specs.Prelude.{◌≤◌, ◌<◌, ◌/◌, ◌%◌, slice_index, nat_le};
 ghost use Rattle.std.proofs.Common.{«lit≤», «lit<»};
@@ -9,7 +9,7 @@ use crate::byte_chunk::ByteChunk;
 /// 1 in each byte.
 const ONES: usize = 0x0101_0101_0101_0101;
 
-/// The highest bit of each byte.
+/// Returns the highest bit of each byte.
 #[inline(always)]
 fn high_bits(word: usize) -> usize
     ensures { HasLanes 8 (low_bytes 8 result) (λ i. slice_index (low_bytes 8 word) i / 128) }
@@ -17,7 +17,7 @@ fn high_bits(word: usize) -> usize
     (word >> 7) & ONES
 }
 
-/// Each byte without its highest bit.
+/// Returns each byte without its highest bit.
 #[inline(always)]
 fn low_bits(word: usize) -> usize
     ensures { HasLanes 8 (low_bytes 8 result) (λ i. slice_index (low_bytes 8 word) i % 128) }
@@ -25,10 +25,10 @@ fn low_bits(word: usize) -> usize
     word & (0x7F * ONES)
 }
 
-/// 1 in each byte that is at least a limit of up to 128, and 0 in the others.
+/// Returns 1 in each byte that is at least `limit`, and 0 in the others. `limit` is at most 128.
 ///
-/// What the limit lacks to 128 carries the lower seven bits into the highest one exactly if they
-/// reach the limit, and never past it.
+/// Adding 128 - `limit` to the lower seven bits carries into the highest bit exactly if they reach
+/// the limit, and never past it.
 #[inline(always)]
 fn at_least_low(word: usize, limit: u8) -> usize
     requires { limit ≤ 128 }
@@ -40,7 +40,7 @@ fn at_least_low(word: usize, limit: u8) -> usize
     high.add(carried).sub(high.bitand(carried))
 }
 
-/// The same for a limit above 128, which a byte reaches only with its highest bit.
+/// The same for a limit above 128, which a byte reaches only with its highest bit set.
 #[inline(always)]
 fn at_least_high(word: usize, limit: u8) -> usize
     requires { 128 < limit }
