@@ -12,7 +12,7 @@ from test_replies import examples_of_page
 from test_sources import broken_links
 from test_language_server import Client
 
-BUILT = ["rope-search", "librope_search_c.a", "librope_search.a", "librope_search.so"]
+BUILT = ["rope-search", "librope_search_c.a", "librope_search.a", "librope_search.so", "librope_search_c.bc", "rope_search.wasm"]
 INSTALLED = [
     "bin/rope-search", "include/rope_search.h", "lib/librope_search.a", "lib/librope_search.so", f"lib/{SONAME}",
     "lib/pkgconfig/rope_search.pc", "share/man/man1/rope-search.1", "share/rope-search/rope_search.py",
@@ -20,6 +20,8 @@ INSTALLED = [
     *(f"share/rope-search/rust/src/{name}.rs" for name in ("error", "lib", "matches", "raw", "session", "types")),
     *(f"share/rope-search/node/{name}" for name in (
         "package.json", "queue.js", "replies.js", "rope-search.d.ts", "rope-search.js")),
+    *(f"share/rope-search/web/{name}" for name in (
+        "calls.js", "package.json", "rope-search.d.ts", "rope-search.js", "rope_search.wasm")),
     *(f"share/doc/rope-search/{name}" for name in (
         "README.md", "CHANGELOG.md", "LICENSE-APACHE", "LICENSE-MIT", "NOTICE", "protocol.md", "patterns.md",
         "embedding.md")),
