@@ -12,7 +12,9 @@ import shutil
 import subprocess
 import sys
 
-from harness import LIBRARY_FOLDER, ROOM, TOP, VERSION, test
+from harness import LIBRARY_FOLDER, ROOM, SECONDS, TOP, VERSION, run, share_of, short, test
+from protocol import read_commands, spelled
+from random_sessions import some_trial
 from test_bindings import copied, differing, ran, read, reasons_declared, structures, wrong_commands, wrong_end, wrong_links, wrong_prints
 from test_library import declared
 from web_module import sections, with_memory, with_stack
@@ -24,6 +26,7 @@ MODULE = os.path.abspath(os.environ.get("ROPE_SEARCH_WEB") or os.path.join(LIBRA
 FOLDER = os.path.join(TOP, "bindings", "web")
 MEMORY64 = "--experimental-wasm-memory64"
 RUNS_OF_HEAP = 40
+SESSIONS, SESSIONS_IN_RUN = 300, 15  # at random, hostile ones among them
 SANITIZED = ["-std=c99", "-pedantic", "-O1", "-g", "-Wall", "-Wextra", "-Werror", "-fno-strict-aliasing",
              "-fsanitize=address,undefined", "-fno-sanitize-recover=all"]
 
@@ -121,7 +124,8 @@ def wrong_retargeting():
 
 # What the header's types are in calls.js, where one type alone, or one with its length, is an argument.
 KINDS = {
-    ("rope_search_position",): "position", ("const uint8_t*", "size_t"): "text", ("size_t",): "size", ("uint64_t",): "size",
+    # A position is passed as a line and a column.
+    ("rope_search_position",): "size size", ("const uint8_t*", "size_t"): "text", ("size_t",): "size", ("uint64_t",): "size",
     ("uint32_t",): "bits", ("const rope_search_text_edit*", "size_t", "const uint8_t*", "size_t"): "edits",
 }
 VALUES = {"bool": "bool", "size_t": "size", "uint64_t": "size", "uint32_t": "u32", "rope_search_position": "position"}
@@ -142,7 +146,7 @@ def passed(kinds):
 def row_of(result, kinds):
     """What calls.js has to have of a call of C, its session left out."""
     kinds = [kind.replace(" *", "*") for kind in kinds]
-    kinds = kinds[1:] if kinds[:1] == ["rope_search*"] else kinds
+    has_session, kinds = kinds[:1] == ["rope_search*"], [kind for kind in kinds if kind != "rope_search*"]
     if result.startswith("rope_search_"):
         return passed(kinds), ["structure", result.removeprefix("rope_search_")]
     is_array = len(kinds) > 1 and kinds[-1] == "size_t" and kinds[-2].endswith("*") and not kinds[-2].startswith("const")
@@ -154,7 +158,7 @@ def row_of(result, kinds):
     front = passed(kinds[: len(kinds) - len(writes)])
     if result == "bool" and writes:
         return front, ["found", *writes]
-    if result == "uint32_t" and kinds:
+    if result == "uint32_t" and (has_session or kinds):
         return front, ["status", *writes]
     return front, ["value", VALUES.get(result, "nothing")]
 
@@ -164,7 +168,7 @@ def table_row(takes, returns):
     writes = returns.get("writes") or returns.get("kind") or []
     writes = writes if isinstance(writes, list) else [writes]
     # Two numbers that are written have names of their own.
-    return takes, [form, *("size" if form == "found" and name in ("index", "count") else name for name in writes)]
+    return takes.replace("position", "size size"), [form, *("size" if form == "found" and name in ("index", "count") else name for name in writes)]
 
 
 TABLES = """import * as calls from "FOLDER/calls.js";
@@ -250,11 +254,43 @@ def changed_module(name, change):
     return path
 
 
+def sessions_at_random():
+    """The commands of sessions at random, several in an input, with what is no command left out."""
+    count = share_of(SESSIONS)
+    for first in range(0, count, SESSIONS_IN_RUN):
+        data = b"".join(part for number in range(first, min(first + SESSIONS_IN_RUN, count))
+                        for part in some_trial("web", number).commands)
+        yield b"".join(spelled(*command) for command in whole_commands(data))
+
+
+def whole_commands(data):
+    """The commands of an input, also those after a line that is none."""
+    while data:
+        commands, ending = read_commands(data)
+        yield from commands
+        if ending == "input":
+            return
+        read = sum(len(spelled(*command)) for command in commands)
+        data = data[read:].partition(b"\n")[2]
+
+
+def wrong_beside_program(words):
+    """What is wrong with the replies by calls of the module, beside those of the program."""
+    for data in sessions_at_random():
+        due = run(data)
+        done = subprocess.run(words, input=data, capture_output=True, timeout=SECONDS)
+        if done.returncode or due.status or done.stdout != due.out:
+            got, wanted = done.stdout.split(b"\n"), due.out.split(b"\n")
+            place = next((k for k, pair in enumerate(zip(got, wanted)) if pair[0] != pair[1]), min(len(got), len(wanted)))
+            yield f"{short(data)}: line {place}: {got[place:place + 2]}, not {wanted[place:place + 2]}: {done.stderr.decode()[-300:]}"
+
+
 def test_under_node(words):
     folder = copied("web")
     shutil.copy(MODULE, os.path.join(folder, "rope_search.wasm"))
     commands = [*words, os.path.join(folder, "examples", "commands.js"), MODULE]
     test("bindings/web: commands by calls, with sessions at random", wrong_commands(commands))
+    test(f"bindings/web: {share_of(SESSIONS)} sessions at random beside the program", wrong_beside_program(commands))
     test("bindings/web: the code of its page", wrong_page(words, folder))
     test("bindings/web: each call, and each refusal", wrong_script(words, "web_calls.mjs", MODULE))
     limited = changed_module("limited.wasm", lambda data: with_memory(data, 100))
