@@ -25,12 +25,14 @@ const waiting = new Map();
 
 function send(command) {
   worker.postMessage({ ...command, number: ++sent });
+  noteIdle();
 }
 
 /** Sends a command of which only the latest counts, once what was sent before is done. */
 function sendLatest(command) {
   waiting.set(command.do, command);
   flush();
+  noteIdle();
 }
 
 function flush() {
@@ -52,8 +54,13 @@ worker.onmessage = ({ data }) => {
   }
   show(data.view);
   flush();
-  document.documentElement.dataset.answered = String(answered);
+  noteIdle();
 };
+
+/** Whether all that was sent is shown: tests wait for it. */
+function noteIdle() {
+  document.documentElement.dataset.idle = String(answered === sent && waiting.size === 0);
+}
 
 // ---- painting
 
