@@ -14,11 +14,12 @@ import sys
 import tempfile
 
 from browser import Page, Served, chromium
-from harness import LIBRARY_FOLDER, ROOM, SECONDS, TOP, VERSION, run, share_of, short, test
+from harness import LIBRARY_FOLDER, ROOM, TOP, VERSION, run, share_of, short, test
 from protocol import read_commands, spelled, units
 from random_sessions import some_trial
-from test_bindings import copied, differing, ran, read, reasons_declared, structures, wrong_commands, wrong_end, wrong_links, wrong_prints
+from test_bindings import copied, differing, inputs_of_commands, ran, read, reasons_declared, structures, wrong_end, wrong_links, wrong_prints
 from test_library import declared
+from test_replies import examples_of_page
 from web_module import sections, with_memory, with_stack
 
 sys.path.insert(0, os.path.join(TOP, "bindings", "web"))
@@ -128,8 +129,9 @@ def wrong_retargeting():
 KINDS = {
     # A position is passed as a line and a column.
     ("rope_search_position",): "size size", ("const uint8_t*", "size_t"): "text", ("size_t",): "size", ("uint64_t",): "size",
-    ("uint32_t",): "bits", ("const rope_search_text_edit*", "size_t", "const uint8_t*", "size_t"): "edits",
+    ("uint32_t",): "bits", ("bool",): "bool", ("const rope_search_text_edit*", "size_t", "const uint8_t*", "size_t"): "edits",
 }
+SIZES = ("index", "count")
 VALUES = {"bool": "bool", "size_t": "size", "uint64_t": "size", "uint32_t": "u32", "rope_search_position": "position"}
 
 
@@ -156,7 +158,7 @@ def row_of(result, kinds):
         kind = "byte" if kinds[-2] == "uint8_t*" else kinds[-2].removeprefix("rope_search_").rstrip("*")
         return passed(kinds[:-2]), ["copies" if result == "size_t" else "filled", kind]
     written = [kind for kind in kinds if kind.endswith("*") and not kind.startswith("const")]
-    writes = ["size" if kind == "size_t*" else kind.removeprefix("rope_search_").rstrip("*") for kind in written]
+    writes = [VALUES.get(kind.rstrip("*")) or kind.removeprefix("rope_search_").rstrip("*") for kind in written]
     front = passed(kinds[: len(kinds) - len(writes)])
     if result == "bool" and writes:
         return front, ["found", *writes]
@@ -169,8 +171,8 @@ def table_row(takes, returns):
     form = returns["form"]
     writes = returns.get("writes") or returns.get("kind") or []
     writes = writes if isinstance(writes, list) else [writes]
-    # Two numbers that are written have names of their own.
-    return takes.replace("position", "size size"), [form, *("size" if form == "found" and name in ("index", "count") else name for name in writes)]
+    # Numbers that are written may have names of their own.
+    return takes.replace("position", "size size"), [form, *("size" if name in SIZES else name for name in writes)]
 
 
 TABLES = """import * as calls from "FOLDER/calls.js";
@@ -276,23 +278,47 @@ def whole_commands(data):
         data = data[read:].partition(b"\n")[2]
 
 
-def wrong_beside_program(words):
-    """What is wrong with the replies by calls of the module, beside those of the program."""
+def different(data, got, due):
+    """Where replies differ."""
+    got, due = got.split(b"\n"), due.split(b"\n")
+    place = next((k for k, pair in enumerate(zip(got, due)) if pair[0] != pair[1]), min(len(got), len(due)))
+    return f"{short(data)}: line {place}: {got[place:place + 2]}, not {due[place:place + 2]}"
+
+
+def wrong_replies(words, inputs):
+    """What is wrong with the replies by calls of the module to inputs, each with what is due."""
+    inputs, folder = list(inputs), tempfile.mkdtemp(dir=ROOM)
+    files = [os.path.join(folder, str(number)) for number in range(len(inputs))]
+    for file, (data, _) in zip(files, inputs):
+        with open(file, "wb") as out:
+            out.write(data)
+    wrong = wrong_script(words, "web_commands.mjs", MODULE, *files)
+    for file, (data, due) in zip(files, inputs if not wrong else []):
+        with open(f"{file}.out", "rb") as told:
+            got = told.read()
+        wrong += [] if got == due else [different(data, got, due)]
+    return wrong
+
+
+def wrong_example(words, folder):
+    """The example must reply to the first session of the protocol's page."""
+    data, due, _ = examples_of_page()[0]
+    done = subprocess.run([*words, os.path.join(folder, "examples", "commands.js"), MODULE], input=data, capture_output=True)
+    return [] if done.stdout == due else [f"{done.stdout!r}, not {due!r}: {done.stderr.decode()[-300:]}"]
+
+
+def beside_program():
+    """Sessions at random, and what the program replies."""
     for data in sessions_at_random():
-        due = run(data)
-        done = subprocess.run(words, input=data, capture_output=True, timeout=SECONDS)
-        if done.returncode or due.status or done.stdout != due.out:
-            got, wanted = done.stdout.split(b"\n"), due.out.split(b"\n")
-            place = next((k for k, pair in enumerate(zip(got, wanted)) if pair[0] != pair[1]), min(len(got), len(wanted)))
-            yield f"{short(data)}: line {place}: {got[place:place + 2]}, not {wanted[place:place + 2]}: {done.stderr.decode()[-300:]}"
+        yield data, run(data).out
 
 
 def test_under_node(words):
     folder = copied("web")
     shutil.copy(MODULE, os.path.join(folder, "rope_search.wasm"))
-    commands = [*words, os.path.join(folder, "examples", "commands.js"), MODULE]
-    test("bindings/web: commands by calls, with sessions at random", wrong_commands(commands))
-    test(f"bindings/web: {share_of(SESSIONS)} sessions at random beside the program", wrong_beside_program(commands))
+    test("bindings/web: commands by calls, with sessions at random", wrong_replies(words, inputs_of_commands()))
+    test(f"bindings/web: {share_of(SESSIONS)} sessions at random beside the program", wrong_replies(words, beside_program()))
+    test("bindings/web: the program that carries out commands", wrong_example(words, folder))
     test("bindings/web: the code of its page", wrong_page(words, folder))
     test("bindings/web: each call, and each refusal", wrong_script(words, "web_calls.mjs", MODULE))
     limited = changed_module("limited.wasm", lambda data: with_memory(data, 100))

@@ -6,6 +6,7 @@
  * What a call is given:
  *
  * - `size`: a whole number from 0
+ * - `bool`: a boolean
  * - `bits`: what columns count, 8, 16 or 32; in JavaScript the last argument, and 16 if it is left out
  * - `position`: a position, passed as two sizes
  * - `text`: a string or its UTF-8, passed with its length
@@ -13,15 +14,15 @@
  *
  * What it returns:
  *
- * - `status`: nothing, or what it writes through its last pointer: a structure by its name, or `size`.
- *   A refusal is thrown.
- * - `found`: what it writes through its last pointer, or pointers, if it returns true, and else null
+ * - `status`: nothing, or what it writes through its last pointers: a structure by its name, `size`, `bool`,
+ *   or a size by a name of its own. Several are given as an object. A refusal is thrown.
+ * - `found`: the same if it returns true, and else null
  * - `value`: a number or a boolean, as it returns it
  * - `structure`: a structure, which it writes through its first pointer
  * - `copies`: an array of structures, or of bytes, of which it returns the number
  * - `filled`: an array of a length that is known before. A call that returns no status refuses a range.
  */
-const status = (writes) => ({ form: "status", writes });
+const status = (...writes) => ({ form: "status", writes });
 const found = (...writes) => ({ form: "found", writes });
 const value = (kind) => ({ form: "value", kind });
 const structure = (kind) => ({ form: "structure", kind });

@@ -11,7 +11,7 @@ the attributes of functions, and the functions themselves in two ways, as rattle
 
 - An export first asks whether the module is spent. It is while a call is under way, and from then on if that call never
   returns; then the export traps.
-- A function with a frame traps where the frame is below the end of the stack.
+- A function with a frame traps where the frame is below the end of the stack, before it writes to it.
 
 Nothing proves this step. tests/test_web.py tests what comes of it.
 """
@@ -78,7 +78,7 @@ TOP = re.compile(rf"|;.*|source_filename = .*|{NAME} = (?:private|internal) unna
 ATTRIBUTES = re.compile(r'(attributes #\d+ = \{) (.*) \}')
 DROPPED = r'"probe-stack"="inline-asm"|"stack-probe-size"="\d+"'
 PROCESSOR = r'"target-cpu"="x86-64(?:-v\d)?"'
-KEPT = r'nounwind|nobuiltin|cold|noreturn|nocallback|nofree|nosync|speculatable|willreturn|norecurse|noinline|' \
+KEPT = r'nounwind|nobuiltin|cold|noreturn|nocallback|nofree|nosync|speculatable|willreturn|norecurse|noinline|alwaysinline|' \
     r'memory\([^()]*\)|"frame-pointer"="all"|"no-builtin-(?:bcmp|memcmp|strlen)"'
 ATTRIBUTE = re.compile(rf"({DROPPED})|({PROCESSOR})|({KEPT})")
 FOR_WASM64 = f'"no-builtin-bcmp" "no-builtin-memcmp" "no-builtin-strlen" "target-cpu"="lime1" "target-features"="{FEATURES}"'
@@ -173,7 +173,7 @@ def guarded(head, body):
         return [head, "start:", *allocas, *(FRAME if allocas else []), *rest, "}"]
     leaving = [line for each in rest for line in ([LEAVE] if each.startswith("  ret ") else []) + [each]]
     head = f'{head[:-1]}"wasm-export-name"="{name[1:]}" {{'
-    return [head, "start:", *allocas, *ENTER, *leaving, "}"]
+    return [head, "start:", *allocas, *ENTER, *(FRAME if allocas else []), *leaving, "}"]
 
 
 def retargeted(lines):

@@ -21,10 +21,10 @@ export { REASONS };
 /** How many bytes a session's texts may have if nothing else is asked for: 1 GiB. */
 const LIMIT = 2 ** 30;
 /**
- * The bytes of a module's memory that short arguments and results are in: a structure that a call writes, a
- * text, and an array that it fills.
+ * The bytes of a module's memory that short arguments and results are in: four values that a call writes, each
+ * of at most 64 bytes, then a text, then an array that the call fills.
  */
-const CELLS = { size: 8192, text: 256, array: 4096 };
+const CELLS = { size: 8192, result: 64, text: 256, array: 4096 };
 const LONE_SURROGATE = /\p{Surrogate}/u;
 /** A module that has nothing but a 64-bit memory. */
 const MEMORY64 = Uint8Array.of(0, 0x61, 0x73, 0x6d, 1, 0, 0, 0, 5, 3, 1, 4, 1);
@@ -80,6 +80,11 @@ function measures(kind) {
   return layout(kind);
 }
 
+/** The kind of a value that is written: a size may have a name of its own. */
+function kindOf(name) {
+  return ["size", "bool", "u32"].includes(name) || Object.hasOwn(STRUCTURES, name) ? name : "size";
+}
+
 const layouts = new Map();
 
 /** Where the fields of a structure are, as C lays them out. */
@@ -124,7 +129,7 @@ function bytesOf(text) {
   return isWhole ? new TextEncoder().encode(text) : null;
 }
 
-/** A module in an engine, with its memory. Sessions of one library share that memory. */
+/** A module in an engine, with its memory, which its sessions share. It has a method for each row of FREE_CALLS. */
 export class Library {
   #exports;
   #view = null;
@@ -236,6 +241,7 @@ export class Library {
       if (kind === "bits") return null;
       const argument = rest.shift();
       if (kind === "size") return [numberOf(argument)];
+      if (kind === "bool") return [argument ? 1 : 0];
       if (kind === "position") return positionOf(argument);
       return kind === "edits" ? this.#passEdits(call, argument) : this.#passText(call, argument);
     });
@@ -264,6 +270,22 @@ export class Library {
     if (status !== 0) throw refusal(BY_STATUS[status], call);
   }
 
+  /** The addresses of what a call writes through its last pointers. */
+  #cellsFor(writes) {
+    return writes.map((_, index) => BigInt(this.#cells + CELLS.result * index));
+  }
+
+  /** What a call has written: one value, or several by their names; null for a match that is not found. */
+  #written(writes) {
+    const values = writes.map((name, index) => {
+      const read = this.read(kindOf(name), this.#cells + CELLS.result * index);
+      if (read.found === undefined) return read;
+      const { found, ...match } = read;
+      return found ? match : null;
+    });
+    return values.length < 2 ? values[0] : Object.fromEntries(writes.map((name, index) => [name, values[index]]));
+  }
+
   /** The ways in which calls return something. Each is given the words that come first. */
   #forms = {
     value: (call, words, { kind }) => {
@@ -273,20 +295,11 @@ export class Library {
       return kind === "u32" ? returned >>> 0 : undefined;
     },
     status: (call, words, { writes }) => {
-      const cell = writes === undefined ? [] : [BigInt(this.#cells)];
-      this.#check(call, this.enter(call, [...words, ...cell]));
-      if (writes === undefined) return undefined;
-      const read = this.read(writes, this.#cells);
-      if (read.found === undefined) return read;
-      const { found, ...match } = read;
-      return found ? match : null;
+      this.#check(call, this.enter(call, [...words, ...this.#cellsFor(writes)]));
+      return this.#written(writes);
     },
-    found: (call, words, { writes }) => {
-      const cells = writes.map((_, index) => this.#cells + 8 * index);
-      if (this.enter(call, [...words, ...cells.map(BigInt)]) === 0) return null;
-      if (writes.length === 1) return this.read(writes[0], cells[0]);
-      return Object.fromEntries(writes.map((name, index) => [name, this.read("size", cells[index])]));
-    },
+    found: (call, words, { writes }) =>
+      (this.enter(call, [...words, ...this.#cellsFor(writes)]) === 0 ? null : this.#written(writes)),
     structure: (call, words, { kind }) => {
       this.enter(call, [BigInt(this.#cells), ...words]);
       return this.read(kind, this.#cells);
@@ -325,14 +338,14 @@ export class Library {
     }
   }
 
-  /** The version of the library: 1,000,000 times its first number, 1,000 times its second, and its third. */
-  version() {
-    return this.invoke("version", FREE_CALLS.version, [], []);
+  /** Makes a call of the table that takes no session. */
+  call(name, given) {
+    return this.invoke(name, FREE_CALLS[name], [], given);
   }
 
   /** Where and why a text is no pattern, or null. */
   patternError(pattern) {
-    const { reason, place } = this.invoke("pattern_error", FREE_CALLS.pattern_error, [], [pattern]);
+    const { reason, place } = this.call("pattern_error", [pattern]);
     return reason === 0 ? null : { place, reason: REASONS[reason - 1] };
   }
 }
@@ -401,17 +414,19 @@ export class Session {
   }
 }
 
-for (const name of Object.keys(CALLS)) {
-  const method = camel(name);
-  if (Object.hasOwn(Session.prototype, method)) continue;
-  Object.defineProperty(Session.prototype, method, {
-    value(...given) {
+/** Gives a class a method for each row of a table that it has no method for. */
+function addMethods({ prototype }, table) {
+  for (const name of Object.keys(table)) {
+    if (Object.hasOwn(prototype, camel(name))) continue;
+    const value = function (...given) {
       return this.call(name, given);
-    },
-    configurable: true,
-    writable: true,
-  });
+    };
+    Object.defineProperty(prototype, camel(name), { value, configurable: true, writable: true });
+  }
 }
+
+addMethods(Session, CALLS);
+addMethods(Library, FREE_CALLS);
 if (Symbol.dispose) Session.prototype[Symbol.dispose] = Session.prototype.close;
 
 /** Whether this engine has what the module needs: 64-bit memories. */

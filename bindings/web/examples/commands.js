@@ -4,6 +4,7 @@
  * command. A second argument is the most bytes that a text may have.
  */
 import { readFileSync, writeSync } from "node:fs";
+import { fileURLToPath } from "node:url";
 import { Refused, load } from "../rope-search.js";
 
 /** How many numbers a command has, and the commands that have a payload. */
@@ -76,10 +77,17 @@ function reply(session, [word, numbers, payload]) {
   }
 }
 
-const library = await load(readFileSync(process.argv[2]));
-const session = library.open(process.argv[3] === undefined ? {} : { limit: Number(process.argv[3]) });
-const replies = [];
-for (const command of commandsOf(readFileSync(0))) replies.push(Buffer.from(reply(session, command), "latin1"));
-session.close();
-const all = Buffer.concat(replies);
-for (let at = 0; at < all.length; ) at += writeSync(1, all, at);
+/** What the commands of an input are replied, as far as they are commands. */
+export function replies(session, input) {
+  const told = [];
+  for (const command of commandsOf(input)) told.push(Buffer.from(reply(session, command), "latin1"));
+  return Buffer.concat(told);
+}
+
+if (process.argv[1] === fileURLToPath(import.meta.url)) {
+  const library = await load(readFileSync(process.argv[2]));
+  const session = library.open(process.argv[3] === undefined ? {} : { limit: Number(process.argv[3]) });
+  const told = replies(session, readFileSync(0));
+  session.close();
+  for (let at = 0; at < told.length; ) at += writeSync(1, told, at);
+}
