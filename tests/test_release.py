@@ -11,6 +11,7 @@ from test_bindings import newest_enough, wrong_in_node, wrong_in_rust
 from test_replies import examples_of_page
 from test_sources import broken_links
 from test_language_server import Client
+from test_web import node_words, wrong_in_web
 
 BUILT = ["rope-search", "librope_search_c.a", "librope_search.a", "librope_search.so", "librope_search_c.bc", "rope_search.wasm"]
 INSTALLED = [
@@ -88,7 +89,8 @@ def wrong_session(modules):
 
 
 def wrong_packages(folder):
-    """The package for Rust must find the library from the folder that it lies in, and the module for Node the program."""
+    """The package for Rust must find the library from the folder that it lies in, the module for Node the program, and that
+    for the web its module of WebAssembly."""
     wrong, node = [], newest_enough()
     if shutil.which("cargo"):
         wrong += wrong_in_rust(os.path.join(folder, "rust"), os.path.join(ROOM, "released-target"), PKG_CONFIG="/nowhere/it")
@@ -98,6 +100,11 @@ def wrong_packages(folder):
         wrong += wrong_in_node(node, os.path.join(folder, "node"), PATH="/nowhere", ROPE_SEARCH="")
     else:
         print(f"no Node 18 or later: the module for it isn't tried in {os.path.relpath(folder, ROOM)}")
+    words = node_words()
+    if words:
+        wrong += wrong_in_web(words, os.path.join(folder, "web"))
+    else:
+        print(f"no Node with 64-bit memories: the module of WebAssembly isn't tried in {os.path.relpath(folder, ROOM)}")
     return wrong
 
 

@@ -17,7 +17,7 @@ from browser import Page, Served, chromium
 from harness import LIBRARY_FOLDER, ROOM, TOP, VERSION, run, share_of, short, test
 from protocol import read_commands, spelled, units
 from random_sessions import some_trial
-from test_bindings import copied, differing, inputs_of_commands, ran, read, reasons_declared, structures, wrong_end, wrong_links, wrong_prints
+from test_bindings import copied, differing, inputs_of_commands, ran, read, reasons_declared, shown, structures, wrong_end, wrong_links, wrong_prints
 from test_library import declared
 from test_replies import examples_of_page
 from web_module import sections, with_memory, with_stack
@@ -234,15 +234,15 @@ def node_words():
 PROBE = 'import { isSupported } from "FOLDER/rope-search.js"; process.exitCode = isSupported() ? 0 : 1;'
 
 
-def wrong_page(words, folder):
-    """The code of the page must print what it says, in a folder where the package is installed with the module."""
-    found = re.search(r"(?s)```js\n(.*?)```.*?It prints\n\n```text\n(.*?)```", read("bindings", "web", "README.md"))
-    at = os.path.join(ROOM, "web-page")
+def wrong_in_web(words, package):
+    """The code of the page must print what it says, in a folder where the package is installed."""
+    code, due = shown("web", "js")
+    at = tempfile.mkdtemp(dir=ROOM)
     os.makedirs(os.path.join(at, "node_modules"))
-    os.symlink(folder, os.path.join(at, "node_modules", "rope-search-web"))
+    os.symlink(package, os.path.join(at, "node_modules", "rope-search-web"))
     with open(os.path.join(at, "main.mjs"), "w", encoding="utf-8") as out:
-        out.write(found[1])
-    return wrong_prints([*words, "main.mjs"], at, found[2])
+        out.write(code)
+    return wrong_prints([*words, "main.mjs"], at, due)
 
 
 def wrong_script(words, name, *arguments):
@@ -319,7 +319,7 @@ def test_under_node(words):
     test("bindings/web: commands by calls, with sessions at random", wrong_replies(words, inputs_of_commands()))
     test(f"bindings/web: {share_of(SESSIONS)} sessions at random beside the program", wrong_replies(words, beside_program()))
     test("bindings/web: the program that carries out commands", wrong_example(words, folder))
-    test("bindings/web: the code of its page", wrong_page(words, folder))
+    test("bindings/web: the code of its page", wrong_in_web(words, folder))
     test("bindings/web: each call, and each refusal", wrong_script(words, "web_calls.mjs", MODULE))
     limited = changed_module("limited.wasm", lambda data: with_memory(data, 100))
     test("bindings/web: refused memory leaves the session usable", wrong_script(words, "web_memory.mjs", limited))

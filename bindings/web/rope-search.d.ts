@@ -119,7 +119,7 @@ export function isSupported(): boolean;
 /** Where the module is: its URL, a response, its bytes, or a compiled module, which loads at once. */
 export type Source = URL | string | Response | ArrayBuffer | ArrayBufferView | WebAssembly.Module;
 
-/** Loads the library. Without a source it is `rope_search.wasm` beside this file. */
+/** Loads the library. Without a source it is `rope_search.wasm` beside this file, else in `bin/` of the repository. */
 export function load(source?: Source): Promise<Library>;
 
 /** The library, loaded once. Its sessions share one memory, which grows and never shrinks. */

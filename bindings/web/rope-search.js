@@ -4,7 +4,7 @@
  *
  *     import { load } from "./rope-search.js";
  *
- *     const library = await load(new URL("rope_search.wasm", import.meta.url));
+ *     const library = await load();
  *     const session = library.open();
  *     session.setText("one two\none");
  *     session.setPattern("one");
@@ -448,9 +448,16 @@ async function compiled(source) {
   return WebAssembly.compile(await response.arrayBuffer());
 }
 
+/** The module beside this file, or that of bin/ of the repository or release. */
+async function nearest() {
+  const [beside, built] = ["rope_search.wasm", "../../bin/rope_search.wasm"].map((path) => new URL(path, import.meta.url));
+  return compiled(beside).catch(() => compiled(built));
+}
+
 /** Loads the library into this engine. */
-export async function load(source = new URL("rope_search.wasm", import.meta.url)) {
+export async function load(source) {
   if (!isSupported()) throw new Error("this engine has no 64-bit memories for WebAssembly");
-  const instance = await WebAssembly.instantiate(await compiled(source), {});
+  const module = await (source === undefined ? nearest() : compiled(source));
+  const instance = await WebAssembly.instantiate(module, {});
   return new Library(instance);
 }

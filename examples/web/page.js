@@ -47,11 +47,11 @@ worker.onmessage = ({ data }) => {
     beside.search(data, $("pattern").value);
     return;
   }
-  answered = data.number;
   if (data.broken !== undefined) {
-    $("fault").textContent = `The worker ended: ${data.broken}`;
+    $("fault").textContent = `The session can't go on: ${data.broken}. Load the page anew.`;
     return;
   }
+  answered = data.number;
   show(data.view);
   flush();
   noteIdle();

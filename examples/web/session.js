@@ -202,21 +202,33 @@ function view(reveal, refused) {
   };
 }
 
-onmessage = async ({ data }) => {
-  if (data.do === "text") {
-    const bytes = session.copyText(0, session.textLen());
-    postMessage({ text: bytes.buffer, caret }, [bytes.buffer]);
-    return;
-  }
+/** Carries out a command, and gives the view after it. A refusal is shown; the session is as it was. */
+async function answered(data) {
   let refused = null;
   try {
     await commands[data.do](data);
   } catch (error) {
-    if (!(error instanceof Refused)) {
-      postMessage({ broken: String(error), number: data.number });
-      return;
-    }
+    if (!(error instanceof Refused)) throw error;
     refused = error.message;
   }
-  postMessage({ view: view(REVEALING.includes(data.do), refused), number: data.number });
+  return view(REVEALING.includes(data.do), refused);
+}
+
+async function carryOut(data) {
+  try {
+    if (data.do === "text") {
+      const bytes = session.copyText(0, session.textLen());
+      postMessage({ text: bytes.buffer, caret }, [bytes.buffer]);
+    } else {
+      postMessage({ view: await answered(data), number: data.number });
+    }
+  } catch (error) {
+    postMessage({ broken: String(error), number: data.number });
+  }
+}
+
+/** Commands are carried out in their order, also those that come while the library is loaded. */
+let last = Promise.resolve();
+onmessage = ({ data }) => {
+  last = last.then(() => carryOut(data));
 };
