@@ -6,12 +6,13 @@ import shutil
 import subprocess
 import sys
 
+from browser import chromium
 from harness import FIRST, LIBRARY, LIBRARY_FOLDER, PROGRAM, ROOM, SONAME, TOP, end_of, open_input, start, test
 from test_bindings import newest_enough, wrong_in_node, wrong_in_rust
 from test_replies import examples_of_page
 from test_sources import broken_links
 from test_language_server import Client
-from test_web import node_words, wrong_in_web
+from test_web import node_words, wrong_in_web, wrong_released
 
 BUILT = ["rope-search", "librope_search_c.a", "librope_search.a", "librope_search.so", "librope_search_c.bc", "rope_search.wasm"]
 INSTALLED = [
@@ -126,6 +127,10 @@ def wrong_release():
         top, "examples", "first.session")], capture_output=True, text=True, cwd=folder, env={"PATH": os.environ["PATH"]})
     if shown.returncode or "m 0 16 20" not in shown.stdout:
         wrong.append(shown.stdout + shown.stderr)
+    if chromium():
+        wrong += wrong_released(top)
+    else:
+        print("no chromium: the page of examples/web isn't tried where a release is unpacked")
     bindings = os.path.join(top, "bindings")
     wrong += [path for path in glob.glob(os.path.join(bindings, "**", "*"), recursive=True) if re.search(r"/(target|Cargo\.lock)$", path)]
     return wrong + wrong_session(os.path.join(bindings, "python")) + wrong_packages(bindings)

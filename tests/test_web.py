@@ -20,6 +20,7 @@ from random_sessions import some_trial
 from test_bindings import copied, differing, inputs_of_commands, ran, read, reasons_declared, shown, structures, wrong_end, wrong_links, wrong_prints
 from test_library import declared
 from test_replies import examples_of_page
+from web_lowerings import lacking, wrong_lowerings
 from web_module import sections, with_memory, with_stack
 
 sys.path.insert(0, os.path.join(TOP, "bindings", "web"))
@@ -449,6 +450,28 @@ def wrong_replacement(page):
     return wrong + ([] if [text for _, text, _ in page.value(SHOWN)] == before else ["the undone lines are others"])
 
 
+DROPPED = """((bytes) => {
+  const files = new DataTransfer();
+  files.items.add(new File([new Uint8Array(bytes)], "dropped.txt"));
+  document.getElementById("window").dispatchEvent(new DragEvent("drop", { dataTransfer: files, bubbles: true, cancelable: true }));
+})(BYTES)"""
+
+
+def wrong_files(page):
+    """A file that is dropped on the lines is opened, unless it isn't UTF-8."""
+    set_pattern(page, "é+")
+    data = "é\r\n🐸éé\r\n".encode() + b"\n".join(b"line %d" % number for number in range(40))
+    for given in (data, b"\xff"):
+        page.value(DROPPED.replace("BYTES", json.dumps(list(given))))
+        # The file is read before it is sent.
+        page.wait("document.querySelector('#lines .line').textContent === 'é'")
+        settled(page)
+    page.wait("document.getElementById('fault').textContent !== ''")
+    rows, told = page.value(SHOWN)[:3], text_of(page, "fault")
+    wrong = [] if rows == [[1, "é", [[0, 1]]], [2, "🐸éé", [[2, 4]]], [3, "line 0", []]] else [f"the lines are {rows}"]
+    return wrong + ([] if "not UTF-8" in told else [f"of bytes that aren't UTF-8 it says {told!r}"])
+
+
 def wrong_hanging(page):
     """A pattern on which RegExp takes exponential time: here its matches are there, and RegExp is ended."""
     page.value("document.getElementById('hang').click()")
@@ -458,18 +481,35 @@ def wrong_hanging(page):
     return [] if re.fullmatch(r"[\d,]+ matches|\d+ of [\d,]+", found) else [f"it says {found!r}"]
 
 
-def test_in_browser():
-    with Served(TOP, MODULE) as served, tempfile.TemporaryDirectory(dir=ROOM, ignore_cleanup_errors=True) as home, \
+def in_browser(top, module, checks):
+    """What each of some checks finds wrong with the page of a repository or release."""
+    with Served(top, module) as served, tempfile.TemporaryDirectory(dir=ROOM, ignore_cleanup_errors=True) as home, \
             Page(f"{served.at}/examples/web/", home) as page:
         page.wait(IDLE)
-        for name, wrong in (("a pattern and its matches", wrong_search), ("edits", wrong_edits), ("replacement", wrong_replacement),
-                            ("a pattern on which RegExp hangs", wrong_hanging)):
-            test(f"examples/web in Chromium: {name}", wrong(page))
+        return [check(page) for check in checks]
+
+
+def wrong_released(top):
+    """The page must work where a release is unpacked."""
+    return in_browser(top, os.path.join(top, "bin", "rope_search.wasm"), [wrong_search])[0]
+
+
+PARTS_OF_PAGE = {"a pattern and its matches": wrong_search, "edits": wrong_edits, "replacement": wrong_replacement,
+                 "a pattern on which RegExp hangs": wrong_hanging, "files": wrong_files}
+
+
+def test_in_browser():
+    for name, wrong in zip(PARTS_OF_PAGE, in_browser(TOP, MODULE, PARTS_OF_PAGE.values())):
+        test(f"examples/web in Chromium: {name}", wrong)
 
 
 def test_all():
     test("the heap of the module, beside a model", wrong_heap())
     test(f"the target is changed, but for {len(REFUSED) + 1} lines that are refused", wrong_retargeting())
+    if lacking():
+        print(f"skipped, {lacking()}: both lowerings of a crate that allocates nothing")
+    else:
+        test("both lowerings of a crate that allocates nothing are the same", wrong_lowerings(ROOM))
     test("bindings/web has the version of the repository", wrong_version())
     test("the links of bindings/web/README.md", wrong_links("web"))
     words = node_words()
