@@ -56,19 +56,21 @@ class Page:
         at, answers = os.pipe()
         os.set_inheritable(commands, True)
         os.set_inheritable(answers, True)
-        words = [chromium(), "--headless", "--no-sandbox", "--disable-gpu", "--disable-dev-shm-usage", "--remote-debugging-pipe",
-                 f"--user-data-dir={home}", "--window-size=1100,800", *flags, "about:blank"]
+        words = [chromium(), "--headless", "--no-sandbox", "--disable-gpu", "--disable-dev-shm-usage",
+                 "--remote-debugging-pipe", f"--user-data-dir={home}", "--window-size=1100,800", *flags, "about:blank"]
         # The browser reads commands at 3 and writes answers to 4.
         shell = ["sh", "-c", f"exec 3<&{commands} 4>&{answers}; exec \"$@\"", "sh", *words]
         self.process = subprocess.Popen(shell, pass_fds=(commands, answers), stdin=subprocess.DEVNULL,
                                         stdout=subprocess.DEVNULL, stderr=subprocess.DEVNULL, start_new_session=True)
         os.close(commands)
         os.close(answers)
-        self.to, self.at, self.held, self.number, self.session = to, at, b"", 0, None
+        self.to, self.at, self.held, self.number, self.session, self.events = to, at, b"", 0, None, set()
         target = self.ask("Target.createTarget", url="about:blank")["targetId"]
         self.session = self.ask("Target.attachToTarget", targetId=target, flatten=True)["sessionId"]
         self.ask("Page.enable")
         self.ask("Page.navigate", url=url)
+        while "Page.loadEventFired" not in self.events:
+            self.message()
 
     def __enter__(self):
         return self
@@ -93,7 +95,9 @@ class Page:
                 raise EOFError("the browser has ended")
             self.held += more
         one, _, self.held = self.held.partition(b"\0")
-        return json.loads(one)
+        told = json.loads(one)
+        self.events.add(told.get("method"))
+        return told
 
     def ask(self, method, **parameters):
         self.number += 1

@@ -12,7 +12,8 @@ from test_bindings import newest_enough, wrong_in_node, wrong_in_rust
 from test_replies import examples_of_page
 from test_sources import broken_links
 from test_language_server import Client
-from test_web import node_words, wrong_in_web, wrong_released
+from test_web import node_words, wrong_in_web
+from web_page import wrong_released
 
 BUILT = ["rope-search", "librope_search_c.a", "librope_search.a", "librope_search.so", "librope_search_c.bc", "rope_search.wasm"]
 INSTALLED = [

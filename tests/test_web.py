@@ -13,15 +13,17 @@ import subprocess
 import sys
 import tempfile
 
-from browser import Page, Served, chromium
+from browser import chromium
 from harness import LIBRARY_FOLDER, ROOM, TOP, VERSION, run, share_of, short, test
-from protocol import read_commands, spelled, units
+from protocol import read_commands, spelled
 from random_sessions import some_trial
-from test_bindings import copied, differing, inputs_of_commands, ran, read, reasons_declared, shown, structures, wrong_end, wrong_links, wrong_prints
+from test_bindings import (copied, differing, inputs_of_commands, ran, read, reasons_declared, shown, structures, wrong_end,
+                           wrong_links, wrong_prints)
 from test_library import declared
 from test_replies import examples_of_page
 from web_lowerings import lacking, wrong_lowerings
 from web_module import sections, with_memory, with_stack
+from web_page import PARTS_OF_PAGE, in_browser
 
 sys.path.insert(0, os.path.join(TOP, "bindings", "web"))
 import retarget
@@ -70,7 +72,7 @@ BEFORE = [
     "",
     "declare { i64, i64 } @rattle_alloc(i64 noundef, i64 noundef) #1",
     "",
-    'attributes #0 = { nounwind "frame-pointer"="all" "probe-stack"="inline-asm" "stack-probe-size"="3072" "target-cpu"="x86-64-v2" }',
+    'attributes #0 = { nounwind "probe-stack"="inline-asm" "stack-probe-size"="3072" "target-cpu"="x86-64-v2" }',
     "attributes #1 = { nobuiltin nounwind }",
     "!1 = !{}",
 ]
@@ -92,6 +94,7 @@ REFUSED = [
     (LOAD, "  %r1 = load double, ptr %a0, align 8"), (LOAD, "  %r1 = atomicrmw add ptr %a0, i32 1 seq_cst, align 4"),
     (LOAD, "  indirectbr ptr %a0, [label %start]"), (LOAD, "  %r1 = va_arg ptr %a0, i32"), (LOAD, "  fence seq_cst"),
     (LOAD, "  %r1 = load i32, ptr addrspace(1) %a0, align 4"), (LOAD, "  %r1 = freeze i32 undef"),
+    (LOAD, '  store ptr @"rope_search::inner", ptr %a0, align 8'), (LOAD, "  %r1 = call i32 @elsewhere(ptr %a0)"),
     (LOAD, "  %r1 = getelementptr { i32, ptr }, ptr %a0, i64 1"), (LOAD, "  %enter = add i32 1, 2"),
     (20, "declare i64 @write(i32, ptr, i64) #1"), (20, "declare i32 @llvm.x86.sse42.crc32.32.8(i32, i8) #1"),
     (22, 'attributes #0 = { nounwind "target-cpu"="znver4" }'), (22, "attributes #0 = { nounwind sanitize_address }"),
@@ -114,7 +117,8 @@ def wrong_retargeting():
     due = [
         f'target triple = "{retarget.WASM64[1]}"', '#0 "wasm-export-name"="rope_search_rows" {\nstart:\n  %r0 = alloca',
         "%enter = call zeroext i1 @__rattle_enter()", "  call void @__rattle_leave()\n  ret i32 %r1\n}\n\ndefine internal",
-        "align 4\n  %frame = call ptr @llvm.frameaddress.p0(i32 0)", '"target-cpu"="lime1"', "declare void @__rattle_leave()",
+        "align 4\n  %frame = call ptr @llvm.frameaddress.p0(i32 0)", '"target-cpu"="lime1"',
+        "declare void @__rattle_leave()",
     ]
     wrong = [f"it writes no {part!r}" for part in due if part not in text] + (["it writes x86"] if "x86" in text else [])
     wrong += [] if (exports, functions) == (1, 2) else [f"it counts {exports} exports of {functions} functions"]
@@ -130,7 +134,8 @@ def wrong_retargeting():
 KINDS = {
     # A position is passed as a line and a column.
     ("rope_search_position",): "size size", ("const uint8_t*", "size_t"): "text", ("size_t",): "size", ("uint64_t",): "size",
-    ("uint32_t",): "bits", ("bool",): "bool", ("const rope_search_text_edit*", "size_t", "const uint8_t*", "size_t"): "edits",
+    ("uint32_t",): "bits", ("bool",): "bool",
+    ("const rope_search_text_edit*", "size_t", "const uint8_t*", "size_t"): "edits",
 }
 SIZES = ("index", "count")
 VALUES = {"bool": "bool", "size_t": "size", "uint64_t": "size", "uint32_t": "u32", "rope_search_position": "position"}
@@ -188,14 +193,16 @@ def wrong_tables(node):
     if status:
         return said.splitlines()
     tables, header = json.loads(said), read("include", "rope_search.h")
-    due = {name.removeprefix("rope_search_"): row_of(result, list(kinds)) for name, (result, *kinds) in declared(header).items()}
+    calls = declared(header).items()
+    due = {name.removeprefix("rope_search_"): row_of(result, list(kinds)) for name, (result, *kinds) in calls}
     due.pop("open")
     rows = {**tables["CALLS"], **tables["FREE_CALLS"]}
     wrong = differing("calls", {name: table_row(*row) for name, row in rows.items()}, due)
     forms = {}
     for name, fields in structures(header).items():
+        kinds = re.findall(r"(\w+) ([^;*]+);", fields)
         forms[name.removeprefix("rope_search_")] = {
-            field.strip(): VALUES[kind] for kind, these in re.findall(r"(\w+) ([^;*]+);", fields) for field in these.split(",")}
+            field.strip(): VALUES[kind] for kind, these in kinds for field in these.split(",")}
     forms.pop("rope_search")
     wrong += differing("structures", tables["STRUCTURES"], forms)
     _, reasons, _ = reasons_declared(header, read("bindings", "lua", "rope_search.lua"))
@@ -211,7 +218,8 @@ def wrong_exports():
     due = {*declared(read("include", "rope_search.h")), "heap_alloc", "heap_free", "memory", "__heap_base"}
     with open(MODULE, "rb") as file:
         found = sections(file.read())
-    return [f"{name} isn't as it should be" for name in found.exports ^ due] + [f"it imports {name}" for name in found.imports]
+    wrong = [f"{name} isn't as it should be" for name in found.exports ^ due]
+    return wrong + [f"it imports {name}" for name in found.imports]
 
 
 def wrong_version():
@@ -325,177 +333,8 @@ def test_under_node(words):
     limited = changed_module("limited.wasm", lambda data: with_memory(data, 100))
     test("bindings/web: refused memory leaves the session usable", wrong_script(words, "web_memory.mjs", limited))
     shallow = changed_module("shallow.wasm", lambda data: with_stack(data, 8192))
-    test("bindings/web: the end of the stack is a trap, and the library is lost", wrong_script(words, "web_stack.mjs", MODULE, shallow))
-
-
-# ---- the page in a browser
-
-IDLE = "document.documentElement.dataset.idle === 'true'"
-# The lines that are shown, each its number, its text, and what is marked in it, by columns.
-SHOWN = """[...document.querySelectorAll("#lines .line")].map((line) => {
-  let at = 0;
-  const marks = [];
-  for (const node of line.childNodes) {
-    if (node.nodeName === "MARK") marks.push([at, at + node.textContent.length]);
-    at += node.textContent.length;
-  }
-  return [Number(line.dataset.number), line.textContent, marks];
-})"""
-ARROWS = r"\w+\s*=>\s*\w+"
-
-
-def text_of(page, name):
-    return page.value(f"document.getElementById({name!r}).textContent")
-
-
-def count_of(page):
-    """The number of matches that the page shows, as it shows it."""
-    return re.search(r"[\d,]+(?= match|$)", text_of(page, "place"))[0]
-
-
-def settled(page):
-    page.wait(IDLE)
-
-
-def wrong_marks(page, pattern):
-    """The marks must be what a search anew finds in the lines that are shown."""
-    rows = page.value(SHOWN)
-    wrong = [] if len(rows) > 20 else [f"{len(rows)} lines are shown"]
-    for number, text, marks in rows:
-        due = [[units(text[:place]) for place in found.span()] for found in re.finditer(pattern, text, re.A)]
-        wrong += [] if marks == due else [f"line {number}, {text!r}: {marks}, not {due}"]
-    return wrong + ([] if any(marks for _, _, marks in rows) else ["nothing is marked"])
-
-
-def tab_to(page, name):
-    for _ in range(20):
-        if page.value("document.activeElement.id") == name:
-            return []
-        page.press("Tab")
-    return [f"Tab doesn't lead to {name}"]
-
-
-def set_pattern(page, pattern):
-    page.value("document.getElementById('pattern').focus(), document.getElementById('pattern').select()")
-    page.type(pattern)
-    settled(page)
-
-
-def wrong_search(page):
-    """A pattern, its matches in turn, and one that is none."""
-    wrong = [] if text_of(page, "place") == "no pattern" else [f"at first: {text_of(page, 'place')}"]
-    set_pattern(page, ARROWS)
-    wrong += wrong_marks(page, ARROWS)
-    count = re.match(r"([\d,]+) matches$", text_of(page, "place"))
-    places = []
-    for shift in (False, False, True, True):
-        page.press("Enter", shift=shift)
-        settled(page)
-        places.append(text_of(page, "place").split(" of ")[0])
-    wrong += [] if count and places == ["1", "2", "1", count[1]] else [f"from match to match: {places}, {text_of(page, 'place')}"]
-    wrong += wrong_marks(page, ARROWS)
-    set_pattern(page, "(é")
-    told = text_of(page, "fault")
-    return wrong + ([] if "column 3: a group isn't closed" in told else [f"of no pattern it says {told!r}"])
-
-
-def wrong_edits(page):
-    """Letters that are typed, taken back and made again, with the keyboard alone."""
-    set_pattern(page, ARROWS)
-    before = count_of(page)
-    wrong = tab_to(page, "keys")
-    page.press("Home", control=True)
-    page.type("a => b ")
-    page.press("Enter")
-    page.type("c =")
-    page.type("> d")
-    settled(page)
-    edited = [text for _, text, _ in page.value(SHOWN)][:2]
-    wrong += [] if edited[0] == "a => b " and edited[1].startswith("c => dType") else [f"the edited lines are {edited}"]
-    wrong += wrong_marks(page, ARROWS)
-    for control, shift, due in (("z", False, "c =Type"), ("z", False, "Type"), ("y", False, "c =Type"), ("z", True, "c => dType")):
-        page.press(control, control=True, shift=shift)
-        settled(page)
-        line = page.value(SHOWN)[1][1]
-        wrong += [] if line.startswith(due) else [f"after {control}: {line!r}"]
-        wrong += wrong_marks(page, ARROWS)
-    for _ in range(4):
-        page.press("z", control=True)
-    settled(page)
-    after = page.value(SHOWN)[0][1]
-    wrong += [] if after.startswith("Type") else [f"after all undos: {after!r}"]
-    return wrong + ([] if count_of(page) == before else [f"after all undos {count_of(page)} matches, not {before}"])
-
-
-def wrong_replacement(page):
-    set_pattern(page, ARROWS)
-    before = [text for _, text, _ in page.value(SHOWN)]
-    page.value("document.getElementById('template').focus()")
-    page.type("[$0]")
-    page.press("Enter")  # goes to a match
-    page.press("Enter")  # and replaces it
-    settled(page)
-    page.value("document.getElementById('replaceAll').click()")
-    settled(page)
-    page.value("document.getElementById('keys').focus()")
-    page.press("Home", control=True)
-    settled(page)
-    due = re.sub(ARROWS, r"[\g<0>]", "\n".join(before), flags=re.A).replace("[[", "[").replace("]]", "]")
-    got = "\n".join(text for _, text, _ in page.value(SHOWN)).replace("[[", "[").replace("]]", "]")
-    wrong = [] if got == due else ["the lines after a replacement are others"]
-    page.press("z", control=True)
-    page.press("z", control=True)
-    page.press("Home", control=True)
-    settled(page)
-    return wrong + ([] if [text for _, text, _ in page.value(SHOWN)] == before else ["the undone lines are others"])
-
-
-DROPPED = """((bytes) => {
-  const files = new DataTransfer();
-  files.items.add(new File([new Uint8Array(bytes)], "dropped.txt"));
-  document.getElementById("window").dispatchEvent(new DragEvent("drop", { dataTransfer: files, bubbles: true, cancelable: true }));
-})(BYTES)"""
-
-
-def wrong_files(page):
-    """A file that is dropped on the lines is opened, unless it isn't UTF-8."""
-    set_pattern(page, "é+")
-    data = "é\r\n🐸éé\r\n".encode() + b"\n".join(b"line %d" % number for number in range(40))
-    for given in (data, b"\xff"):
-        page.value(DROPPED.replace("BYTES", json.dumps(list(given))))
-        # The file is read before it is sent.
-        page.wait("document.querySelector('#lines .line').textContent === 'é'")
-        settled(page)
-    page.wait("document.getElementById('fault').textContent !== ''")
-    rows, told = page.value(SHOWN)[:3], text_of(page, "fault")
-    wrong = [] if rows == [[1, "é", [[0, 1]]], [2, "🐸éé", [[2, 4]]], [3, "line 0", []]] else [f"the lines are {rows}"]
-    return wrong + ([] if "not UTF-8" in told else [f"of bytes that aren't UTF-8 it says {told!r}"])
-
-
-def wrong_hanging(page):
-    """A pattern on which RegExp takes exponential time: here its matches are there, and RegExp is ended."""
-    page.value("document.getElementById('hang').click()")
-    settled(page)
-    found = text_of(page, "place")
-    page.wait("document.getElementById('thereAll').textContent === 'ended after 2 s'")
-    return [] if re.fullmatch(r"[\d,]+ matches|\d+ of [\d,]+", found) else [f"it says {found!r}"]
-
-
-def in_browser(top, module, checks):
-    """What each of some checks finds wrong with the page of a repository or release."""
-    with Served(top, module) as served, tempfile.TemporaryDirectory(dir=ROOM, ignore_cleanup_errors=True) as home, \
-            Page(f"{served.at}/examples/web/", home) as page:
-        page.wait(IDLE)
-        return [check(page) for check in checks]
-
-
-def wrong_released(top):
-    """The page must work where a release is unpacked."""
-    return in_browser(top, os.path.join(top, "bin", "rope_search.wasm"), [wrong_search])[0]
-
-
-PARTS_OF_PAGE = {"a pattern and its matches": wrong_search, "edits": wrong_edits, "replacement": wrong_replacement,
-                 "a pattern on which RegExp hangs": wrong_hanging, "files": wrong_files}
+    wrong = wrong_script(words, "web_stack.mjs", MODULE, shallow)
+    test("bindings/web: the end of the stack is a trap, and the library is lost", wrong)
 
 
 def test_in_browser():
@@ -518,7 +357,8 @@ def test_all():
     else:
         test("bindings/web has the calls of the header", wrong_tables(words[0]))
     if not os.path.exists(MODULE):
-        print(f"skipped, no {os.path.relpath(MODULE, TOP)}, which make web builds: the module of bindings/web, and examples/web")
+        what = "the module of bindings/web, and examples/web"
+        print(f"skipped, no {os.path.relpath(MODULE, TOP)}, which make web builds: {what}")
         return
     test("the module exports the header's calls, and imports nothing", wrong_exports())
     if words is not None:

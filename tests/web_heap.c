@@ -1,11 +1,11 @@
 /*
- * Random requests to the heap of the module of WebAssembly, beside a model: which blocks are in use,
- * and the bytes in them.
+ * Random requests to the heap of the module of WebAssembly, beside a model: which blocks are in
+ * use, and the bytes in them.
  *
  *     cc -fsanitize=address,undefined tests/web_heap.c -o web_heap && ./web_heap [SEEDS]
  *
- * The memory is an array here. It grows as far as a limit that changes, and now and then somebody else
- * grows it. The rules of bindings/web/heap.c are read off the blocks themselves.
+ * The memory is an array here. It grows as far as a limit that changes, and now and then somebody
+ * else grows it. The rules of bindings/web/heap.c are read off the blocks themselves.
  */
 #include <stdio.h>
 #include <stdlib.h>
@@ -135,7 +135,7 @@ static usize listed(void)
     return all;
 }
 
-/* What the blocks of all regions are: how many are free, the largest of these, and all their bytes. */
+/* The blocks of all regions: how many are free, the largest of these, and all their bytes. */
 static struct summary {
     usize free, largest, bytes;
 } blocks(void)
@@ -163,8 +163,10 @@ static struct summary {
                 all.largest = size > all.largest ? size : all.largest;
             } else {
                 unsigned owner = owners[((byte *)bytes_of(block) - memory) / GRAIN];
-                if (!owner || live[owner - 1].at != bytes_of(block) || live[owner - 1].size + HEAD > size)
-                    wrong("a block in use is nobody's, or is too small");
+                if (!owner || live[owner - 1].at != bytes_of(block))
+                    wrong("a block in use is nobody's");
+                if (live[owner - 1].size + HEAD > size)
+                    wrong("a block in use is too small");
                 used++;
             }
         }
@@ -182,7 +184,7 @@ static void check(void)
         wrong("a free block isn't listed, or twice");
 }
 
-/* Memory may be refused only if no free block is large enough and the memory can't grow by what lacks. */
+/* Memory may be refused only if no free block is large enough and the memory can't grow enough. */
 static void check_refusal(usize size)
 {
     usize need = size_for(size), at_end = region_end ? free_at_end() : 0;
@@ -283,7 +285,8 @@ static void some_step(void)
     } else if (roll < 8) {
         limit = pages + below(PAGES - pages + 1);
     } else if (roll < 20) {
-        if (rattle_alloc(~(usize)0 - below(1000), 1).is_done || heap_alloc((usize)1 << (48 + below(16))))
+        usize huge = (usize)1 << (48 + below(16));
+        if (rattle_alloc(~(usize)0 - below(1000), 1).is_done || heap_alloc(huge))
             wrong("a size is granted that no block has");
     } else if (roll < 450 && count < LIVE) {
         some_alloc();

@@ -1,5 +1,5 @@
-"""A crate that allocates nothing, as rattle lowers it for wasm64, beside what bindings/web/retarget.py makes of what it lowers
-for x86-64: the same functions, but for what surrounds exports.
+"""A crate that allocates nothing, as rattle lowers it for wasm64, beside what bindings/web/retarget.py makes of what it
+lowers for x86-64: the same functions, but for what surrounds exports.
 
 rattle proves the crate for each, over str_indices, which rt ci or make has built.
 """
@@ -28,8 +28,8 @@ for word in "$@"; do
 done
 exit 1
 """
-FRAME = [r"  % = call ptr @llvm.frameaddress.p0\(i32 0\)", r"  % = ptrto(?:int|addr) ptr % to i64", r"  % = icmp slt i64 %, 16",
-         r"  br i1 %, label %, label %"]
+FRAME = [r"  % = call ptr @llvm.frameaddress.p0\(i32 0\)", r"  % = ptrto(?:int|addr) ptr % to i64",
+         r"  % = icmp slt i64 %, 16", r"  br i1 %, label %, label %"]
 
 
 def rlib(name):
@@ -50,12 +50,14 @@ def lowered(target, room):
     toolchain, clang = toolchain_in(folder, KEEPING)
     os.mkdir(f"{folder}/src")
     shutil.copy(f"{ROOT}/tests/web_lowered/lib.rt.txt", f"{folder}/src/lib.rt")
-    words = [f"{kit()}/bin/rattle", "build", "--crate-name", NAME, "src/lib.rt", "--crate-type", "staticlib", "--target", target,
-             "--extern", f"std={kit()}/rlibs/std.rlib", "--extern", f"str_indices={rlib('str_indices')}/str_indices.rlib",
+    words = [f"{kit()}/bin/rattle", "build", "--crate-name", NAME, "src/lib.rt", "--crate-type", "staticlib",
+             "--target", target, "--extern", f"std={kit()}/rlibs/std.rlib",
+             "--extern", f"str_indices={rlib('str_indices')}/str_indices.rlib",
              *(word for at in (f"{kit()}/rlibs", *map(rlib, LIBRARIES)) for word in ("-L", f"dependency={at}")),
              "--antt-project", f"{kit()}/rattle/logic/antt-project.json", "--logic-built", f"{kit()}/logic_built",
              "--toolchain", toolchain, "--backend", "llvm", "--jobs", "1", "-o", f"{folder}/made.a"]
-    ran = subprocess.run(words, cwd=folder, stdin=subprocess.DEVNULL, stdout=subprocess.PIPE, stderr=subprocess.STDOUT, text=True)
+    ran = subprocess.run(words, cwd=folder, stdin=subprocess.DEVNULL, stdout=subprocess.PIPE, stderr=subprocess.STDOUT,
+                         text=True)
     if not os.path.exists(f"{clang}.bc"):
         return None, ran.stdout.splitlines()[-5:]
     subprocess.run([f"{kit()}/toolchain/bin/clang", f"--target={target}", "-x", "ir", "-S", "-emit-llvm", "-Xclang",
@@ -101,7 +103,8 @@ def wrong_lowerings(room):
             return said
         texts.append(text)
     ours, kits = functions(retarget.retargeted(texts[0])[0]), functions(texts[1])
-    exports = set(re.findall(r'pub extern "C" fn (\w+)', open(f"{ROOT}/tests/web_lowered/lib.rt.txt", encoding="utf-8").read()))
+    with open(f"{ROOT}/tests/web_lowered/lib.rt.txt", encoding="utf-8") as source:
+        exports = set(re.findall(r'pub extern "C" fn (\w+)', source.read()))
     inner = {f'"rattle::export {name}"' for name in exports}
     wrong = [f"{name} is in one alone" for name in set(ours) ^ set(kits) ^ inner]
     same = [name for name in set(ours) & set(kits) if counted(ours[name]) == counted(kits[name])]

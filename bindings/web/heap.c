@@ -1,6 +1,5 @@
 /*
- * The heap of the module of WebAssembly: what malloc, realloc and free are where the library is linked
- * natively.
+ * The heap of the module of WebAssembly, in place of malloc, realloc and free of a native program.
  *
  * The memory consists of regions. Mostly there is one, which grows at its end; a second one begins
  * only if somebody else grew the memory in between. A region is a row of blocks without gaps, and
@@ -46,7 +45,7 @@ struct class {
 
 /* What the library's calls for memory return. It never reads the address after a refusal. */
 struct tried {
-    _Bool is_done;
+    usize is_done; /* 0 or 1 */
     void *address;
 };
 
@@ -172,7 +171,7 @@ static void unlist(struct block *block)
     }
 }
 
-/* Makes `size` bytes at `block`, which no list has, a free block, joined with those before and after it. */
+/* Makes `size` bytes at `block`, which no list has, a free block, joined with its neighbours. */
 static void release(struct block *block, usize size)
 {
     struct block *after = (struct block *)((byte *)block + size);
@@ -193,7 +192,7 @@ static void release(struct block *block, usize size)
     list(block);
 }
 
-/* Makes the front of a block, which no list has, one of this size in use, and frees what is left over. */
+/* Makes the front of a block, which no list has, one of this size in use, and frees the rest. */
 static void use(struct block *block, usize size)
 {
     usize all = size_of(block), rest = all - size;
@@ -208,8 +207,8 @@ static void use(struct block *block, usize size)
     }
 }
 
-/* A free block of this size at least, or null: one of a class whose blocks all have it, or else one of
-   the class below that has it. */
+/* A free block of this size at least, or null: one of a class whose blocks all have it, or else one
+   of the class below that has it. */
 static struct block *find(usize size)
 {
     struct class class = class_for(size);
@@ -242,7 +241,7 @@ static void add_region(byte *start, byte *end)
     release(first, (usize)((byte *)last - (byte *)first));
 }
 
-/* Grows the memory by so many bytes at least, which become free, joined with what was free at its end. */
+/* Grows the memory by so many bytes at least, which are free, joined with those at its end. */
 static _Bool grow(usize bytes)
 {
     byte *end = memory_end();
@@ -295,7 +294,7 @@ static struct block *take(usize bytes)
     return block;
 }
 
-/* Whether a block is made to have this size at least where it is, together with a free one after it. */
+/* Makes a block have this size at least where it is, together with a free one after it. */
 static _Bool is_resized(struct block *block, usize size)
 {
     struct block *after = block_after(block);
@@ -310,7 +309,7 @@ static _Bool is_resized(struct block *block, usize size)
     return 1;
 }
 
-/* Whether nothing but free bytes is between a block and the memory's end; then how many it lacks. */
+/* The bytes that a block lacks, if only free bytes are between it and the memory's end; else 0. */
 static usize lacks_at_end(struct block *block, usize size)
 {
     struct block *after = block_after(block);

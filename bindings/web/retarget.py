@@ -73,8 +73,8 @@ ALLOCA = re.compile(r"  %[\w.]+ = alloca ")
 DEFINITION = re.compile(rf"define (internal )?({RESULT}) ({NAME})\(({PARAMETERS})\) (?:unnamed_addr )?#\d+ \{{")
 DECLARATION = re.compile(rf"declare {RESULT} ({INTRINSICS}|{OF_C})\({PARAMETERS}\)(?: (?:local_)?unnamed_addr)? #\d+")
 CALLED = re.compile(rf"({NAME})\(")
-TOP = re.compile(rf"|;.*|source_filename = .*|{NAME} = (?:private|internal) unnamed_addr constant .*, align \d+"
-                 r"|!llvm\.ident = .*|!\d+ = !\{.*\}")
+CONSTANT = re.compile(rf"({NAME}) = (?:private|internal) unnamed_addr constant .*, align \d+")
+TOP = re.compile(rf"|;.*|source_filename = .*|{CONSTANT.pattern}|!llvm\.ident = .*|!\d+ = !\{{.*\}}")
 ATTRIBUTES = re.compile(r'(attributes #\d+ = \{) (.*) \}')
 DROPPED = r'"probe-stack"="inline-asm"|"stack-probe-size"="\d+"'
 PROCESSOR = r'"target-cpu"="x86-64(?:-v\d)?"'
@@ -143,20 +143,24 @@ def attributes_line(line):
     return f"{head} {' '.join(kept)} }}"
 
 
-def check_calls(line, defined):
-    """A call is of a function of the module, of an intrinsic, or of what heap.c has."""
-    name = CALLED.search(line)[1]
-    if name not in defined and not re.fullmatch(f"{INTRINSICS}|{OF_C}", name):
+def check_names(line, defined, constants):
+    """A call is of a function of the module, of an intrinsic, or of what heap.c has. What else is named is a constant: no
+    function's address is taken."""
+    names = re.findall(NAME, line)
+    if " call " in line:
+        called = CALLED.search(line)[1]
+        names.remove(called)
+        if called not in defined and not re.fullmatch(f"{INTRINSICS}|{OF_C}", called):
+            raise Unknown(line)
+    if not constants.issuperset(names) or NEW_NAMES.search(line):
         raise Unknown(line)
 
 
-def check_body(lines, defined):
+def check_body(lines, defined, constants):
     for line in lines:
         if INSTRUCTION.fullmatch(line):
-            if " call " in line:
-                check_calls(line, defined)
-            if NEW_NAMES.search(line):
-                raise Unknown(line)
+            if "@" in line or NEW_NAMES.search(line):
+                check_names(line, defined, constants)
         elif line and not LABEL.fullmatch(line) and not CASE.fullmatch(line):
             raise Unknown(line)
 
@@ -179,6 +183,7 @@ def guarded(head, body):
 def retargeted(lines):
     """The lines of the module for the new target."""
     defined = {known(DEFINITION, line)[3] for line in lines if line.startswith("define ")}
+    constants = {found[1] for found in map(CONSTANT.fullmatch, lines) if found}
     out, at, exports = [], 0, 0
     while at < len(lines):
         line = lines[at]
@@ -187,7 +192,7 @@ def retargeted(lines):
             end = lines.index("}", at)
             if lines[at] != "start:":
                 raise Unknown(lines[at])
-            check_body(lines[at + 1:end], defined)
+            check_body(lines[at + 1:end], defined, constants)
             out += guarded(line, lines[at + 1:end])
             exports += " internal " not in line.partition("@")[0]
             at = end + 1
