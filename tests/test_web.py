@@ -153,16 +153,23 @@ def passed(kinds):
     return " ".join(found)
 
 
+def is_array(kinds):
+    """Whether the last two types are an array that a call writes to, and its length."""
+    return len(kinds) > 1 and kinds[-1] == "size_t" and kinds[-2].endswith("*") and not kinds[-2].startswith("const")
+
+
 def row_of(result, kinds):
     """What calls.js has to have of a call of C, its session left out."""
     kinds = [kind.replace(" *", "*") for kind in kinds]
     has_session, kinds = kinds[:1] == ["rope_search*"], [kind for kind in kinds if kind != "rope_search*"]
     if result.startswith("rope_search_"):
         return passed(kinds), ["structure", result.removeprefix("rope_search_")]
-    is_array = len(kinds) > 1 and kinds[-1] == "size_t" and kinds[-2].endswith("*") and not kinds[-2].startswith("const")
-    if is_array:
-        kind = "byte" if kinds[-2] == "uint8_t*" else kinds[-2].removeprefix("rope_search_").rstrip("*")
-        return passed(kinds[:-2]), ["copies" if result == "size_t" else "filled", kind]
+    writes_count = kinds[-2:] == ["size_t", "size_t*"]
+    if is_array(kinds[:-1] if writes_count else kinds):
+        *front, array, _ = kinds[:-1] if writes_count else kinds
+        kind = "byte" if array == "uint8_t*" else array.removeprefix("rope_search_").rstrip("*")
+        form = "copies" if writes_count or result == "size_t" else "filled"
+        return passed(front), [form, kind, "status" if result == "uint32_t" else "count" if form == "copies" else "bool"]
     written = [kind for kind in kinds if kind.endswith("*") and not kind.startswith("const")]
     writes = [VALUES.get(kind.rstrip("*")) or kind.removeprefix("rope_search_").rstrip("*") for kind in written]
     front = passed(kinds[: len(kinds) - len(writes)])
@@ -178,7 +185,9 @@ def table_row(takes, returns):
     writes = returns.get("writes") or returns.get("kind") or []
     writes = writes if isinstance(writes, list) else [writes]
     # Numbers that are written may have names of their own.
-    return takes.replace("position", "size size"), [form, *("size" if name in SIZES else name for name in writes)]
+    said = ["size" if name in SIZES else name for name in writes]
+    returned = [returns["returns"]] if "returns" in returns else []
+    return takes.replace("position", "size size"), [form, *said, *returned]
 
 
 TABLES = """import * as calls from "FOLDER/calls.js";

@@ -19,14 +19,15 @@
  * - `found`: the same if it returns true, and else null
  * - `value`: a number or a boolean, as it returns it
  * - `structure`: a structure, which it writes through its first pointer
- * - `copies`: an array of structures, or of bytes, of which it returns the number
+ * - `copies`: an array of structures, or of bytes, of which it returns the number, or writes it through its
+ *   last pointer and returns a status
  * - `filled`: an array of a length that is known before. A call that returns no status refuses a range.
  */
 const status = (...writes) => ({ form: "status", writes });
 const found = (...writes) => ({ form: "found", writes });
 const value = (kind) => ({ form: "value", kind });
 const structure = (kind) => ({ form: "structure", kind });
-const copies = (kind) => ({ form: "copies", kind });
+const copies = (kind, returns = "count") => ({ form: "copies", kind, returns });
 const filled = (kind, count, returns = "bool") => ({ form: "filled", kind, count, returns });
 
 /** How long arrays are that calls fill. */

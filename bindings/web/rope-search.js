@@ -286,6 +286,14 @@ export class Library {
     return values.length < 2 ? values[0] : Object.fromEntries(writes.map((name, index) => [name, values[index]]));
   }
 
+  /** Makes a call that copies as much as there is room for: the number of all, which it returns or writes. */
+  #copied(call, words, returns, at, room) {
+    const passed = [...words, BigInt(at), BigInt(room)];
+    if (returns === "count") return Number(this.enter(call, passed));
+    this.#check(call, this.enter(call, [...passed, BigInt(this.#cells)]));
+    return this.read("size", this.#cells);
+  }
+
   /** The ways in which calls return something. Each is given the words that come first. */
   #forms = {
     value: (call, words, { kind }) => {
@@ -304,13 +312,13 @@ export class Library {
       this.enter(call, [BigInt(this.#cells), ...words]);
       return this.read(kind, this.#cells);
     },
-    copies: (call, words, { kind }) => {
+    copies: (call, words, { kind, returns }) => {
       const { size } = measures(kind);
       let [at, room] = [this.#cells + CELLS.array, Math.floor((CELLS.size - CELLS.array) / size)];
-      let count = Number(this.enter(call, [...words, BigInt(at), BigInt(room)]));
+      let count = this.#copied(call, words, returns, at, room);
       if (count > room) {
         [at, room] = [this.#lend(call, size * count), count];
-        count = Number(this.enter(call, [...words, BigInt(at), BigInt(room)]));
+        count = this.#copied(call, words, returns, at, room);
       }
       return this.readAll(kind, at, count);
     },
