@@ -78,7 +78,7 @@ TOP = re.compile(rf"|;.*|source_filename = .*|{CONSTANT.pattern}|!llvm\.ident = 
 ATTRIBUTES = re.compile(r'(attributes #\d+ = \{) (.*) \}')
 DROPPED = r'"probe-stack"="inline-asm"|"stack-probe-size"="\d+"'
 PROCESSOR = r'"target-cpu"="x86-64(?:-v\d)?"'
-KEPT = r'nounwind|nobuiltin|cold|noreturn|nocallback|nofree|nosync|speculatable|willreturn|norecurse|noinline|alwaysinline|' \
+KEPT = r'nounwind|nobuiltin|cold|noreturn|nocallback|nofree|nosync|speculatable|willreturn|norecurse|noinline|alwaysinline|inlinehint|' \
     r'memory\([^()]*\)|"frame-pointer"="all"|"no-builtin-(?:bcmp|memcmp|strlen)"'
 ATTRIBUTE = re.compile(rf"({DROPPED})|({PROCESSOR})|({KEPT})")
 FOR_WASM64 = f'"no-builtin-bcmp" "no-builtin-memcmp" "no-builtin-strlen" "target-cpu"="lime1" "target-features"="{FEATURES}"'
