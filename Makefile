@@ -14,10 +14,10 @@
 #               names some crates, or files as NAME/src/FILE, JOBS=N tries N crates at a time
 # make lib      builds the library that C links, bin/librope_search.a, the shared bin/librope_search.so, and
 #               bin/rope_search.pc for pkg-config; include/rope_search.h declares it
-# make web      builds the library as a module of WebAssembly, bin/rope_search.wasm, from what the build of the
-#               library leaves: nothing is proved again, and nothing proves this step
-# make install  puts the program, its manual, the library with its header and modules, that of WebAssembly too, and the pages below
-#               PREFIX (/usr/local), or below DESTDIR and that
+# make web      builds the library as a module of WebAssembly, bin/rope_search.wasm, from what its build
+#               leaves: nothing is proved again, and nothing proves this step
+# make install  puts the program, its manual, the library with its header and modules, also that of
+#               WebAssembly, and the pages below PREFIX (/usr/local), or below DESTDIR and that
 # make release  packs the same as bin/rope-search-VERSION-x86_64-linux.tar.gz, for those who don't have the kit, with all
 #               pages, the examples and the modules where they are here, so that links lead and the examples run
 # make bench    measures texts, reports, edits, ropes, patterns and searches. TOPICS='NAME ..' names some
