@@ -14,8 +14,10 @@
 #               names some crates, or files as NAME/src/FILE, JOBS=N tries N crates at a time
 # make lib      builds the library that C links, bin/librope_search.a, the shared bin/librope_search.so, and
 #               bin/rope_search.pc for pkg-config; include/rope_search.h declares it
-# make install  puts the program, its manual, the library with its header and modules, and the pages below
-#               PREFIX (/usr/local), or below DESTDIR and that
+# make web      builds the library as a module of WebAssembly, bin/rope_search.wasm, from what its build
+#               leaves: nothing is proved again, and nothing proves this step
+# make install  puts the program, its manual, the library with its header and modules, also that of
+#               WebAssembly, and the pages below PREFIX (/usr/local), or below DESTDIR and that
 # make release  packs the same as bin/rope-search-VERSION-x86_64-linux.tar.gz, for those who don't have the kit, with all
 #               pages, the examples and the modules where they are here, so that links lead and the examples run
 # make bench    measures texts, reports, edits, ropes, patterns and searches. TOPICS='NAME ..' names some
@@ -45,7 +47,7 @@ need_rt = $(if $(shell command -v $(RT) 2>/dev/null),,$(error $(missing)))
 news := sed -unE -e 's/^rt: chose .* for (.*)/\1/p' -e 's/^so far: ([0-9]+ of [0-9]+ functions).*/    \1/p' \
 	-e 's/^(logic=[^ ]+ functions=[0-9]+).*/    \1/p'
 
-.PHONY: all programs lib demo check test gate edits bench install release clean
+.PHONY: all programs lib web demo check test gate edits bench install release clean
 .DELETE_ON_ERROR:
 
 all: $(program)
@@ -101,6 +103,18 @@ bin/rope_search.pc: bin/librope_search.a VERSION
 	@printf 'prefix=%s\nName: rope_search\nDescription: %s\nVersion: %s\nCflags: -I$${prefix}/include\nLibs: -L$${prefix}/bin -lrope_search\n' \
 		'$(CURDIR)' 'a regular expression kept live over a text that is edited' '$(version)' > $@.new && mv $@.new $@
 
+web: bin/rope_search.wasm
+
+# What the kit's clang was given for the library. The proof that rt lib keeps is taken, and none made; where
+# tests/static built the library, it has left this.
+bin/librope_search_c.bc: bin/librope_search_c.a
+	@:$(need_rt)
+	@RT='$(RT)' tests/static --bitcode rope_search_c '$(CURDIR)' $@ crates/rope_search_c/out/incremental
+
+bin/rope_search.wasm: bin/librope_search_c.bc $(addprefix bindings/web/,build retarget.py heap.c)
+	@:$(need_rt)
+	@RT='$(RT)' bindings/web/build $< $@
+
 # What is installed, below $(root): there the modules look for the library in lib/.
 root = $(DESTDIR)$(PREFIX)
 pages := README.md CHANGELOG.md LICENSE-APACHE LICENSE-MIT NOTICE docs/protocol.md docs/patterns.md docs/embedding.md
@@ -117,13 +131,15 @@ define put_down
 	@sed 's/@VERSION@/$(version)/' docs/rope-search.1 > '$(root)/share/man/man1/rope-search.1'
 	@install -m 644 $(pages) '$(root)/share/doc/rope-search'
 	@install -m 644 bindings/python/rope_search.py bindings/lua/rope_search.lua '$(root)/share/rope-search'
-	@install -d '$(root)/share/rope-search/rust/src' '$(root)/share/rope-search/node'
+	@install -d '$(root)/share/rope-search/rust/src' '$(root)/share/rope-search/node' '$(root)/share/rope-search/web'
 	@install -m 644 bindings/rust/Cargo.toml bindings/rust/build.rs '$(root)/share/rope-search/rust'
 	@install -m 644 bindings/rust/src/*.rs '$(root)/share/rope-search/rust/src'
 	@install -m 644 bindings/node/package.json bindings/node/*.js bindings/node/*.ts '$(root)/share/rope-search/node'
+	@install -m 644 bindings/web/package.json bindings/web/*.js bindings/web/*.ts bin/rope_search.wasm \
+		'$(root)/share/rope-search/web'
 endef
 
-install: $(program) lib
+install: $(program) lib web
 	$(put_down)
 
 release := rope-search-$(version)-x86_64-linux
@@ -134,10 +150,11 @@ packed := README.md CHANGELOG.md CONTRIBUTING.md LICENSE-APACHE LICENSE-MIT NOTI
 RELEASES ?= bin
 
 release: root = $(RELEASES)/$(release)
-release: $(program) lib
+release: $(program) lib web
 	@rm -rf '$(root)' '$(root).tar.gz'
 	$(put_down)
 	@rm -r '$(root)/share/doc'
+	@install -m 644 bin/rope_search.wasm '$(root)/bin'
 	@tar --exclude=__pycache__ --exclude=target --exclude=node_modules --exclude=Cargo.lock -cf - $(packed) | tar -C '$(root)' -xf -
 	@tar -C '$(RELEASES)' --sort=name --owner=0 --group=0 --numeric-owner -czf '$(root).tar.gz' $(release)
 	@rm -rf '$(root)'

@@ -40,6 +40,20 @@ def kit():
     return os.path.dirname(doc.strip())
 
 
+def toolchain_in(room, script):
+    """A toolchain in a folder whose clang is a script, in which {clang} is the kit's; and the path of that script."""
+    os.makedirs(f"{room}/toolchain/bin")
+    os.symlink(f"{kit()}/toolchain/lib", f"{room}/toolchain/lib")
+    for tool in os.listdir(f"{kit()}/toolchain/bin"):
+        if tool != "clang":
+            os.symlink(f"{kit()}/toolchain/bin/{tool}", f"{room}/toolchain/bin/{tool}")
+    clang = f"{room}/toolchain/bin/clang"
+    with open(clang, "w", encoding="utf-8") as file:
+        file.write(script.format(clang=f"{kit()}/toolchain/bin/clang"))
+    os.chmod(clang, 0o755)
+    return f"{room}/toolchain", clang
+
+
 def is_static(name):
     """Whether the crate is a static library, for programs that aren't Rattle's to link."""
     with open(f"{ROOT}/crates.txt", encoding="utf-8") as file:
@@ -79,9 +93,9 @@ def copied(name, room):
     return f"{room}/crates/{name}"
 
 
-def words_over(command, name, libraries, jobs):
+def words_over(command, name, libraries, jobs, toolchain=None):
     """The words of rattle that check or build a crate, in its own folder, over the libraries that are built in a folder
-    of crates: so many functions are proved at a time."""
+    of crates: so many functions are proved at a time. Another toolchain than the kit's may compile it."""
     top = "src/main.rt" if os.path.exists(f"{ROOT}/crates/{name}/src/main.rt") else "src/lib.rt"
     words = [f"{kit()}/bin/rattle", command, "--crate-name", name, top, "--extern", f"std={kit()}/rlibs/std.rlib"]
     crates = below(name)
@@ -94,5 +108,5 @@ def words_over(command, name, libraries, jobs):
         words += ["-L", f"dependency={folder}"]
     words += ["--antt-project", f"{kit()}/rattle/logic/antt-project.json", "--logic-built", f"{kit()}/logic_built"]
     if command == "build":
-        words += ["--toolchain", f"{kit()}/toolchain", "--backend", "llvm"]
+        words += ["--toolchain", toolchain or f"{kit()}/toolchain", "--backend", "llvm"]
     return [*words, "--jobs", jobs]

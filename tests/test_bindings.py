@@ -103,16 +103,21 @@ def wrong_in_node(node, package, **environment):
     return wrong_prints([node, "main.mjs"], folder, due, **environment)
 
 
-def wrong_commands(words, **environment):
-    """What is wrong with a program that carries out commands by calls of a binding: of the worked inputs, of more, and of
-    sessions at random, as the model replies them. Where an input ends early the program's last line is left out."""
+def inputs_of_commands():
+    """Inputs for a program that carries out commands by calls of a binding, each with what is due: the worked inputs, more,
+    and sessions at random, as the model replies them. Where an input ends early the program's last line is left out."""
     inputs = [(data, re.sub(rb"error (command|end)\n$", b"", out) if status else out)
               for data, out, status in [*examples_of_page(), *MORE_EXAMPLES]]
     for kind, weights in (("of all kinds", OF_ALL_KINDS), ("back and forward", BACK_AND_FORWARD)):
         for seed in range(SESSIONS // SESSIONS_IN_RUN // 2):
             writer = some_sessions(("bindings", kind, seed).__repr__(), SESSIONS_IN_RUN, weights)
             inputs.append((b"".join(spelled(*command) for command in writer.commands), b"".join(writer.replies)))
-    for data, due in inputs:
+    return inputs
+
+
+def wrong_commands(words, **environment):
+    """What is wrong with such a program."""
+    for data, due in inputs_of_commands():
         done = subprocess.run(words, input=data, capture_output=True, timeout=LIMIT, env={**os.environ, **environment})
         if done.returncode or done.stdout != due:
             yield f"{short(data)}: status {done.returncode}, {short(done.stdout)}, not {short(due)}: {done.stderr.decode()}"

@@ -6,13 +6,16 @@ import shutil
 import subprocess
 import sys
 
+from browser import chromium
 from harness import FIRST, LIBRARY, LIBRARY_FOLDER, PROGRAM, ROOM, SONAME, TOP, end_of, open_input, start, test
 from test_bindings import newest_enough, wrong_in_node, wrong_in_rust
 from test_replies import examples_of_page
 from test_sources import broken_links
 from test_language_server import Client
+from test_web import node_words, wrong_in_web
+from web_page import wrong_released
 
-BUILT = ["rope-search", "librope_search_c.a", "librope_search.a", "librope_search.so"]
+BUILT = ["rope-search", "librope_search_c.a", "librope_search.a", "librope_search.so", "librope_search_c.bc", "rope_search.wasm"]
 INSTALLED = [
     "bin/rope-search", "include/rope_search.h", "lib/librope_search.a", "lib/librope_search.so", f"lib/{SONAME}",
     "lib/pkgconfig/rope_search.pc", "share/man/man1/rope-search.1", "share/rope-search/rope_search.py",
@@ -20,6 +23,8 @@ INSTALLED = [
     *(f"share/rope-search/rust/src/{name}.rs" for name in ("error", "lib", "matches", "raw", "session", "types")),
     *(f"share/rope-search/node/{name}" for name in (
         "package.json", "queue.js", "replies.js", "rope-search.d.ts", "rope-search.js")),
+    *(f"share/rope-search/web/{name}" for name in (
+        "calls.js", "package.json", "rope-search.d.ts", "rope-search.js", "rope_search.wasm")),
     *(f"share/doc/rope-search/{name}" for name in (
         "README.md", "CHANGELOG.md", "LICENSE-APACHE", "LICENSE-MIT", "NOTICE", "protocol.md", "patterns.md",
         "embedding.md")),
@@ -86,7 +91,8 @@ def wrong_session(modules):
 
 
 def wrong_packages(folder):
-    """The package for Rust must find the library from the folder that it lies in, and the module for Node the program."""
+    """The package for Rust must find the library from the folder that it lies in, the module for Node the program, and that
+    for the web its module of WebAssembly."""
     wrong, node = [], newest_enough()
     if shutil.which("cargo"):
         wrong += wrong_in_rust(os.path.join(folder, "rust"), os.path.join(ROOM, "released-target"), PKG_CONFIG="/nowhere/it")
@@ -96,6 +102,11 @@ def wrong_packages(folder):
         wrong += wrong_in_node(node, os.path.join(folder, "node"), PATH="/nowhere", ROPE_SEARCH="")
     else:
         print(f"no Node 18 or later: the module for it isn't tried in {os.path.relpath(folder, ROOM)}")
+    words = node_words()
+    if words:
+        wrong += wrong_in_web(words, os.path.join(folder, "web"))
+    else:
+        print(f"no Node with 64-bit memories: the module of WebAssembly isn't tried in {os.path.relpath(folder, ROOM)}")
     return wrong
 
 
@@ -117,6 +128,10 @@ def wrong_release():
         top, "examples", "first.session")], capture_output=True, text=True, cwd=folder, env={"PATH": os.environ["PATH"]})
     if shown.returncode or "m 0 16 20" not in shown.stdout:
         wrong.append(shown.stdout + shown.stderr)
+    if chromium():
+        wrong += wrong_released(top)
+    else:
+        print("no chromium: the page of examples/web isn't tried where a release is unpacked")
     bindings = os.path.join(top, "bindings")
     wrong += [path for path in glob.glob(os.path.join(bindings, "**", "*"), recursive=True) if re.search(r"/(target|Cargo\.lock)$", path)]
     return wrong + wrong_session(os.path.join(bindings, "python")) + wrong_packages(bindings)
