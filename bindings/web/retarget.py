@@ -31,8 +31,8 @@ VECTOR = r"<\d+ x i\d+>"
 TYPE = rf"(?:{SCALAR}|{VECTOR}|\{{ {SCALAR}, {SCALAR} \}}|\[\d+ x i8\])"
 ALIGN = r", align \d+"
 # What a parameter, an argument or a result may be said to be; a structure that C takes by value in memory is none of it.
-SAID = r"(?:noundef|zeroext|signext|nonnull|noalias|nocapture|captures\(none\)|readonly|writeonly|immarg|align \d+|" \
-    r"dereferenceable\(\d+\)|sret\(\[\d+ x i8\]\))"
+SAID = r"(?:noundef|zeroext|signext|nonnull|noalias|nocapture|captures\(none\)|readonly|writeonly|writable|immarg|" \
+    r"dead_on_unwind|align \d+|dereferenceable\(\d+\)|sret\(\[\d+ x i8\]\))"
 RESULT = rf"(?:{SAID} )*(?:void|{TYPE})"
 PARAMETERS = rf"(?:{TYPE}(?: {SAID})*(?: %[\w.]+)?(?:, )?)*"
 ARGUMENTS = rf"(?:{TYPE}(?: {SAID})* {VALUE}(?:, )?)*"
