@@ -2,6 +2,7 @@
 Rust, in tests/sessions; it is built with rustc and the static library, and takes what Unicode says from Python."""
 import functools
 import os
+import re
 import shutil
 import subprocess
 
@@ -9,14 +10,24 @@ from harness import LIBRARY_FOLDER, ROOM, TOP
 from pattern_model import folded_alike, letter_class
 
 STATIC_LIBRARY = os.path.join(LIBRARY_FOLDER, "librope_search.a")
+LEAST_RUSTC = 85  # of the 1.x that have the edition of 2024
 BUILD = ["--edition", "2024", "-O", "-C", "panic=abort", "-C", "link-arg=-Wl,--wrap=malloc,--wrap=realloc,--wrap=free"]
+
+
+def missing_compiler():
+    """What is missing to compile the program, or None."""
+    if not shutil.which("rustc"):
+        return "no rustc"
+    told = subprocess.run(["rustc", "--version"], stdin=subprocess.DEVNULL, stdout=subprocess.PIPE, text=True).stdout
+    version = re.match(r"rustc 1\.(\d+)", told)
+    return None if version and int(version[1]) >= LEAST_RUSTC else f"no rustc from 1.{LEAST_RUSTC} on"
 
 
 def missing():
     """What the sessions need and isn't there, or None."""
-    if not shutil.which("rustc"):
-        return "no rustc"
-    return None if os.access(STATIC_LIBRARY, os.R_OK) else f"no {os.path.relpath(STATIC_LIBRARY, TOP)}"
+    if not os.access(STATIC_LIBRARY, os.R_OK):
+        return f"no {os.path.relpath(STATIC_LIBRARY, TOP)}"
+    return missing_compiler()
 
 
 @functools.lru_cache(maxsize=None)

@@ -60,6 +60,7 @@ const WORDS: [Kind; 18] = [
 ];
 const OF_ALL_KINDS: &[u32] = &[24, 10, 12, 14, 6, 7, 2, 3, 5, 1, 8, 8, 1, 2, 6, 2, 1, 1];
 const BACK_AND_FORWARD: &[u32] = &[10, 5, 10, 28, 18, 2, 1, 1, 1, 2, 0, 14, 1, 4, 2, 0, 0, 0];
+const OF_LONG_HISTORIES: &[u32] = &[60, 10, 2, 6, 3, 1, 0, 0, 0, 0, 2, 1, 0, 1, 1, 0, 0, 0];
 
 struct Writer {
     random: Random,
@@ -76,14 +77,14 @@ pub fn session(seed: u64, number: u64, patterns: &Rc<Patterns>) -> Vec<Call> {
     let refused = if random.per_mille(120) { random.one_of(&[50, 300, 900]) } else { 0 };
     let model = Model::new(patterns);
     let mut writer = Writer { random, model, calls: Vec::new(), refused, is_over: false };
-    if number % 10_000 == 5_000 {
-        writer.huge();
-    } else {
-        match writer.random.weighted(&[85, 10, 5]) {
+    match number % 10_000 {
+        5_000 => writer.huge(),
+        number if number % 1_000 == 500 => writer.many(),
+        _ => match writer.random.weighted(&[85, 10, 5]) {
             0 => writer.plain(),
             1 => writer.hostile(),
             _ => writer.long(),
-        }
+        },
     }
     writer.calls
 }
@@ -187,6 +188,28 @@ impl Writer {
             };
         }
         self.edit_long(&text, QUICK, 20);
+    }
+
+    /// A history of some hundreds of texts, and edits of many places at once.
+    fn many(&mut self) {
+        self.write(Kind::Open, &[TEXT_LIMIT], &[]);
+        let text = self.lines(30);
+        self.say(Kind::SetText, &text);
+        let pattern = self.random.one_of(QUICK);
+        self.say(Kind::SetPattern, pattern);
+        for _ in 0..self.random.between(100, 400) {
+            self.some_command(OF_LONG_HISTORIES);
+            if self.random.per_mille(20) {
+                let kind = self.random.one_of(&[Kind::Undo, Kind::Redo]);
+                for _ in 0..self.random.between(1, 150) {
+                    self.write(kind, &[], &[]);
+                }
+            }
+            if self.random.per_mille(10) {
+                let (text, count) = (self.text(), self.random.between(20, 200));
+                self.edit_all(&text, count);
+            }
+        }
     }
 
     fn lines(&mut self, count: usize) -> String {
@@ -307,7 +330,10 @@ impl Writer {
         let is_long = text.chars.len() > 400;
         match kind {
             Kind::Edit | Kind::EditBytes => self.edit(kind, &text),
-            Kind::EditAll => self.edit_all(&text),
+            Kind::EditAll => {
+                let count = self.random.one_of(&[0, 1, 1, 2, 2, 3, 5]);
+                self.edit_all(&text, count);
+            }
             Kind::SetPattern => {
                 let pattern = pattern(&mut self.random);
                 self.bad_or(kind, &pattern);
@@ -404,8 +430,7 @@ impl Writer {
     }
 
     /// Several edits as one: as a rule one after the other, where some touch.
-    fn edit_all(&mut self, text: &Text) {
-        let count = self.random.one_of(&[0, 1, 1, 2, 2, 3, 5]);
+    fn edit_all(&mut self, text: &Text, count: usize) {
         let mut places: Vec<usize> = (0..2 * count).map(|_| self.some_place(text)).collect();
         places.sort_unstable();
         let (mut numbers, mut bytes) = (Vec::new(), Vec::new());
