@@ -4,7 +4,6 @@ a seed and a number is always the same. One that fails is shortened."""
 import random
 from dataclasses import dataclass, field, replace
 
-import library
 from harness import differences, run, run_in_pieces, short
 from memory import library as refusing_library
 from pattern_model import is_literal, pattern_weight, tree_of
@@ -130,26 +129,7 @@ class Driven:
         return list(problems([self.row(data)], self.wrong_with))
 
 
-@dataclass(frozen=True)
-class ByCalls:
-    """By calls of the library that C links, in this process, with so many bytes for a text. What isn't read as a command
-    is left out."""
-
-    limit: int
-
-    def wrong(self, data):
-        commands, _ = read_commands(data)
-        session = Fuzzed(self.limit)
-        for place, (command, got) in enumerate(zip(commands, library.replies(commands, self.limit))):
-            expected = session.reply(command)
-            if got != expected:
-                yield f"command {place}, {command[:2]}, is answered {short(got)}, not {short(expected)}"
-                return
-
-
-def some_way(chosen, is_short, by_calls=False):
-    if by_calls:
-        return ByCalls(chosen.choice((TEXT_LIMIT,) * 5 + (0, 3, 10, 40)) if is_short else TEXT_LIMIT)
+def some_way(chosen, is_short):
     roll = chosen.random()
     if roll < 0.15 or not is_short:
         return Pieces(chosen.choice((1, 2, 3, 5, 984, 4_096))) if roll < 0.05 else File()
@@ -285,8 +265,8 @@ def changed(chosen, commands):
     return commands[: at + 1] + [chosen.choice(TAILS)]
 
 
-def some_trial(seed, number, by_calls=False):
-    """The session of a seed and a number, by calls of the library or in some other way."""
+def some_trial(seed, number):
+    """The session of a seed and a number."""
     chosen, writer = random.Random(f"{seed} {number}"), Writer(Fuzzed())
     kind = chosen.choices((write_plain, write_hostile, write_long), (84, 10, 6))[0]
     try:
@@ -296,7 +276,7 @@ def some_trial(seed, number, by_calls=False):
     commands = [spelled(*command) for command in writer.commands]
     if chosen.random() < 0.15:
         commands = changed(chosen, commands)
-    return Trial(commands, some_way(chosen, kind is write_plain, by_calls))
+    return Trial(commands, some_way(chosen, kind is write_plain))
 
 
 # ---- what is left of a session that fails
@@ -356,10 +336,10 @@ def told_of(seed, number, trial):
     return "\n".join([*lines, *(f"    {line}" for line in least.wrong())])
 
 
-def failures(seed, first, count, by_calls=False):
+def failures(seed, first, count):
     """What is to be said of those of these sessions of a seed that aren't answered as is due. Those that go over memory
     go into one run of the driver, of which all are suspect where it breaks off."""
-    trials = {number: some_trial(seed, number, by_calls) for number in range(first, first + count)}
+    trials = {number: some_trial(seed, number) for number in range(first, first + count)}
     driven = {number: trial for number, trial in trials.items() if isinstance(trial.way, Driven)}
     told = list(outcomes([trial.way.row(b"".join(trial.commands)) for trial in driven.values()]))
     is_whole = len(told) == len(driven) and all(outcome for _, outcome in told)

@@ -1,11 +1,15 @@
-"""The first sessions at random of tests/fuzz, and that it shortens one that fails to what is wrong in it."""
+"""The first sessions at random of tests/fuzz, of the program and of the library, and that one that fails is shortened to
+what is wrong in it; and the model of the library's sessions, which is in Rust, beside Python's models."""
 from dataclasses import dataclass
 
+import plain_sessions
+import sessions_by_calls
 from harness import share_of, test
 from protocol import read_commands, spelled
 from random_sessions import Trial, failures, shortened, some_trial
 
 SESSIONS, IN_TEST, SEED = share_of(300), 50, 0
+BY_CALLS, BESIDE_PYTHON = max(2_000, share_of(10_000)), max(100, share_of(500))
 
 
 @dataclass(frozen=True)
@@ -26,7 +30,36 @@ def wrong_shortening():
         yield f"{len(commands)} commands are shortened to {left}"
 
 
+def wrong_shortening_by_calls():
+    said, _ = sessions_by_calls.ran("planted", SEED, 0, 1_000)
+    if [line.strip() for line in said.split("\n")[1:]] != ['SetPattern "|"', "Undo", "planted", ""]:
+        yield f"the calls are shortened to {said!r}"
+
+
+def wrong_beside_python():
+    """What is wrong with the model in Rust; at least two thirds of the sessions must be compared whole."""
+    told = [plain_sessions.wrong_session(lines) for lines in sessions_by_calls.sessions_told(SEED, 0, BESIDE_PYTHON)]
+    yield from (one for wrong, _ in told for one in wrong)
+    whole = sum(is_whole for _, is_whole in told)
+    if len(told) != BESIDE_PYTHON or whole < BESIDE_PYTHON * 2 // 3:
+        yield f"of {BESIDE_PYTHON} sessions {len(told)} are told, and {whole} compared whole"
+
+
+def test_by_calls():
+    if missing := sessions_by_calls.missing():
+        print(f"{missing}: sessions at random by calls of the library aren't tried")
+        return
+    made, said = sessions_by_calls.built()
+    test("the sessions by calls, with their model in Rust, are built", said)
+    if made:
+        wrong, parts = sessions_by_calls.failures(SEED, 0, BY_CALLS)
+        test(f"{BY_CALLS} sessions of seed {SEED} by calls of the library, {parts} in part", wrong)
+        test("a session by calls that fails is shortened to what fails in it", wrong_shortening_by_calls())
+        test(f"the model in Rust beside Python's, {BESIDE_PYTHON} sessions of seed {SEED}", wrong_beside_python())
+
+
 def test_all():
     for first in range(0, SESSIONS, IN_TEST):
         test(f"sessions {first} to {first + IN_TEST - 1} of seed {SEED}", failures(SEED, first, IN_TEST))
     test("a session that fails is shortened to what fails in it", wrong_shortening())
+    test_by_calls()

@@ -1,0 +1,295 @@
+"""What the Python models answer to calls of the library, beside what the model of tests/sessions, which is in Rust, says of
+the same sessions: so that one is checked by the other."""
+import functools
+
+from library_groups import due_groups
+from library_lines import ENCODINGS, clamped, line_text, places_of
+from library_edits import places_in
+from library_text_changes import Mirror, ranges_of
+from library_listed import all_listed
+from pattern_model import is_literal, pattern_weight, tree_of
+from protocol import PATTERN_LIMIT, is_utf8, lines_of, place_of, position_at, positions_of, rows_of, units
+from random_sessions import is_light, may_be_heavy
+from test_explanations import is_front
+
+STATUS = {b"ok": 0, b"m": 0, b"no": 0, b"error none": 1, b"error range": 2, b"error utf8": 3, b"error pattern": 4,
+          b"error limit": 5, b"error size": 6}
+CLOSED, RANGE, SIZE = 8, 2, 6
+BITS = dict(zip((8, 16, 32), ENCODINGS.values()))
+MOST_CHARACTERS, MOST_OF_LITERALS = 150, 3_000  # of a text in which patterns are searched for
+COMMANDS = {"SetText": "text", "Edit": "edit", "Undo": "undo", "Redo": "redo", "SetPattern": "pattern", "Off": "off", "Next":
+            "next", "Replace": "replace", "Fork": "fork", "Choose": "use"}
+REFUSED_IF_CLOSED = (*COMMANDS, "EditAll", "EditBytes", "Forget", "Keep", "GroupsAt", "ByteOf", "PositionOf", "ColumnIn",
+                     "PositionIn", "Clamp", "LineLen")
+
+
+class Unclear(Exception):
+    """The Python models would take too long."""
+
+
+def refused(status):
+    return status, [], b""
+
+
+@functools.lru_cache(maxsize=100_000)
+def is_known(pattern):
+    """Whether the Python models find the pattern in short texts at once."""
+    return is_literal(pattern) or is_light(pattern)
+
+
+class Plain:
+    """A session of the Python models, closed at first."""
+
+    def __init__(self):
+        self.mirror, self.limit = None, 0
+
+    @property
+    def model(self):
+        return self.mirror.model
+
+    @property
+    def text(self):
+        return self.model.buffer.text
+
+    @property
+    def pattern(self):
+        return self.model.buffer.pattern
+
+    def answer(self, name, numbers, payload):
+        """The status, the numbers and the bytes that a call answers."""
+        if name == "Version":
+            return 2_000, [], b""
+        if name == "PatternError":
+            return self.pattern_error(payload)
+        if name == "Open":
+            return self.open(*numbers)
+        if name == "Close":
+            self.mirror = None
+            return refused(0)
+        if self.mirror is None:
+            return refused(CLOSED if name in REFUSED_IF_CLOSED else 0)
+        if name in COMMANDS:
+            return self.command(COMMANDS[name], numbers, payload)
+        return getattr(self, name)(*numbers, **({"payload": payload} if name.startswith("Edit") else {}))
+
+    def open(self, limit):
+        if limit >= 1 << 63:
+            return refused(SIZE)
+        self.mirror = Mirror()
+        self.model.limit = limit
+        return refused(0)
+
+    def check_light(self):
+        """Gives up where the Python models would search for long."""
+        if self.pattern is None:
+            return
+        most = MOST_OF_LITERALS if is_literal(self.pattern) else MOST_CHARACTERS
+        if not is_known(self.pattern) or len(self.text) > most:
+            raise Unclear
+
+    def command(self, word, numbers, payload):
+        if word in ("next", "replace"):
+            self.check_light()
+        if word == "pattern" and may_be_heavy(payload):
+            raise Unclear
+        numbers = (*numbers, len(payload)) if word in ("text", "edit", "pattern", "replace") else tuple(numbers)
+        told = self.mirror.carried_out((word, numbers, payload)).split(b"\n")[0]
+        front, _, rest = told.partition(b" ")
+        status = STATUS[told] if told.startswith(b"error") else STATUS[front]
+        if word == "next":
+            return status, [1, *map(int, rest.split())] if front == b"m" else [0], b""
+        if word in ("replace", "fork"):
+            return status, [int(rest) if status == 0 else 0], b""
+        return refused(status)
+
+    def pattern_error(self, payload):
+        if not is_utf8(payload):
+            return refused(3)
+        text = payload.decode()
+        if len(payload) > PATTERN_LIMIT or tree_of(text) is not None:
+            return 0, [0, 0], b""
+        if len(text) > 40:
+            raise Unclear
+        front = next(place for place in range(len(text) + 1) if place == len(text) or not is_front(text[: place + 1]))
+        return 0, ["a reason", len(text[:front].encode())], b""
+
+    def EditBytes(self, first, last, payload):
+        places = places_of(self.text)
+        if first not in places or last not in places:
+            return refused(RANGE)
+        spots = (position_at(self.text, places[place]) for place in (first, last))
+        return self.command("edit", [number for spot in spots for number in spot], payload)
+
+    def EditAll(self, *numbers, payload):
+        parts, at = [], 0
+        for line, column, last, end, count in zip(*(numbers[place::5] for place in range(5))):
+            parts.append(((line, column), (last, end), payload[at : at + count]))
+            at += count
+        places = places_in(self.text, parts) if at == len(payload) else None
+        if places is None:
+            return refused(RANGE)
+        if not all(is_utf8(new) for _, _, new in parts):
+            return refused(3)
+        changes = [(*ends, new.decode()) for ends, (_, _, new) in zip(places, parts)]
+        made, at = "", 0
+        for first, last, new in changes:
+            made, at = made + self.text[at:first] + new, last
+        made += self.text[at:]
+        if len(made.encode()) > self.model.limit:
+            return refused(SIZE)
+        told, number = ranges_of(self.text, changes), self.model.chosen
+        self.mirror.led[number][self.model.buffer.at + 1 :] = [told]
+        self.mirror.told[number] = told
+        self.model.buffer.add(made)
+        return refused(0)
+
+    def Forget(self):
+        return self.Keep(0)
+
+    def Keep(self, steps):
+        self.mirror.keep(steps)
+        return refused(0)
+
+    def GroupsAt(self, line, number, room):
+        if self.pattern is None:
+            return refused(1)
+        lines = lines_of(self.text)
+        if line >= len(lines):
+            return refused(RANGE)
+        self.check_light()
+        groups = due_groups(self.pattern, self.text[slice(*lines[line])], line)
+        if number >= len(groups):
+            return refused(RANGE)
+        told = [[1, *group] if group else [0, 0, 0] for group in groups[number][:room]]
+        return 0, [one for group in told for one in group], b""
+
+    # ---- what is read
+
+    def Buffers(self):
+        return refused(len(self.model.buffers))
+
+    def Chosen(self):
+        return refused(self.model.chosen)
+
+    def CanUndo(self):
+        return refused(int(self.model.buffer.at > 0))
+
+    def CanRedo(self):
+        return refused(int(self.RedoSteps()[0] > 0))
+
+    def UndoSteps(self):
+        return refused(self.model.buffer.at)
+
+    def RedoSteps(self):
+        return refused(len(self.model.buffer.texts) - 1 - self.model.buffer.at)
+
+    def TextLen(self):
+        return refused(len(self.text.encode()))
+
+    def TextLines(self):
+        return refused(len(lines_of(self.text)))
+
+    def CopyText(self, first, last, room):
+        data = self.text.encode()
+        cut = any(data[place : place + 1] and data[place] & 0xC0 == 0x80 for place in (first, last))
+        if not first <= last <= len(data) or cut or last - first > room:
+            return refused(0)
+        return 1, [], data[first:last]
+
+    def CopyLine(self, line, room):
+        own = line_text(self.text, line).encode() if line < len(lines_of(self.text)) else None
+        return (1, [], own) if own is not None and len(own) <= room else refused(0)
+
+    def ByteOf(self, line, column):
+        place = place_of(self.text, line, column)
+        return refused(RANGE) if place is None else (0, [len(self.text[:place].encode())], b"")
+
+    def PositionOf(self, byte):
+        begins = {len(self.text[:place].encode()): place for place in range(len(self.text) + 1)}
+        return (0, list(position_at(self.text, begins[byte])), b"") if byte in begins else refused(RANGE)
+
+    def ColumnIn(self, bits, line, column):
+        place = place_of(self.text, line, column)
+        if bits not in BITS or place is None:
+            return refused(RANGE)
+        return 0, [BITS[bits](self.text[lines_of(self.text)[line][0] : place])], b""
+
+    def PositionIn(self, bits, line, column):
+        if bits not in BITS:
+            return refused(RANGE)
+        for spot in positions_of(self.text) if line < len(lines_of(self.text)) else ():
+            if spot[0] == line and self.ColumnIn(bits, *spot)[1] == [column]:
+                return 0, list(spot), b""
+        return refused(RANGE)
+
+    def Clamp(self, bits, line, column):
+        return (0, list(clamped(self.text, line, column, BITS[bits])), b"") if bits in BITS else refused(RANGE)
+
+    def LineLen(self, line, bits):
+        if bits not in BITS or line >= len(lines_of(self.text)):
+            return refused(RANGE)
+        return 0, [BITS[bits](line_text(self.text, line))], b""
+
+    def rows(self):
+        self.check_light()
+        return [] if self.pattern is None else rows_of(self.text, self.pattern)
+
+    def Rows(self):
+        return refused(len(lines_of(self.text)) if self.pattern is not None else 0)
+
+    def CountMatches(self, first, last):
+        return refused(sum(map(len, self.rows()[first:last])) if first < last else 0)
+
+    def CopyMatches(self, first, last, room):
+        return self.CopyMatchesIn(16, first, last, room)
+
+    def CopyMatchesIn(self, bits, first, last, room):
+        rows, told = self.rows(), []
+        for line in range(first, min(last, len(rows))) if bits in BITS else ():
+            own, start = line_text(self.text, line), lines_of(self.text)[line][0]
+            ends = [[place_of(self.text, line, column) - start for column in match] for match in rows[line]]
+            told += [(line, *(BITS[bits](own[:place]) for place in match)) for match in ends]
+        return len(told), [number for match in told[:room] for number in match], b""
+
+    def ListedFrom(self, line, column):
+        return self.looked_up(next((one for one in self.listed() if (one[0], one[2]) >= (line, column)), None))
+
+    def ListedBefore(self, line, column):
+        return self.looked_up(next((one for one in self.listed()[::-1] if (one[0], one[2]) < (line, column)), None))
+
+    def ListIndex(self, line, number):
+        listed = self.listed()
+        index = next((index for index, one in enumerate(listed) if one[:2] == (line, number)), None)
+        return self.looked_up(None if index is None else (index, len(listed)))
+
+    def listed(self):
+        return all_listed(self.rows())
+
+    def looked_up(self, found):
+        return refused(0) if found is None else (1, list(found), b"")
+
+    def TextChanges(self, room):
+        told = self.mirror.told[self.model.chosen]
+        return len(told), [number for change in told[:room] for number in change], b""
+
+
+def numbers_in(words):
+    return [int(word) for word in words.split()]
+
+
+def wrong_session(lines):
+    """What is wrong with the answers of a session, and whether it was compared whole."""
+    plain = Plain()
+    for line in lines:
+        name, numbers, payload, status, told, data = line.split("|")
+        numbers, payload = numbers_in(numbers), bytes.fromhex(payload)
+        got = (int(status), numbers_in(told), bytes.fromhex(data))
+        try:
+            due = plain.answer(name, numbers, payload)
+        except Unclear:
+            return [], False
+        if due[1][:1] == ["a reason"] and got[1][:1] != [0]:
+            due[1][0] = got[1][0]
+        if got != due:
+            return [f"{name} {numbers} {payload[:80]} is answered {got}, not {due}, in {lines[:30]}"], True
+    return [], True

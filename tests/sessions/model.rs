@@ -1,0 +1,413 @@
+//! A plain model of a session, by docs/protocol.md and include/rope_search.h: every text of a
+//! history is kept whole, and all that is asked of it is computed from it.
+use crate::calls::*;
+use crate::patterns::{Pattern, Patterns, Refused, Row, mistake_in};
+use crate::replacing::replaced;
+use crate::texts::{Text, line_count};
+use crate::walks::TooLong;
+use std::rc::Rc;
+
+/// A range of the old text, in bytes, and the range of the new text that took its place.
+pub type Change = [u64; 4];
+pub type Answered = Result<Answer, TooLong>;
+
+/// A text of a history, and the ranges in which the text before it was replaced.
+struct Step {
+    text: Rc<Text>,
+    led: Rc<Vec<Change>>,
+}
+
+pub struct Buffer {
+    steps: Vec<Step>,
+    at: usize,
+    pub pattern: Option<Rc<Pattern>>,
+    /// The ranges that the last accepted call replaced.
+    pub told: Rc<Vec<Change>>,
+    /// The rows that the library says the last accepted call replaced.
+    pub stretch: [u64; 3],
+    rows: Option<Rc<Vec<Row>>>,
+}
+
+impl Buffer {
+    fn new(text: Rc<Text>) -> Buffer {
+        let steps = vec![Step { text, led: Rc::default() }];
+        let told = Rc::default();
+        Buffer { steps, at: 0, pattern: None, told, stretch: [0; 3], rows: None }
+    }
+
+    pub fn text(&self) -> Rc<Text> {
+        Rc::clone(&self.steps[self.at].text)
+    }
+
+    pub fn undo_steps(&self) -> usize {
+        self.at
+    }
+
+    pub fn redo_steps(&self) -> usize {
+        self.steps.len() - 1 - self.at
+    }
+
+    /// Adds a text after the current one, in the place of all that followed it.
+    fn add(&mut self, text: Text, changes: Vec<Change>) {
+        let led = Rc::new(changes);
+        self.told = Rc::clone(&led);
+        self.steps.truncate(self.at + 1);
+        self.steps.push(Step { text: Rc::new(text), led });
+        self.at += 1;
+        self.rows = None;
+    }
+
+    /// The report: a row for each line, or none without a pattern.
+    pub fn rows(&mut self) -> Result<Rc<Vec<Row>>, TooLong> {
+        if let Some(rows) = &self.rows {
+            return Ok(Rc::clone(rows));
+        }
+        let text = self.text();
+        let rows = match &self.pattern {
+            Some(pattern) => {
+                let lines = text.lines.iter();
+                let rows = lines.map(|&(start, end)| pattern.row(&text.chars[start..end]));
+                rows.collect::<Result<Vec<Row>, TooLong>>()?
+            }
+            None => Vec::new(),
+        };
+        self.rows = Some(Rc::new(rows));
+        self.rows()
+    }
+}
+
+/// What a command may count at most, and how many rows it may say that it added.
+#[derive(Debug, Default, Clone, Copy)]
+pub struct Cost {
+    pub rows: u64,
+    pub wholes: u64,
+    pub added: u64,
+}
+
+pub struct Open {
+    pub buffers: Vec<Buffer>,
+    pub chosen: usize,
+    limit: u64,
+}
+
+impl Open {
+    pub fn buffer(&mut self) -> &mut Buffer {
+        &mut self.buffers[self.chosen]
+    }
+}
+
+pub struct Model {
+    pub open: Option<Open>,
+    pub cost: Cost,
+    patterns: Rc<Patterns>,
+}
+
+/// What a command makes of the current text, or why it is refused.
+type Made = Result<(Text, Vec<Change>), u64>;
+
+impl Model {
+    /// A closed session.
+    pub fn new(patterns: &Rc<Patterns>) -> Model {
+        Model { open: None, cost: Cost::default(), patterns: Rc::clone(patterns) }
+    }
+
+    pub fn buffer(&mut self) -> Option<&mut Buffer> {
+        self.open.as_mut().map(Open::buffer)
+    }
+
+    /// What a call answers if memory is refused to it.
+    pub fn lacks_memory(call: &Call) -> Answer {
+        let writes_none = matches!(call.kind, Kind::Next | Kind::Replace | Kind::Fork);
+        Answer::new(MEMORY, if writes_none { vec![0] } else { Vec::new() })
+    }
+
+    /// Whether memory may be refused to a call now.
+    pub fn may_lack_memory(&mut self, call: &Call) -> bool {
+        let has_pattern = self.buffer().is_some_and(|buffer| buffer.pattern.is_some());
+        match call.kind {
+            Kind::Undo | Kind::Redo => has_pattern,
+            kind => kind.may_need_memory(),
+        }
+    }
+
+    /// Carries out a command.
+    pub fn carry_out(&mut self, call: &Call) -> Answered {
+        self.cost = Cost::default();
+        let status = match call.kind {
+            Kind::Open => self.opened(call.numbers[0]),
+            Kind::Close => {
+                self.open = None;
+                DONE
+            }
+            Kind::PatternError => return Ok(self.pattern_error(&call.bytes)),
+            _ if self.open.is_none() => CLOSED,
+            Kind::SetText => self.set_text(&call.bytes),
+            Kind::Edit | Kind::EditAll | Kind::EditBytes => self.edit(call),
+            Kind::Undo => self.turn(false),
+            Kind::Redo => self.turn(true),
+            Kind::SetPattern => self.set_pattern(&call.bytes)?,
+            Kind::Off => self.off(),
+            Kind::Next => return self.next((call.numbers[0], call.numbers[1])),
+            Kind::Replace => return self.replace(&call.bytes),
+            Kind::Fork => return Ok(self.fork()),
+            Kind::Choose => self.choose(call.numbers[0]),
+            Kind::Forget => self.keep(0),
+            Kind::Keep => self.keep(call.numbers[0]),
+            Kind::GroupsAt => return self.groups_at(&call.numbers),
+            kind => unreachable!("{kind:?} is no command"),
+        };
+        Ok(Answer::new(status, Vec::new()))
+    }
+
+    fn session(&mut self) -> &mut Open {
+        self.open.as_mut().expect("the session is open")
+    }
+
+    fn opened(&mut self, limit: u64) -> u64 {
+        if limit > i64::MAX as u64 {
+            return SIZE;
+        }
+        let buffers = vec![Buffer::new(Rc::new(Text::new(Vec::new())))];
+        self.open = Some(Open { buffers, chosen: 0, limit });
+        DONE
+    }
+
+    fn set_text(&mut self, bytes: &[u8]) -> u64 {
+        let limit = self.session().limit;
+        let Some(text) = Text::read(bytes) else { return UTF8 };
+        if text.byte_len() > limit {
+            return SIZE;
+        }
+        let lines = text.lines.len() as u64;
+        let buffer = self.session().buffer();
+        let change = [0, buffer.text().byte_len(), 0, text.byte_len()];
+        buffer.steps = vec![Step { text: Rc::new(text), led: Rc::default() }];
+        (buffer.at, buffer.rows, buffer.told) = (0, None, Rc::new(vec![change]));
+        if buffer.pattern.is_some() {
+            self.cost = Cost { rows: lines, added: lines, wholes: 0 };
+        }
+        DONE
+    }
+
+    fn edit(&mut self, call: &Call) -> u64 {
+        let (text, limit) = (self.session().buffer().text(), self.session().limit);
+        let parts = match call.kind {
+            Kind::Edit => edit_at(&text, call),
+            Kind::EditBytes => edit_at_bytes(&text, call),
+            _ => edits_at(&text, call),
+        };
+        let (new, changes) = match parts.and_then(|parts| put(&text, parts, limit)) {
+            Ok(made) => made,
+            Err(status) => return status,
+        };
+        self.add(new, changes);
+        DONE
+    }
+
+    /// Adds a text to the history, and says what that may cost.
+    fn add(&mut self, text: Text, changes: Vec<Change>) {
+        let cost = cost_of(&text, &changes);
+        let buffer = self.session().buffer();
+        buffer.add(text, changes);
+        if buffer.pattern.is_some() {
+            self.cost = cost;
+        }
+    }
+
+    fn turn(&mut self, forward: bool) -> u64 {
+        let buffer = self.session().buffer();
+        if (if forward { buffer.redo_steps() } else { buffer.undo_steps() }) == 0 {
+            return NONE;
+        }
+        buffer.told = if forward {
+            Rc::clone(&buffer.steps[buffer.at + 1].led)
+        } else {
+            let back = |&[first, last, start, stop]: &Change| [start, stop, first, last];
+            Rc::new(buffer.steps[buffer.at].led.iter().map(back).collect())
+        };
+        buffer.at = if forward { buffer.at + 1 } else { buffer.at - 1 };
+        buffer.rows = None;
+        if buffer.pattern.is_some() {
+            self.cost = cost_of(&buffer.text(), &buffer.told.clone());
+        }
+        DONE
+    }
+
+    fn set_pattern(&mut self, bytes: &[u8]) -> Result<u64, TooLong> {
+        let Some(text) = Text::read(bytes) else { return Ok(UTF8) };
+        let pattern = match self.patterns.read(&text.chars)? {
+            Ok(pattern) => pattern,
+            Err(Refused::Limit) => return Ok(LIMIT),
+            Err(Refused::Mistake) => return Ok(PATTERN),
+        };
+        let buffer = self.session().buffer();
+        (buffer.pattern, buffer.rows) = (Some(pattern), None);
+        let lines = buffer.text().lines.len() as u64;
+        self.cost = Cost { rows: lines, added: lines, wholes: 0 };
+        Ok(DONE)
+    }
+
+    fn pattern_error(&self, bytes: &[u8]) -> Answer {
+        let Some(text) = Text::read(bytes) else { return Answer::new(UTF8, Vec::new()) };
+        let (reason, place) = match mistake_in(&text.chars, &self.patterns.unicode) {
+            Some((reason, place)) => (reason as u64, place),
+            None => (0, 0),
+        };
+        Answer::new(DONE, vec![reason, place])
+    }
+
+    fn off(&mut self) -> u64 {
+        let buffer = self.session().buffer();
+        (buffer.pattern, buffer.rows) = (None, None);
+        DONE
+    }
+
+    fn next(&mut self, from: (u64, u64)) -> Answered {
+        self.cost.wholes = 1;
+        let buffer = self.session().buffer();
+        let text = buffer.text();
+        let none = |status| Ok(Answer::new(status, vec![0]));
+        let Some(pattern) = buffer.pattern.clone() else { return none(NONE) };
+        let Some(place) = text.place_of(from) else { return none(RANGE) };
+        let Some(slots) = pattern.match_from(&text.chars, place)? else { return none(DONE) };
+        let ends = slots[..2].iter().flatten().map(|&place| text.position_at(place));
+        let numbers = ends.flat_map(|(line, column)| [line, column]);
+        Ok(Answer::new(DONE, [1].into_iter().chain(numbers).collect()))
+    }
+
+    fn replace(&mut self, by: &[u8]) -> Answered {
+        self.cost.wholes = 1;
+        let (text, limit) = (self.session().buffer().text(), self.session().limit);
+        let none = |status| Ok(Answer::new(status, vec![0]));
+        let Some(pattern) = self.session().buffer().pattern.clone() else { return none(NONE) };
+        let Some(template) = Text::read(by) else { return none(UTF8) };
+        if template.byte_len() > limit {
+            return none(SIZE);
+        }
+        let parts = replaced(&text, &pattern, &template.chars)?;
+        let count = parts.len() as u64;
+        match put(&text, parts, limit) {
+            Err(status) => none(status),
+            Ok((new, changes)) => {
+                self.add(new, changes);
+                self.cost.wholes = 1;
+                Ok(Answer::new(DONE, vec![count]))
+            }
+        }
+    }
+
+    fn fork(&mut self) -> Answer {
+        let text = self.session().buffer().text();
+        let buffers = &mut self.session().buffers;
+        buffers.push(Buffer::new(text));
+        Answer::new(DONE, vec![buffers.len() as u64 - 1])
+    }
+
+    fn choose(&mut self, number: u64) -> u64 {
+        let session = self.session();
+        if number >= session.buffers.len() as u64 {
+            return NONE;
+        }
+        session.chosen = number as usize;
+        DONE
+    }
+
+    /// Drops all undo steps but the last ones, and what could be redone.
+    fn keep(&mut self, steps: u64) -> u64 {
+        let buffer = self.session().buffer();
+        let first = buffer.at - (buffer.at as u64).min(steps) as usize;
+        buffer.steps.truncate(buffer.at + 1);
+        buffer.steps.drain(..first);
+        buffer.at -= first;
+        DONE
+    }
+
+    /// The groups 0 to 9 of a match, as many as there is room for.
+    fn groups_at(&mut self, numbers: &[u64]) -> Answered {
+        let (line, number, room) = (numbers[0], numbers[1], numbers[2]);
+        let buffer = self.session().buffer();
+        let text = buffer.text();
+        let refused = |status| Ok(Answer::new(status, Vec::new()));
+        let Some(pattern) = buffer.pattern.clone() else { return refused(NONE) };
+        let Some((start, end)) = text.line(line) else { return refused(RANGE) };
+        self.cost.rows = 1;
+        let matches = pattern.matches(&text.chars[start..end])?;
+        let number = usize::try_from(number).unwrap_or(usize::MAX);
+        let Some(slots) = matches.get(number) else { return refused(RANGE) };
+        let column = |place: usize| text.position_at(start + place).1;
+        let bounds = |group: usize| {
+            Some((column((*slots.get(2 * group)?)?), column((*slots.get(2 * group + 1)?)?)))
+        };
+        let told = |group| match bounds(group) {
+            Some((first, last)) => vec![1, line, first, last],
+            None => vec![0, 0, 0],
+        };
+        Ok(Answer::new(DONE, (0..10.min(room as usize)).flat_map(told).collect()))
+    }
+}
+
+/// A part of a text, as its places, and what takes its place.
+pub type Part = (usize, usize, Vec<char>);
+
+/// The rows that replacing these ranges may make, and those that it may say that it added.
+fn cost_of(text: &Text, changes: &[Change]) -> Cost {
+    let part = |from, to| {
+        let places = text.place_of_byte(from).zip(text.place_of_byte(to));
+        let (from, to) = places.expect("ranges begin and end where characters do");
+        line_count(&text.chars[from..to])
+    };
+    let rows = changes.iter().map(|change| part(change[2], change[3])).sum();
+    let hull = changes.first().zip(changes.last());
+    Cost { rows, wholes: 0, added: hull.map_or(0, |(first, last)| part(first[2], last[3])) }
+}
+
+/// The text with its parts replaced, unless it has more bytes than the limit.
+fn put(text: &Text, parts: Vec<Part>, limit: u64) -> Made {
+    let (mut new, mut changes, mut at, mut len) = (Vec::new(), Vec::new(), 0, 0);
+    for (first, last, chars) in parts {
+        new.extend_from_slice(&text.chars[at..first]);
+        let start = len + text.byte_at(first) - text.byte_at(at);
+        len = start + chars.iter().map(|c| c.len_utf8() as u64).sum::<u64>();
+        changes.push([text.byte_at(first), text.byte_at(last), start, len]);
+        new.extend(chars);
+        at = last;
+    }
+    new.extend_from_slice(&text.chars[at..]);
+    let new = Text::new(new);
+    if new.byte_len() > limit { Err(SIZE) } else { Ok((new, changes)) }
+}
+
+fn edit_at(text: &Text, call: &Call) -> Result<Vec<Part>, u64> {
+    let n = &call.numbers;
+    let places = text.place_of((n[0], n[1])).zip(text.place_of((n[2], n[3])));
+    one_part(places, &call.bytes)
+}
+
+fn edit_at_bytes(text: &Text, call: &Call) -> Result<Vec<Part>, u64> {
+    let place = |byte| text.place_of_byte(byte).filter(|&place| text.is_position(place));
+    one_part(place(call.numbers[0]).zip(place(call.numbers[1])), &call.bytes)
+}
+
+fn one_part(places: Option<(usize, usize)>, bytes: &[u8]) -> Result<Vec<Part>, u64> {
+    let (first, last) = places.filter(|(first, last)| first <= last).ok_or(RANGE)?;
+    Ok(vec![(first, last, Text::read(bytes).ok_or(UTF8)?.chars)])
+}
+
+fn edits_at(text: &Text, call: &Call) -> Result<Vec<Part>, u64> {
+    let (mut places, mut before, mut len) = (Vec::new(), 0, 0u64);
+    for n in call.numbers.chunks(5) {
+        let ends = text.place_of((n[0], n[1])).zip(text.place_of((n[2], n[3])));
+        let in_order = |&(first, last): &(usize, usize)| before <= first && first <= last;
+        let (first, last) = ends.filter(in_order).ok_or(RANGE)?;
+        let start = len;
+        len = len.checked_add(n[4]).filter(|&len| len <= call.bytes.len() as u64).ok_or(RANGE)?;
+        places.push((first, last, start as usize..len as usize));
+        before = last;
+    }
+    if len != call.bytes.len() as u64 {
+        return Err(RANGE);
+    }
+    let part =
+        |(first, last, range)| Ok((first, last, Text::read(&call.bytes[range]).ok_or(UTF8)?.chars));
+    places.into_iter().map(part).collect()
+}

@@ -1,0 +1,519 @@
+//! Sessions at random. The session of a seed and a number is always the same.
+use crate::calls::*;
+use crate::model::Model;
+use crate::patterns::Patterns;
+use crate::random::Random;
+use crate::some_patterns::{PATTERNS, hostile, mangled, pattern};
+use crate::texts::Text;
+use std::rc::Rc;
+
+const CHARACTERS: &[char] =
+    &['a', 'a', 'b', '\r', '\r', '\n', '\n', '\u{2028}', '🐸', 'é', 'A', ' '];
+const LINES: &[&str] = &["", "a", "mark", "a mark", "- ab -", "é🐸é", "xyz ab xyz ab", "\u{2028}"];
+const BREAKS: &[&str] = &["\n", "\n", "\n", "\r\n", "\r"];
+const LITERALS: &[&str] = &["mark", "a", "ab", "é", "🐸", "\r", "\n", "k\nm", "xyz", "-"];
+/// Patterns that are found in long texts in time linear in these.
+const QUICK: &[&str] = &[
+    "mark",
+    "a",
+    "é",
+    "🐸",
+    "ab|mark",
+    "\\w+",
+    "^",
+    "$",
+    "(?i)MARK",
+    "(m)(a)(r)k",
+    "\\bxyz\\b",
+    "[^a\\n]*k",
+    "\\r?\\n",
+    "(?m)^a",
+    "x+y?",
+    "x*",
+];
+const PIECES: &[&str] =
+    &["$0", "$0", "$1", "$2", "$9", "$$", "$", "$a", "\r", "\n", "\n\r", "a", "b", "é🐸", ""];
+/// The most bytes of a leaf of a rope: edits are made near multiples of it.
+const LEAF: usize = 984;
+const MOST: u64 = u64::MAX;
+const TEXT_LIMIT: u64 = 1 << 30;
+/// How often a session has each command: one of all kinds, and one that goes back and forward.
+const WORDS: [Kind; 18] = [
+    Kind::Edit,
+    Kind::EditBytes,
+    Kind::EditAll,
+    Kind::Undo,
+    Kind::Redo,
+    Kind::SetPattern,
+    Kind::SetText,
+    Kind::Fork,
+    Kind::Choose,
+    Kind::Off,
+    Kind::Next,
+    Kind::Replace,
+    Kind::Forget,
+    Kind::Keep,
+    Kind::GroupsAt,
+    Kind::PatternError,
+    Kind::Open,
+    Kind::Close,
+];
+const OF_ALL_KINDS: &[u32] = &[24, 10, 12, 14, 6, 7, 2, 3, 5, 1, 8, 8, 1, 2, 6, 2, 1, 1];
+const BACK_AND_FORWARD: &[u32] = &[10, 5, 10, 28, 18, 2, 1, 1, 1, 2, 0, 14, 1, 4, 2, 0, 0, 0];
+const OF_LONG_HISTORIES: &[u32] = &[60, 10, 2, 6, 3, 1, 0, 0, 0, 0, 2, 1, 0, 1, 1, 0, 0, 0];
+
+struct Writer {
+    random: Random,
+    model: Model,
+    calls: Vec<Call>,
+    /// How many of 1,000 calls have requests refused.
+    refused: u64,
+    is_over: bool,
+}
+
+/// The calls of a session.
+pub fn session(seed: u64, number: u64, patterns: &Rc<Patterns>) -> Vec<Call> {
+    let mut random = Random::new(seed, number);
+    let refused = if random.per_mille(120) { random.one_of(&[50, 300, 900]) } else { 0 };
+    let model = Model::new(patterns);
+    let mut writer = Writer { random, model, calls: Vec::new(), refused, is_over: false };
+    match number % 10_000 {
+        5_000 => writer.huge(),
+        number if number % 1_000 == 500 => writer.many(),
+        _ => match writer.random.weighted(&[85, 10, 5]) {
+            0 => writer.plain(),
+            1 => writer.hostile(),
+            _ => writer.long(),
+        },
+    }
+    writer.calls
+}
+
+impl Writer {
+    /// Adds a call, which the model carries out as if no memory were refused to it.
+    fn write(&mut self, kind: Kind, numbers: &[u64], text: &[u8]) {
+        if self.is_over {
+            return;
+        }
+        let mut call = Call::new(kind, numbers, text);
+        if kind.may_need_memory() && self.random.per_mille(self.refused) {
+            let most = self.random.one_of(&[1, 3, 10, 40]);
+            let number = self.random.between(1, most) as u64;
+            call.refusal = Some(Refusal { number, all: self.random.per_mille(500) });
+        }
+        if kind.is_command() && kind != Kind::GroupsAt {
+            self.is_over = self.model.carry_out(&call).is_err();
+        }
+        self.calls.push(call);
+    }
+
+    fn say(&mut self, kind: Kind, text: &str) {
+        self.write(kind, &[], text.as_bytes());
+    }
+
+    fn text(&mut self) -> Rc<Text> {
+        let text = self.model.buffer().map(|buffer| buffer.text());
+        text.unwrap_or_else(|| Rc::new(Text::new(Vec::new())))
+    }
+
+    fn some_text(&mut self, most: usize) -> String {
+        let count = self.random.between(0, most);
+        (0..count).map(|_| self.random.one_of(CHARACTERS)).collect()
+    }
+
+    /// Commands of all kinds, in short texts.
+    fn plain(&mut self) {
+        let weights = match self.random.below(3) {
+            0 => OF_ALL_KINDS.to_vec(),
+            1 => BACK_AND_FORWARD.to_vec(),
+            _ => WORDS.map(|_| self.random.one_of(&[1, 1, 4, 12])).to_vec(),
+        };
+        if self.random.per_mille(30) {
+            self.some_read();
+            self.some_command(&weights);
+        }
+        let limit =
+            self.random.one_of(&[TEXT_LIMIT, TEXT_LIMIT, TEXT_LIMIT, TEXT_LIMIT, 0, 3, 10, 40]);
+        self.write(Kind::Open, &[limit], &[]);
+        let text = self.some_text(14);
+        self.say(Kind::SetText, &text);
+        if self.random.per_mille(800) {
+            let pattern = pattern(&mut self.random);
+            self.say(Kind::SetPattern, &pattern);
+        }
+        for _ in 0..self.random.between(4, 24) {
+            self.some_command(&weights);
+            for _ in 0..self.random.one_of(&[0, 0, 1, 3]) {
+                self.some_read();
+            }
+        }
+    }
+
+    /// Some commands under hostile patterns.
+    fn hostile(&mut self) {
+        self.write(Kind::Open, &[TEXT_LIMIT], &[]);
+        let text = self.some_text(14);
+        self.say(Kind::SetText, &text);
+        for _ in 0..self.random.between(1, 3) {
+            let pattern = hostile(&mut self.random);
+            let kinds = [Kind::SetPattern, Kind::SetPattern, Kind::SetPattern, Kind::PatternError];
+            let kind = self.random.one_of(&kinds);
+            self.say(kind, &pattern);
+            for _ in 0..self.random.between(2, 6) {
+                let is_short = self.text().chars.len() < 60;
+                self.some_command(if is_short { OF_ALL_KINDS } else { BACK_AND_FORWARD });
+                self.some_read();
+            }
+        }
+    }
+
+    /// Edits and searches in a text of several leaves.
+    fn long(&mut self) {
+        let lines = self.random.one_of(&[60, 200, 600]);
+        let text = self.lines(lines);
+        self.edit_long(&text, &[], 8);
+    }
+
+    /// The same in a text of up to 200 kB, or of one made of full leaves.
+    fn huge(&mut self) {
+        let bytes = self.random.between(50_000, 200_000);
+        let mut text = String::new();
+        while text.len() < bytes {
+            text += &match self.random.below(5) {
+                0 => self.lines(40),
+                1 => "x".repeat(self.random.between(1, 3 * LEAF)),
+                2 => "é🐸".repeat(self.random.between(1, 300)) + "\r\n",
+                3 => "\r\n".repeat(self.random.between(1, 600)),
+                _ => "mark xyz\n".repeat(self.random.between(1, 200)),
+            };
+        }
+        self.edit_long(&text, QUICK, 20);
+    }
+
+    /// A history of some hundreds of texts, and edits of many places at once.
+    fn many(&mut self) {
+        self.write(Kind::Open, &[TEXT_LIMIT], &[]);
+        let text = self.lines(30);
+        self.say(Kind::SetText, &text);
+        let pattern = self.random.one_of(QUICK);
+        self.say(Kind::SetPattern, pattern);
+        for _ in 0..self.random.between(100, 400) {
+            self.some_command(OF_LONG_HISTORIES);
+            if self.random.per_mille(20) {
+                let kind = self.random.one_of(&[Kind::Undo, Kind::Redo]);
+                for _ in 0..self.random.between(1, 150) {
+                    self.write(kind, &[], &[]);
+                }
+            }
+            if self.random.per_mille(10) {
+                let (text, count) = (self.text(), self.random.between(20, 200));
+                self.edit_all(&text, count);
+            }
+        }
+    }
+
+    fn lines(&mut self, count: usize) -> String {
+        let mut text = String::new();
+        for _ in 0..count {
+            text += self.random.one_of(LINES);
+            if self.random.per_mille(30) {
+                text += &"x".repeat(self.random.between(1, 2 * LEAF));
+            }
+            text += self.random.one_of(BREAKS);
+        }
+        text
+    }
+
+    fn edit_long(&mut self, text: &str, patterns: &[&str], most: usize) {
+        self.write(Kind::Open, &[TEXT_LIMIT], &[]);
+        self.say(Kind::SetText, text);
+        for _ in 0..self.random.between(1, 2) {
+            let literal = self.random.one_of(LITERALS);
+            let pattern = match self.random.below(10) {
+                0..5 => literal.to_string(),
+                _ if !patterns.is_empty() => self.random.one_of(patterns).to_string(),
+                5..8 => self.random.one_of(PATTERNS).to_string(),
+                _ => self.random.one_of(QUICK).to_string(),
+            };
+            self.say(Kind::SetPattern, &pattern);
+            for _ in 0..self.random.between(2, most) {
+                self.long_command();
+                self.some_read();
+            }
+        }
+    }
+
+    fn long_command(&mut self) {
+        let kinds = [
+            Kind::Edit,
+            Kind::Edit,
+            Kind::EditBytes,
+            Kind::EditAll,
+            Kind::Undo,
+            Kind::Redo,
+            Kind::Next,
+            Kind::Fork,
+            Kind::Choose,
+            Kind::Replace,
+            Kind::Keep,
+            Kind::GroupsAt,
+        ];
+        let kind = self.random.one_of(&kinds);
+        let text = self.text();
+        if matches!(kind, Kind::Edit | Kind::EditBytes) {
+            let (first, last) = self.some_range(&text);
+            let new = self.long_payload();
+            let is_bytes = kind == Kind::EditBytes;
+            let numbers = ends(&text, first, last, is_bytes);
+            self.write(kind, &numbers, new.as_bytes());
+        } else if kind != Kind::Replace || text.chars.len() < 60_000 {
+            self.command(kind);
+        }
+    }
+
+    fn long_payload(&mut self) -> String {
+        match self.random.below(8) {
+            0 => self.random.one_of(LITERALS).to_string(),
+            1 => self.random.one_of(BREAKS).to_string(),
+            2 => "x".repeat(self.random.between(LEAF - 3, LEAF + 3)),
+            3 => "a\r\nb".repeat(self.random.between(1, 500)),
+            4 => "é🐸\r".repeat(self.random.between(1, 300)),
+            5 => self.lines(20),
+            _ => String::new(),
+        }
+    }
+
+    /// A place of a text: one near a multiple of a leaf's size, at an end of a line, or any.
+    fn some_place(&mut self, text: &Text) -> usize {
+        let len = text.chars.len();
+        let place = match self.random.below(4) {
+            0 if len > LEAF => {
+                let seam = LEAF * self.random.between(0, len / LEAF);
+                (seam + self.random.between(0, 4)).saturating_sub(2)
+            }
+            1 => {
+                let (start, end) = self.random.one_of(&text.lines);
+                self.random.one_of(&[start, end])
+            }
+            _ => self.random.between(0, len),
+        };
+        (place.min(len)..=len).find(|&place| text.is_position(place)).unwrap_or(len)
+    }
+
+    /// Two places of a text, often the same, and rarely far from one another.
+    fn some_range(&mut self, text: &Text) -> (usize, usize) {
+        let first = self.some_place(text);
+        let last = match self.random.below(10) {
+            0..4 => first,
+            4..8 => {
+                let most = self.random.one_of(&[1, 2, 5, LEAF, 3 * LEAF]);
+                let last = (first + self.random.between(0, most)).min(text.chars.len());
+                if text.is_position(last) { last } else { last + 1 }
+            }
+            _ => self.some_place(text),
+        };
+        (first.min(last), first.max(last))
+    }
+
+    fn some_command(&mut self, weights: &[u32]) {
+        let last = self.calls.last().map(|call| call.kind);
+        let mut kind = WORDS[self.random.weighted(weights)];
+        if matches!(last, Some(Kind::Undo | Kind::Redo)) && self.random.per_mille(400) {
+            kind = Kind::Redo;
+        }
+        self.command(kind);
+    }
+
+    /// A command of a kind.
+    fn command(&mut self, kind: Kind) {
+        let text = self.text();
+        let is_long = text.chars.len() > 400;
+        match kind {
+            Kind::Edit | Kind::EditBytes => self.edit(kind, &text),
+            Kind::EditAll => {
+                let count = self.random.one_of(&[0, 1, 1, 2, 2, 3, 5]);
+                self.edit_all(&text, count);
+            }
+            Kind::SetPattern => {
+                let pattern = pattern(&mut self.random);
+                self.bad_or(kind, &pattern);
+            }
+            Kind::PatternError => {
+                let pattern = mangled(&mut self.random);
+                self.bad_or(kind, &pattern);
+            }
+            Kind::SetText => {
+                let text = self.some_text(12);
+                self.bad_or(kind, &text);
+            }
+            Kind::Replace => {
+                let template = self.template(is_long);
+                self.bad_or(kind, &template);
+            }
+            Kind::Next => {
+                let position = self.some_position(&text);
+                self.write(kind, &position, &[]);
+            }
+            Kind::GroupsAt => self.groups_at(&text),
+            _ => self.plain_command(kind),
+        }
+    }
+
+    /// A command with a number, or with none.
+    fn plain_command(&mut self, kind: Kind) {
+        let numbers = match kind {
+            Kind::Choose => {
+                let buffers = self.model.open.as_ref().map_or(1, |open| open.buffers.len());
+                vec![self.random.between(buffers.saturating_sub(4), buffers) as u64]
+            }
+            Kind::Keep => vec![self.random.one_of(&[0, 1, 1, 2, 5, MOST])],
+            Kind::Open => vec![self.random.one_of(&[TEXT_LIMIT, TEXT_LIMIT, 20, 1 << 63, MOST])],
+            _ => Vec::new(),
+        };
+        self.write(kind, &numbers, &[]);
+    }
+
+    /// A call with a text, which now and then isn't UTF-8.
+    fn bad_or(&mut self, kind: Kind, text: &str) {
+        if self.random.per_mille(15) {
+            let bad: &[&[u8]] =
+                &[b"\xff", b"a\xed\xa0\x80", b"\xc3", b"\xf4\x90\x80\x80", b"\xc0\x80"];
+            let bytes = [text.as_bytes(), self.random.one_of(bad)].concat();
+            return self.write(kind, &[], &bytes);
+        }
+        self.say(kind, text);
+    }
+
+    fn template(&mut self, is_long: bool) -> String {
+        let most = if is_long { 1 } else { self.random.one_of(&[0, 1, 1, 2, 2, 4]) };
+        let count = self.random.between(0, most);
+        (0..count).map(|_| self.random.one_of(PIECES)).collect()
+    }
+
+    fn some_position(&mut self, text: &Text) -> [u64; 2] {
+        if self.random.per_mille(100) {
+            return [self.some_number(4), self.some_number(5)];
+        }
+        let (line, column) = text.position_at(self.some_place(text));
+        [line, column]
+    }
+
+    /// A small number, or now and then a large one.
+    fn some_number(&mut self, most: u64) -> u64 {
+        match self.random.below(20) {
+            0 => self.random.one_of(&[MOST, 1 << 63, (1 << 32) - 1, 1 << 32]),
+            _ => self.random.next() % (most + 1),
+        }
+    }
+
+    fn payload(&mut self) -> Vec<u8> {
+        let most = self.random.one_of(&[0, 1, 2, 2, 6]);
+        let text = match self.random.below(100) {
+            0..2 => return b"\xff".to_vec(),
+            2..35 => self.random.one_of(&["", "\n", "\r", "\n\r"]).to_string(),
+            _ => self.some_text(most),
+        };
+        text.into_bytes()
+    }
+
+    fn edit(&mut self, kind: Kind, text: &Text) {
+        let is_bytes = kind == Kind::EditBytes;
+        let (first, last) = self.some_range(text);
+        let mut numbers = ends(text, first, last, is_bytes);
+        if self.random.per_mille(120) {
+            for number in &mut numbers {
+                *number = self.some_number(5);
+            }
+        }
+        let payload = self.payload();
+        self.write(kind, &numbers, &payload);
+    }
+
+    /// Several edits as one: as a rule one after the other, where some touch.
+    fn edit_all(&mut self, text: &Text, count: usize) {
+        let mut places: Vec<usize> = (0..2 * count).map(|_| self.some_place(text)).collect();
+        places.sort_unstable();
+        let (mut numbers, mut bytes) = (Vec::new(), Vec::new());
+        for pair in places.chunks(2) {
+            let last = if self.random.per_mille(400) { pair[0] } else { pair[1] };
+            let payload = self.payload();
+            numbers.extend(ends(text, pair[0], last, false));
+            numbers.push(payload.len() as u64);
+            bytes.extend(payload);
+        }
+        if !numbers.is_empty() && self.random.per_mille(150) {
+            let at = self.random.below(numbers.len());
+            numbers[at] = self.some_number(5);
+        }
+        if numbers.len() > 5 && self.random.per_mille(50) {
+            numbers.rotate_left(5);
+        }
+        self.write(Kind::EditAll, &numbers, &bytes);
+    }
+
+    fn groups_at(&mut self, text: &Text) {
+        let line = match self.random.below(10) {
+            0 => self.some_number(6),
+            _ => self.random.below(text.lines.len()) as u64,
+        };
+        let numbers = [line, self.some_number(2), self.random.one_of(&[10, 10, 10, 0, 1, 3, 12])];
+        self.write(Kind::GroupsAt, &numbers, &[]);
+    }
+
+    /// A call that reads, about something that is there or isn't.
+    fn some_read(&mut self) {
+        let text = self.text();
+        let kind = self.random.one_of(&READS);
+        if kind == Kind::GroupsAt {
+            return self.groups_at(&text);
+        }
+        let numbers = self.numbers_of(kind, &text);
+        self.write(kind, &numbers, &[]);
+    }
+
+    fn numbers_of(&mut self, kind: Kind, text: &Text) -> Vec<u64> {
+        let position = self.some_position(text);
+        let bits = self.random.one_of(&[8, 16, 32, 8, 16, 32, 8, 16, 32, 0, 7, 64]);
+        let lines = text.lines.len() as u64;
+        match kind {
+            Kind::CopyText => {
+                let (first, last) = self.some_range(text);
+                let (from, to) = (text.byte_at(first), text.byte_at(last));
+                let more = self.random.one_of(&[0, 0, 0, 1, 2]);
+                let room = (to - from + 1).saturating_sub(self.random.one_of(&[0, 1, 1, 2]));
+                vec![from + more, to, room]
+            }
+            Kind::PositionOf => vec![self.some_number(text.byte_len() + 2)],
+            Kind::ByteOf | Kind::ListedFrom | Kind::ListedBefore => position.to_vec(),
+            Kind::ColumnIn => vec![bits, position[0], position[1]],
+            Kind::PositionIn | Kind::Clamp => {
+                vec![bits, position[0], position[1] + self.random.one_of(&[0, 0, 1, 3])]
+            }
+            Kind::LineLen => vec![position[0], bits],
+            Kind::CopyLine => {
+                let len = text.line(position[0]).and_then(|(from, to)| text.count(8, from, to));
+                let room = (len.unwrap_or(3) + 1).saturating_sub(self.random.one_of(&[0, 1, 2]));
+                vec![position[0], room]
+            }
+            Kind::CountMatches => vec![self.some_number(lines + 1), self.some_number(lines + 1)],
+            Kind::CopyMatches | Kind::CopyMatchesIn => {
+                let room = self.random.one_of(&[0, 1, 3, 40, 400]);
+                let rows = [self.some_number(lines + 1), self.some_number(lines + 1)];
+                let bits = if kind == Kind::CopyMatches { vec![] } else { vec![bits] };
+                [bits, rows.to_vec(), vec![room]].concat()
+            }
+            Kind::ListIndex => vec![position[0], self.some_number(2)],
+            Kind::TextChanges => vec![self.random.one_of(&[0, 1, 2, 5, 50])],
+            _ => Vec::new(),
+        }
+    }
+}
+
+/// The bounds of an edit, as positions or as bytes.
+fn ends(text: &Text, first: usize, last: usize, is_bytes: bool) -> Vec<u64> {
+    if is_bytes {
+        return vec![text.byte_at(first), text.byte_at(last)];
+    }
+    let (from, to) = (text.position_at(first), text.position_at(last));
+    vec![from.0, from.1, to.0, to.1]
+}
