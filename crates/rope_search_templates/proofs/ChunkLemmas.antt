@@ -8,14 +8,8 @@ use Rattle.std.proofs.lemmas.Str.{encodes-append, encodes-chars}
 use Rattle.str_indices.specs.Text.{byte_len}
 use Rattle.ropey.specs.Chunks.{ShowsChunk, lone_piece, text_of}
 use Rattle.rope_search_changes.specs.Text.{bytes_of}
+use Rattle.rope_search_templates.specs.Parts.{ChunkIn}
 use Rattle.rope_search_templates.proofs.LeftLemmas.{boundary-front, boundary-behind}
-
--- a chunk with the bytes that stand before it and behind it
-pub record ChunkIn (content chunk : List ℕ) (start : ℕ) : Type 0 where
-  pub front : List ℕ
-  pub back : List ℕ
-  pub parts : content ≡ front ++ (chunk ++ back)
-  pub start_is : start ≡ length front
 
 alone-text : (chunk : List ℕ) → text_of (lone_piece chunk) ≡ chunk
 alone-text [] = refl
@@ -38,6 +32,10 @@ chunk-in pieces chunk place start char line utf8 s =
           ∙ append_assoc (bytes_of before) chunk (bytes_of after);
       start_is = s.byte_is;
     }
+
+-- at the start of a content stands a chunk of nothing
+pub chunk-of-nothing : (content : List ℕ) → ChunkIn content [] 0
+chunk-of-nothing content = record { front = []; back = content; parts = refl; start_is = refl }
 
 -- the part lies in it
 module _ (content chunk : List ℕ) (at start end : ℕ) (is : ChunkIn content chunk at) (low : at ≤ start) (ordered : start ≤ end) (high : end - at ≤ length chunk) where

@@ -4,6 +4,7 @@
 pub mod laws;
 mod left;
 mod matches;
+mod parts;
 mod pieces;
 mod replacing;
 mod substitutions;

@@ -8,6 +8,7 @@ ghost use Rattle.rope_search_templates.specs.Matches.{matched};
 
 use crate::left::Left;
 use crate::matches::Matches;
+use crate::parts::Parts;
 use crate::templates::Template;
 use crate::told::Told;
 use rope_search_changes::Change;
@@ -75,11 +76,12 @@ fn edited(
     // For its facts alone.
     let _ = text.len_bytes();
     let mut new = text.clone()?;
+    let mut parts = Parts::of(text);
     let mut told = Told::new(alloc, matches.len())?;
     for index in 0..matches.len() {
         let found = matches.at(index);
         let (start, end) = found.span();
-        let change = told.tell(template, text, found)?;
+        let change = told.tell(template, &mut parts, found)?;
         let range = change.new_start..change.new_start + (end - start);
         let Ok(()) = new.byte_replace(range, told.text.as_str()) else {
             return Err(Fault::Memory);
@@ -109,12 +111,13 @@ fn rebuilt(
     let _ = text.len_bytes();
     let mut left = Left::of(text);
     let mut builder = RopeBuilder::new(alloc);
+    let mut parts = Parts::of(text);
     let mut told = Told::new(alloc, matches.len())?;
     for index in 0..matches.len() {
         let found = matches.at(index);
         let (start, end) = found.span();
         left.copy(start - told.at, &mut builder)?;
-        told.tell(template, text, found)?;
+        told.tell(template, &mut parts, found)?;
         let Ok(()) = builder.append(told.text.as_str()) else {
             return Err(Fault::Memory);
         };

@@ -3,16 +3,15 @@ ghost use Rattle.std.specs.Prelude.{◌≡◌, ℕ, ◌≤◌, false, true, List
 ghost use Rattle.std.specs.Str.{chars};
 ghost use Rattle.str_indices.specs.Text.{byte_len};
 ghost use Rattle.ropey.specs.Chunks.{text_of};
-ghost use Rattle.ropey.specs.Slices.{slice_text};
 ghost use Rattle.rope_search_changes.specs.Text.{IsText, bytes_of};
-ghost use Rattle.rope_search_changes.specs.Replacement.{Groups, HasSpansIn, IsSpanIn, between, expand};
+ghost use Rattle.rope_search_changes.specs.Replacement.{Groups, HasSpansIn, expand};
 ghost use Rattle.rope_search_templates.specs.Templates.{names_explicit_groups, names_groups};
 ghost use Rattle.rope_search_templates.specs.Matches.{groups_in};
 ghost use Rattle.rope_search_templates.specs.Pieces.{IsTemplatePiece, shown};
 
 use crate::matches::Match;
+use crate::parts::Parts;
 use crate::pieces::{Piece, Pieces};
-use ropey::{Rope, RopeSlice};
 use std::alloc::AllocError;
 use std::marker::Model;
 
@@ -40,55 +39,22 @@ impl<'a> Model for Template<'a> {
         × IfSome template.same_len (IsSame (chars template.text.now)) };
 }
 
-/// Puts the text of a slice behind what `out` has, chunk by chunk. Where memory is refused, a front
-/// of it may have been put there.
-fn push_slice(slice: RopeSlice<'_>, out: &mut String) -> Result<(), AllocError>
-    ensures pushed { OnOk result (chars (string_bytes out.new) ≡
-        chars (string_bytes out.old) ++ slice_text slice.entry) }
-    ensures front { OnErr result ((len : ℕ) × (chars (string_bytes out.new) ≡
-        chars (string_bytes out.old) ++ take len (slice_text slice.entry))) }
-{
-    for chunk in slice.chunks() {
-        out.push_str(chunk)?;
-    }
-    Ok(())
-}
-
-/// Puts the part of a text from one place to another behind what `out` has. Where memory is
-/// refused, a front of it may have been put there. `O(log t)` in a text of t bytes, and linear in
-/// the part.
-fn push_part(text: &Rope, start: usize, end: usize, out: &mut String) -> Result<(), AllocError>
-    requires { IsSpanIn (bytes_of (text_of text.now)) (start, end) }
-    ensures pushed { OnOk result (chars (string_bytes out.new) ≡ chars (string_bytes out.old)
-        ++ between (bytes_of (text_of text.now)) start end) }
-    ensures front { OnErr result ((len : ℕ) × (chars (string_bytes out.new) ≡
-        chars (string_bytes out.old)
-        ++ take len (between (bytes_of (text_of text.now)) start end))) }
-{
-    let (chunk, chunk_start, _, _) = text.chunk_at_byte(start);
-    if end - chunk_start <= chunk.len() {
-        return out.push_str(&chunk[start - chunk_start..end - chunk_start]);
-    }
-    // For its facts alone.
-    let _ = text.len_bytes();
-    push_slice(text.slice(..).byte_slice(start..end), out)
-}
-
 /// Puts what a piece of a template stands for behind what `out` has. Where memory is refused, a
 /// front of it may have been put there.
 fn push_piece(
     piece: Piece<'_>,
-    text: &Rope,
+    parts: &mut Parts<'_>,
     found: Match<'_>,
     out: &mut String,
 ) -> Result<(), AllocError>
     requires piece { IsTemplatePiece piece }
-    requires spans { HasSpansIn (bytes_of (text_of text.now)) (groups_in found) }
+    requires spans { HasSpansIn (bytes_of (text_of parts.old)) (groups_in found) }
     ensures pushed { OnOk result (chars (string_bytes out.new) ≡ chars (string_bytes out.old)
-        ++ shown (bytes_of (text_of text.now)) (groups_in found.entry) piece.entry) }
+        ++ shown (bytes_of (text_of parts.old)) (groups_in found.entry) piece.entry) }
     ensures front { OnErr result ((len : ℕ) × (chars (string_bytes out.new) ≡
         chars (string_bytes out.old)
-        ++ take len (shown (bytes_of (text_of text.now)) (groups_in found.entry) piece.entry))) }
+        ++ take len (shown (bytes_of (text_of parts.old)) (groups_in found.entry) piece.entry))) }
+    ensures parts { parts.new ≡ parts.old }
 {
     match piece {
         Piece::Text(part) => out.push_str(part),
@@ -96,7 +62,7 @@ fn push_piece(
             let Some((start, end)) = found.group(number) else {
                 return Ok(());
             };
-            push_part(text, start, end, out)
+            parts.push(start, end, out)
         }
     }
 }
@@ -183,23 +149,25 @@ impl<'a> Template<'a> {
 
     /// Puts what it stands for at a match of a text behind what `out` has. Where memory is refused,
     /// a front of that may have been put there. `O(m + n)` for a template of m bytes that stands
-    /// for n, and `O(log t)` for each group in a text of t bytes.
+    /// for n, and `O(log t)` for each group that isn't in the chunk of the one before, in a text of
+    /// t bytes.
     pub(crate) fn expand(
         &self,
-        text: &Rope,
+        parts: &mut Parts<'_>,
         found: Match<'_>,
         out: &mut String,
     ) -> Result<(), AllocError>
-        requires { HasSpansIn (bytes_of (text_of text.now)) (groups_in found) }
+        requires { HasSpansIn (bytes_of (text_of parts.old)) (groups_in found) }
         ensures expanded { OnOk result (chars (string_bytes out.new) ≡
             chars (string_bytes out.old)
-            ++ expand (bytes_of (text_of text.now)) (groups_in found.entry) self.now) }
+            ++ expand (bytes_of (text_of parts.old)) (groups_in found.entry) self.now) }
         ensures front { OnErr result ((len : ℕ) × (chars (string_bytes out.new) ≡
             chars (string_bytes out.old)
-            ++ take len (expand (bytes_of (text_of text.now)) (groups_in found.entry) self.now))) }
+            ++ take len (expand (bytes_of (text_of parts.old)) (groups_in found.entry) self.now))) }
+        ensures parts { parts.new ≡ parts.old }
     {
         for piece in self.pieces() {
-            push_piece(piece, text, found, out)?;
+            push_piece(piece, parts, found, out)?;
         }
         Ok(())
     }

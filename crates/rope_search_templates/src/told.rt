@@ -8,9 +8,9 @@ ghost use Rattle.rope_search_templates.specs.Matches.{groups_in};
 ghost use Rattle.rope_search_templates.specs.Told.{IsToldNext, IsToldOf, IsToldOfNone, change_at};
 
 use crate::matches::Match;
+use crate::parts::Parts;
 use crate::templates::Template;
 use rope_search_changes::Change;
-use ropey::Rope;
 use std::alloc::{AllocError, Global};
 
 /// What a template stands for at a match, and the changes that the matches up to that one make. A
@@ -48,23 +48,24 @@ impl Told {
     fn show(
         &mut self,
         template: &Template<'_>,
-        text: &Rope,
+        parts: &mut Parts<'_>,
         found: Match<'_>,
     ) -> Result<(), AllocError>
         requires told { IsToldOf template.now self.old }
-        requires spans { HasSpansIn (bytes_of (text_of text.now)) (groups_in found) }
+        requires spans { HasSpansIn (bytes_of (text_of parts.old)) (groups_in found) }
         ensures text { OnOk result (chars (string_bytes self.new.text) ≡
-            expand (bytes_of (text_of text.now)) (groups_in found.entry) template.now) }
+            expand (bytes_of (text_of parts.old)) (groups_in found.entry) template.now) }
         ensures told { OnOk result (IsToldOf template.now self.new) }
         ensures changes { self.new.changes ≡ self.old.changes }
         ensures at { self.new.at ≡ self.old.at }
         ensures at_new { self.new.at_new ≡ self.old.at_new }
+        ensures parts { parts.new ≡ parts.old }
     {
         if self.is_same {
             return Ok(());
         }
         self.text.clear();
-        template.expand(text, found, &mut self.text)?;
+        template.expand(parts, found, &mut self.text)?;
         self.is_same = template.is_same();
         Ok(())
     }
@@ -74,19 +75,20 @@ impl Told {
     pub(crate) fn tell(
         &mut self,
         template: &Template<'_>,
-        text: &Rope,
+        parts: &mut Parts<'_>,
         found: Match<'_>,
     ) -> Result<Change, AllocError>
         requires told { IsToldOf template.now self.old }
-        requires spans { HasSpansIn (bytes_of (text_of text.now)) (groups_in found) }
+        requires spans { HasSpansIn (bytes_of (text_of parts.old)) (groups_in found) }
         requires behind { self.old.at ≤ (whole (groups_in found)).0 }
-        requires fits { (change_at (bytes_of (text_of text.now)) template.now
+        requires fits { (change_at (bytes_of (text_of parts.old)) template.now
             self.old.at self.old.at_new (groups_in found)).new_end < 2 ^ 63 }
         requires room { vec_len self.old.changes < vec_capacity self.old.changes }
-        ensures { IfOk result (IsToldNext (bytes_of (text_of text.now)) template.now
+        ensures told { IfOk result (IsToldNext (bytes_of (text_of parts.old)) template.now
             (groups_in found.entry) self.old self.new) }
+        ensures parts { parts.new ≡ parts.old }
     {
-        self.show(template, text, found)?;
+        self.show(template, parts, found)?;
         let (start, end) = found.span();
         let new_start = self.at_new + (start - self.at);
         let change = Change {

@@ -1,5 +1,5 @@
 -- The text in which the matches up to some one are replaced, and the changes that were told.
-use Rattle.std.proofs.Common.{drop}
+use Rattle.std.proofs.Common.{◌≡◌, drop}
 use Rattle.ropey.specs.Chunks.{text_of}
 use Rattle.rope_search_changes.specs.Text.{bytes_of}
 use Rattle.rope_search_changes.specs.Replacement.{replaced}
@@ -14,3 +14,4 @@ invariant-loop-index l =
     let matches = matched l.matches in
     IsReplacedBefore content l.template l.told.at l.told.at_new (drop l.index matches) (text_of l.new) (replaced content l.template 0 matches)
     × AreToldUpTo content l.template matches l.index l.told
+    × (l.parts ≡ l.text)

@@ -5,7 +5,7 @@ use Rattle.ropey.specs.Chunks.{text_of}
 use Rattle.rope_search_changes.specs.Text.{bytes_of}
 use Rattle.rope_search_changes.specs.Replacement.{replaced, whole, between, expand}
 use Rattle.rope_search_changes.specs.declared.Change.{Change}
-use Rattle.rope_search_templates.specs.Matches.{matched}
+use Rattle.rope_search_templates.specs.Matches.{groups_in, matched}
 use Rattle.rope_search_templates.specs.Told.{IsToldNext, IsToldOfNone, change_at}
 use Rattle.rope_search_templates.proofs.ContentLemmas.{text-utf8, all-left}
 use Rattle.rope_search_templates.proofs.LeftLemmas.{boundary-left}
@@ -24,6 +24,7 @@ loop-index-init c =
           (record { left = left; text_is = ap (λ (l : List ℕ). l ++ all) c.new-builder.ensures }),
       c.of-left.ensures ∙ ap (λ n. drop n content) (sym none.at),
       told-none content c.args.template.now matches c.in_ok-told.told left none,
+      c.of-parts.ensures,
     )
 
 pub tell-requires-clause-fits : goal.tell-requires-clause-fits
@@ -31,8 +32,19 @@ tell-requires-clause-fits c =
     let content = bytes_of (text_of c.args.text.now) in
     let matches = matched c.args.matches.now in
     let inside : c.loop-index.index < length matches = omega (arith, c.loop-index-test.true, c.len-index-end.ensures) in
-    subst (λ g. (change_at content c.args.template.now c.loop-index.told.at c.loop-index.told.at_new g).new_end < 2 ^ 63) (sym c.at-found.ensures)
-    (told-fits content c.args.template.now matches c.loop-index.index (2 ^ 63) c.loop-index.told (text-utf8 _ c.len_bytes.ensures.cut.cut) inside c.loop-index.invariant.2 c.requires.fits)
+    rw c.loop-index.invariant.3 (subst (λ g. (change_at content c.args.template.now c.loop-index.told.at c.loop-index.told.at_new g).new_end < 2 ^ 63) (sym c.at-found.ensures)
+    (told-fits content c.args.template.now matches c.loop-index.index (2 ^ 63) c.loop-index.told (text-utf8 _ c.len_bytes.ensures.cut.cut) inside c.loop-index.invariant.2 c.requires.fits))
+
+pub copy-requires : goal.copy-requires
+copy-requires c =
+    let content = bytes_of (text_of c.args.text.now) in
+    let matches = matched c.args.matches.now in
+    let at = c.loop-index.told.at in
+    let here = built-next content c.args.template.now at matches c.loop-index.index _ _ (omega (arith, c.loop-index-test.true, c.len-index-end.ensures)) c.loop-index.invariant.0 in
+    let follow = here.left.follow in
+    let span = c.span-start.ensures ∙ ap whole c.at-found.ensures in
+    subst (λ bs. IsCharBoundary bs (c.span-start.result.0 - at)) (sym c.loop-index.invariant.1)
+    (subst (λ (p : ℕ × ℕ). IsCharBoundary (drop at content) (p.0 - at)) (sym span) (boundary-left content at _ follow.0 here.left.here follow.2))
 
 pub skip-requires : goal.skip-requires
 skip-requires c =
@@ -65,7 +77,9 @@ loop-index-preserved c =
     let follow = here.left.follow in
     let change = c.in_ok-tell.field-0 in
     let told = c.tell.new.self in
-    let step : IsToldNext content template match c.loop-index.told told change = subst (λ g. IsToldNext content template g c.loop-index.told told change) c.at-found.ensures c.in_ok-tell.ensures in
+    let own : IsToldNext content template (groups_in c.at-found.result) c.loop-index.told told change =
+    subst (λ ps. IsToldNext (bytes_of (text_of ps)) template (groups_in c.at-found.result) c.loop-index.told told change) c.loop-index.invariant.3 c.in_ok-tell.ensures.told in
+    let step : IsToldNext content template match c.loop-index.told told change = subst (λ g. IsToldNext content template g c.loop-index.told told change) c.at-found.ensures own in
     let at_is : told.at ≡ (whole match).1 = step.at ∙ ap (λ (a : Change). a.old_end) step.change_is in
     let span = c.span-start.ensures ∙ ap whole c.at-found.ensures in
     let start = c.span-start.result.0 in
@@ -86,4 +100,5 @@ loop-index-preserved c =
       c.skip.ensures ∙ ap (drop (end - start)) left_is ∙ drop-drop (end - start) start content
           ∙ ap (λ n. drop n content) (omega (arith, follow.1, ap (λ p. p.0) span, ap (λ p. p.1) span, at_is)),
       told-step content template matches k c.loop-index.told told change (text-utf8 _ c.len_bytes.ensures.cut.cut) inside c.loop-index.invariant.2 step,
+      c.tell.ensures.parts ∙ c.loop-index.invariant.3,
     )

@@ -14,3 +14,4 @@ invariant-loop-index l =
     let matches = matched l.matches in
     IsBuilt content l.template l.told.at (drop l.index matches) l.builder (replaced content l.template 0 matches)
     × (l.left.bytes ≡ drop l.told.at content) × AreToldUpTo content l.template matches l.index l.told
+    × (l.parts ≡ l.text)

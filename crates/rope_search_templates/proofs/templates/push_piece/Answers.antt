@@ -13,19 +13,20 @@ pub returns-in-Text-clause-pushed : goal.returns-in-Text-clause-pushed
 returns-in-Text-clause-pushed c =
     rw c.in-Text.is (pushed-ok c.push_str.result c.args.out.now c.push_str.new.self c.in-Text.part.now c.push_str.ensures.bytes)
 
-pub push_part-requires : goal.push_part-requires
-push_part-requires c =
-    span-of (bytes_of (text_of c.args.text.now)) (groups_in c.args.found) c.in-Group.number (c.in-Some.start, c.in-Some.end) c.requires.spans (sym c.group.ensures ∙ c.in-Some.is)
+pub push-requires : goal.push-requires
+push-requires c =
+    span-of (bytes_of (text_of c.args.parts.now)) (groups_in c.args.found) c.in-Group.number (c.in-Some.start, c.in-Some.end) c.requires.spans (sym c.group.ensures ∙ c.in-Some.is)
 
 pub returns-in-Some : goal.returns-in-Some
 returns-in-Some c =
-    let content = bytes_of (text_of c.args.text.now) in
+    let content = bytes_of (text_of c.args.parts.now) in
     let groups = groups_in c.args.found in
     let span : ℕ × ℕ = (c.in-Some.start, c.in-Some.end) in
     let is : between content c.in-Some.start c.in-Some.end ≡ group_text content groups c.in-Group.number =
     sym (ap (text_of_span content) (sym c.group.ensures ∙ c.in-Some.is)) in
     let named : between content c.in-Some.start c.in-Some.end ≡ shown content groups c.args.piece = rw c.in-Group.is is in
     record {
-      pushed = subst (λ (t : List ℕ). OnOk c.push_part.result (chars (string_bytes c.push_part.new.out) ≡ chars (string_bytes c.args.out.now) ++ t)) named c.push_part.ensures.pushed;
-      front = subst (λ (t : List ℕ). OnErr c.push_part.result ((len : ℕ) × (chars (string_bytes c.push_part.new.out) ≡ chars (string_bytes c.args.out.now) ++ take len t))) named c.push_part.ensures.front;
+      pushed = subst (λ (t : List ℕ). OnOk c.push.result (chars (string_bytes c.push.new.out) ≡ chars (string_bytes c.args.out.now) ++ t)) named c.push.ensures.pushed;
+      front = subst (λ (t : List ℕ). OnErr c.push.result ((len : ℕ) × (chars (string_bytes c.push.new.out) ≡ chars (string_bytes c.args.out.now) ++ take len t))) named c.push.ensures.front;
+      parts = c.push.ensures.parts;
     }

@@ -8,9 +8,9 @@ use Rattle.rope_search_changes.specs.declared.Change.{Change}
 use Rattle.rope_search_templates.specs.Matches.{groups_in}
 use Rattle.rope_search_templates.proofs.told.Told.tell.Goals as goal
 
-pub returns : goal.returns
-returns c =
-    let content = bytes_of (text_of c.args.text.now) in
+pub returns-clause-told : goal.returns-clause-told
+returns-clause-told c =
+    let content = bytes_of (text_of c.args.parts.now) in
     let match = groups_in c.args.found in
     let text = c.show.new.self.text in
     let told = expand content match c.args.template.now in

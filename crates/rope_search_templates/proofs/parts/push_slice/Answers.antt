@@ -3,7 +3,7 @@ use Rattle.std.specs.Str.{chars}
 use Rattle.ropey.specs.Chunks.{text_of}
 use Rattle.ropey.specs.Slices.{slice_text}
 use Rattle.rope_search_templates.proofs.PushLemmas.{pushed-next, pushed-front, pushed-chars, on_err}
-use Rattle.rope_search_templates.proofs.templates.push_slice.Goals as goal
+use Rattle.rope_search_templates.proofs.parts.push_slice.Goals as goal
 
 pub loop-chunk-preserved : goal.loop-chunk-preserved
 loop-chunk-preserved c =
