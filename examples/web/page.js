@@ -11,7 +11,7 @@ const $ = (id) => document.getElementById(id);
 const windowOf = $("window");
 
 if (!isSupported()) {
-  $("fault").textContent = "This browser has no 64-bit memories for WebAssembly. Chromium 156 has.";
+  $("fault").textContent = "This browser has no 64-bit memories for WebAssembly. Chromium 156 and Firefox 153 have.";
   throw new Error("no memory64");
 }
 
