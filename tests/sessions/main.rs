@@ -2,8 +2,8 @@
 //!
 //!     sessions UNICODE check SEED FIRST COUNT    compares these sessions of a seed
 //!     sessions UNICODE tell SEED FIRST COUNT     prints their calls and what the model answers
-//!     sessions UNICODE planted SEED FIRST COUNT  shortens the first in which an undo follows a pattern
-//!                                                with a bar, as if the library failed there
+//!     sessions UNICODE planted SEED FIRST COUNT  shortens the first in which an undo follows a
+//!                                                pattern with a bar, as if it failed there
 //!
 //! tests/sessions_by_calls.py writes the file UNICODE. `check` prints each session that fails as
 //! its least calls, with what is wrong then; its last line has the number of sessions, of those
