@@ -50,3 +50,8 @@ pub mod ReplyLemmas
 pub mod TextChangeLemmas
 pub mod UndoStepLemmas
 pub mod KeptLemmas
+pub mod JoinLemmas
+pub mod StayLemmas
+pub mod JoinSteps
+pub mod JoinedLemmas
+pub mod JoinedSessions

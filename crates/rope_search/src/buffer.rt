@@ -20,6 +20,7 @@ ghost use Rattle.rope_search.specs.Changed.{Replaces, SpansMatches};
 ghost use Rattle.rope_search_reports.specs.Turned.{turned_changes};
 ghost use Rattle.rope_search.specs.TextsKept.{TellsText, TellsAllText, TellsForward, TellsBack};
 ghost use Rattle.rope_search.specs.UndoSteps.{changes_with_steps, redo_count, undo_count, with_steps};
+ghost use Rattle.rope_search.specs.JoinedSteps.{JoinsChanges, with_joined};
 ghost use Rattle.rope_search.specs.Edits.{AcceptsEdits, AreEdits, IsFirstAgainst, KeepsEdits, RefusesEdits, SpansEdits, in_full, rows_of_edits};
 
 use crate::edits::{Edit, edited};
@@ -446,6 +447,38 @@ impl Buffer {
         ensures limit { self.new.limit ≡ self.old.limit }
     {
         self.history.keep(self.alloc, steps);
+    }
+
+    /// Makes the last undo steps one, as many as told: the texts directly before the current one,
+    /// one less than the steps, leave the history, and one `undo` goes back to the text before
+    /// them. `join(0)` and `join(1)` change nothing. The current text, what can be redone, the
+    /// pattern, its report and what `text_changes` and `changed` return stay.
+    ///
+    /// The changes of the steps are put together: a byte that stays through all of them stays in
+    /// the joined step, and changes that touch are one. By these an `undo` or a `redo` of the
+    /// joined step makes the rows of its report, and `text_changes` then returns their ranges.
+    /// Time is linear in the changes of the steps, for each step, and in the texts that can be
+    /// redone.
+    ///
+    /// Errors, which leave the buffer as it was: `Fault::Nothing` where there are fewer undo steps;
+    /// for two steps or more, `Fault::Memory`.
+    pub fn join(&mut self, steps: usize) -> Result<(), Fault>
+        ensures state { OnOk result (self.new.state ≡ with_joined self.old.state steps) }
+        ensures changes { OnOk result (JoinsChanges self.old.changes self.old.state.current steps
+            self.new.changes) }
+        ensures changed { self.new.changed ≡ self.old.changed }
+        ensures text_changes { self.new.text_changes ≡ self.old.text_changes }
+        ensures limit { self.new.limit ≡ self.old.limit }
+        ensures nothing { (result ≡ Err Fault.Nothing) ↔ (undo_count self.old.state < steps) }
+        ensures memory { result ≡ Err Fault.Memory → 2 ≤ steps }
+        ensures fault { IfErr result (λ fault.
+            (fault ≡ Fault.Nothing) ⊎ (fault ≡ Fault.Memory)) }
+        ensures err { OnErr result (self.new ≡ self.old) }
+    {
+        if self.history.undo_steps() < steps {
+            return Err(Fault::Nothing);
+        }
+        self.history.join(self.alloc, steps)
     }
 
     /// Returns the number of texts to which `undo` can go back. `O(1)`.

@@ -1,5 +1,5 @@
 //! The texts of a buffer: those that an edit left, and those that can be redone.
-ghost use Rattle.std.specs.Prelude.{◌≡◌, ◌+◌, ◌-◌, ◌<◌, ◌≤◌, ◌↔◌, List, ℕ, [], ◌∷◌, ◌++◌, length, take, drop, slice_index_or, vec_len, MatchOption, None, Some, true, false, IfOk, IfErr, IfSome, OnOk, OnErr};
+ghost use Rattle.std.specs.Prelude.{◌≡◌, ◌+◌, ◌-◌, ◌<◌, ◌≤◌, ◌↔◌, List, ℕ, [], ◌∷◌, ◌++◌, length, take, drop, slice_index_or, vec_len, MatchOption, None, Some, true, false, IfOk, IfErr, IfSome, IsOk, OnOk, OnErr};
 ghost use Rattle.str_indices.specs.Text.{byte_len};
 ghost use Rattle.ropey.specs.Chunks.{text_of};
 ghost use Rattle.rope_search_reports.specs.Text.{IsText};
@@ -7,7 +7,10 @@ ghost use Rattle.rope_search_reports.specs.Turned.{Lead, listed};
 ghost use Rattle.rope_search.specs.Histories.{LeadOn, text_at, changes_at};
 ghost use Rattle.rope_search.specs.TextChanges.{AreTextChanges, ranges_in, whole_change};
 ghost use Rattle.rope_search.specs.UndoSteps.{changes_with_steps, first_kept};
+ghost use Rattle.rope_search.specs.JoinedSteps.{AreComposed, JoinsChanges, number_joined};
+ghost use Rattle.rope_search.specs.Joints.{version_changes, version_texts};
 
+use crate::joins::composed;
 use rope_search_io::Fault;
 use rope_search_reports::{Change, Changes};
 use ropey::Rope;
@@ -132,6 +135,61 @@ fn apart_of(
         return None;
     }
     Some(led)
+}
+
+/// Moves `count` versions from `at` on behind all others.
+fn move_to_end(versions: &mut Vec<Version>, at: usize, count: usize)
+    requires within { at + count ≤ vec_len versions.old }
+    ensures items { versions.new.items ≡ take at versions.old.items
+        ++ drop (at + count) versions.old.items ++ take count (drop at versions.old.items) }
+    ensures len { vec_len versions.new ≡ vec_len versions.old }
+{
+    versions.slice_mut(at..).rotate_left(count);
+}
+
+/// Drops `count` versions from `at` on. `O(n)`.
+fn remove(versions: &mut Vec<Version>, at: usize, count: usize)
+    requires within { at + count ≤ vec_len versions.old }
+    ensures items { versions.new.items ≡ take at versions.old.items
+        ++ drop (at + count) versions.old.items }
+{
+    move_to_end(versions, at, count);
+    versions.truncate(versions.len() - count);
+}
+
+/// The changes, and where it is one alone, without a list.
+fn packed(mut changes: Vec<Change>) -> Changes
+    ensures { listed result ≡ changes.items }
+{
+    if changes.len() == 1 {
+        return Changes::One(changes[0]);
+    }
+    changes.shrink_to_fit();
+    Changes::Many(changes)
+}
+
+/// The changes that lead from the text of the first version to that of the last: those of all steps
+/// between them, put together. Linear in these, for each step. It may be refused with
+/// `Fault::Memory` alone.
+fn changes_between(alloc: Global, versions: &[Version]) -> Result<Changes, Fault>
+    requires some { 0 < length versions.now }
+    requires led { LeadOn (version_texts versions.now) (version_changes versions.now) }
+    ensures lead { IfOk result (λ changes. Lead (listed changes)
+        (text_at (version_texts versions.now) 0)
+        (text_at (version_texts versions.now) (length versions.now - 1))) }
+    ensures composed { IfOk result (λ changes.
+        AreComposed (drop 1 (version_changes versions.now)) (listed changes)) }
+    ensures fault { IfErr result (λ fault. fault ≡ Fault.Memory) }
+{
+    // The text's facts, for the proof alone.
+    let _ = versions[0].text.len_bytes();
+    let mut changes = Vec::new(alloc);
+    for k in 1..versions.len() {
+        let version = &versions[k];
+        let _ = version.text.len_bytes();
+        changes = composed(alloc, changes.as_slice(), version.changes.as_slice())?;
+    }
+    Ok(packed(changes))
 }
 
 impl History {
@@ -310,6 +368,37 @@ impl History {
         let apart = mem::replace(&mut self.apart, None);
         self.apart = apart_of(apart, self.is_back, undone, led, first < self.current);
         self.current -= first;
+    }
+
+    /// Makes the last steps one: the texts directly before the current one, one less than the
+    /// steps, are dropped. Fewer than two steps stay as they are. It may be refused with
+    /// `Fault::Memory` alone; the history is then as before.
+    pub fn join(&mut self, alloc: Global, steps: usize) -> Result<(), Fault>
+        requires { steps ≤ self.old.current }
+        ensures texts { OnOk result (self.new.texts
+            ≡ take (number_joined self.old.current steps) self.old.texts
+            ++ drop self.old.current self.old.texts) }
+        ensures current { OnOk result
+            (self.new.current ≡ number_joined self.old.current steps) }
+        ensures changes { OnOk result
+            (JoinsChanges self.old.changes self.old.current steps self.new.changes) }
+        ensures is_back { self.new.is_back ≡ self.old.is_back }
+        ensures last { self.new.last ≡ self.old.last }
+        ensures few { steps ≤ 1 → IsOk result }
+        ensures fault { IfErr result (λ fault. fault ≡ Fault.Memory) }
+        ensures err { OnErr result (self.new ≡ self.old) }
+    {
+        if steps <= 1 {
+            return Ok(());
+        }
+        let before = self.current - steps;
+        let changes = changes_between(alloc, &self.versions[before..self.current + 1])?;
+        let led = mem::replace(&mut self.versions[self.current].changes, changes);
+        let apart = mem::replace(&mut self.apart, None);
+        self.apart = apart_of(apart, self.is_back, None, led, false);
+        remove(&mut self.versions, before + 1, steps - 1);
+        self.current = before + 1;
+        Ok(())
     }
 
     /// Makes the text before the current one current.

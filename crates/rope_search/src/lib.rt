@@ -11,6 +11,7 @@ mod encodings;
 mod endings;
 mod headers;
 mod history;
+mod joins;
 pub mod laws;
 mod limits;
 mod line_columns;

@@ -1,5 +1,5 @@
 //! A session: buffers, of which one is chosen.
-ghost use Rattle.std.specs.Prelude.{◌≡◌, ◌+◌, ◌<◌, ◌≤◌, ◌↔◌, [], ◌∷◌, ◌++◌, List, ℕ, length, take, drop, map, slice_index_or, Bool, Err, OnOk, OnErr, IfOk, IfErr, IsOk, None, Some};
+ghost use Rattle.std.specs.Prelude.{◌≡◌, ◌+◌, ◌<◌, ◌≤◌, ◌↔◌, [], ◌∷◌, ◌++◌, List, ℕ, length, take, drop, map, slice_index_or, Bool, Err, OnOk, OnErr, IfOk, IfErr, IsOk, None, Some, ◌⊎◌};
 ghost use Rattle.rope_search.specs.Order.{SetText, EditText, UndoEdit, RedoEdit, SetPattern, DropPattern, ListMatches, FindNext, ReplaceAll};
 ghost use Rattle.rope_search.specs.Session.{opened_session, chosen_in, fresh, fresh_buffer, current_text, chosen_buffer, with_text, with_pattern, with_chosen};
 ghost use Rattle.rope_search_reports.specs.Pattern.{pattern_limit};
@@ -13,7 +13,8 @@ ghost use Rattle.rope_search.specs.GroupsAt.{AnswersGroups, SearchesRow};
 ghost use Rattle.rope_search.specs.Stretches as stretches;
 ghost use Rattle.rope_search.specs.Changed.{TellsRows, TellsAfter};
 ghost use Rattle.rope_search.specs.TextsKept.{ChangesChosen, KeepsAfter, KeepsEditsOf, KeepsOf, KeepsSteps, MakesFew};
-ghost use Rattle.rope_search.specs.UndoSteps.{with_steps};
+ghost use Rattle.rope_search.specs.UndoSteps.{undo_count, with_steps};
+ghost use Rattle.rope_search.specs.JoinedSteps.{KeepsJoined, with_joined};
 ghost use Rattle.rope_search.specs.Edits.{RefusesEdits, StepByEdits, TellsEdits, in_full, rows_of_edits};
 
 use crate::buffer::Buffer;
@@ -147,6 +148,28 @@ impl Session {
         ensures kept { ChangesChosen (KeepsSteps steps) self.old self.new }
     {
         self.buffers[self.chosen].keep(steps);
+    }
+
+    /// Makes the last undo steps of the chosen buffer one, as many as told, as `Buffer::join` does:
+    /// the texts directly before the current one, one less than the steps, leave its history. All
+    /// else of it stays, and all other buffers. `join(0)` and `join(1)` change nothing.
+    ///
+    /// Errors, which leave the session as it was: `Fault::Nothing` where there are fewer undo
+    /// steps; for two steps or more, `Fault::Memory`.
+    pub fn join(&mut self, steps: usize) -> Result<(), Fault>
+        ensures state { OnOk result (self.new.state ≡ with_chosen self.old.state
+            (with_joined (chosen_buffer self.old.state) steps)) }
+        ensures kept { OnOk result (ChangesChosen (KeepsJoined steps) self.old self.new) }
+        ensures limit { self.new.limit ≡ self.old.limit }
+        ensures changed { self.new.changed ≡ self.old.changed }
+        ensures nothing { (result ≡ Err Fault.Nothing)
+            ↔ (undo_count (chosen_buffer self.old.state) < steps) }
+        ensures memory { result ≡ Err Fault.Memory → 2 ≤ steps }
+        ensures fault { IfErr result (λ fault.
+            (fault ≡ Fault.Nothing) ⊎ (fault ≡ Fault.Memory)) }
+        ensures err { OnErr result (self.new ≡ self.old) }
+    {
+        self.buffers[self.chosen].join(steps)
     }
 
     /// Returns the number of ranges in which the last accepted call on the chosen buffer of those
