@@ -290,6 +290,17 @@ uint32_t rope_search_forget(rope_search *session);
  */
 uint32_t rope_search_keep(rope_search *session, size_t steps);
 
+/*
+ * Makes the last `steps` undo steps one: the texts directly before the current one, one less than
+ * the steps, leave the history, and one undo goes back to the text before them. Of 0 steps or 1 it
+ * changes nothing. The text, what can be redone, the pattern, the report and what `text_changes` and
+ * `changed` return stay. An undo or a redo of the joined step makes the rows of what its changes
+ * touch, put together: bytes that stay through all of them are not touched, and ranges that touch
+ * are one. Linear in the changes of the steps, for each step, and in the texts that can be redone.
+ * Refused: NONE, where there are fewer steps; of two steps or more, MEMORY.
+ */
+uint32_t rope_search_join(rope_search *session, size_t steps);
+
 /* ---- buffers, and the chosen one's history ---- */
 
 /* How many buffers there are, and the number of the chosen one. */

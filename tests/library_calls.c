@@ -309,6 +309,13 @@ static void look_ups(rope_search *s)
     IS(changes[0].old_end > 0 && changes[1].old_end == 0, 1);
     IS(rope_search_text_changes(s, changes, 2), 5);
     IS(changes[1].old_start >= changes[0].old_end && changes[1].old_end > changes[1].old_start, 1);
+    IS(rope_search_join(s, rope_search_undo_steps(s) + 1), ROPE_SEARCH_NONE);
+    IS(rope_search_join(s, 1), ROPE_SEARCH_DONE);
+    IS(rope_search_undo_steps(s) > 0, 1);
+    IS(rope_search_join(s, rope_search_undo_steps(s)), ROPE_SEARCH_DONE);
+    IS(rope_search_undo_steps(s), 1);
+    IS(rope_search_redo_steps(s), 1);
+    IS(rope_search_text_changes(s, changes, 2), 5);
     IS(rope_search_keep(s, 1), ROPE_SEARCH_DONE);
     IS(rope_search_undo_steps(s) <= 1, 1);
     IS(rope_search_redo_steps(s), 0);

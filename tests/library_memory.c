@@ -53,7 +53,8 @@ static void see(rope_search *s, struct seen *seen)
 }
 
 enum kind {
-    SET_TEXT, EDIT, EDIT_ALL, EDIT_BYTES, UNDO, REDO, SET_PATTERN, OFF, NEXT, REPLACE, FORK, CHOOSE, FORGET, KEEP, GROUPS_AT, PATTERN_ERROR
+    SET_TEXT, EDIT, EDIT_ALL, EDIT_BYTES, UNDO, REDO, SET_PATTERN, OFF, NEXT, REPLACE, FORK, CHOOSE, FORGET, KEEP, JOIN,
+    GROUPS_AT, PATTERN_ERROR
 };
 
 struct call {
@@ -94,6 +95,7 @@ static uint32_t carry_out(rope_search *s, const struct call *call)
     case FORK: return rope_search_fork(s, &number);
     case FORGET: return rope_search_forget(s);
     case KEEP: return rope_search_keep(s, call->line);
+    case JOIN: return rope_search_join(s, call->line);
     case GROUPS_AT: return rope_search_groups_at(s, call->line, call->column, groups, 10);
     case PATTERN_ERROR: return rope_search_pattern_error(text, len, &reason);
     default: return rope_search_choose(s, call->line);
@@ -112,7 +114,7 @@ static const struct call calls[] = {
     {EDIT_BYTES, 2, 0, 7, 0, "two\none"}, CALL(UNDO),
     AT(NEXT, 0, 2), AT(GROUPS_AT, 0, 0),
     TEXT(PATTERN_ERROR, "(a|(?<name>b)|(?<name>c"), TEXT(PATTERN_ERROR, "((a)|b{1,3}"),
-    CALL(UNDO), CALL(UNDO), CALL(REDO), TEXT(REPLACE, "<$1\n$0>"), CALL(UNDO), AT(KEEP, 5, 0), CALL(FORK),
+    CALL(UNDO), CALL(REDO), AT(JOIN, 2, 0), CALL(UNDO), CALL(REDO), TEXT(REPLACE, "<$1\n$0>"), CALL(UNDO), AT(KEEP, 5, 0), CALL(FORK),
     AT(CHOOSE, 1, 0), TEXT(EDIT, "a letter"), TEXT(SET_PATTERN, "\\be"), CALL(UNDO), CALL(OFF),
     CALL(REDO), AT(CHOOSE, 0, 0), TEXT(EDIT, "one\n"), AT(KEEP, 1, 0), AT(GROUPS_AT, 0, 0), CALL(FORGET),
 };

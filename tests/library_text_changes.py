@@ -1,11 +1,12 @@
 """In which ranges of bytes the library tells that a text was replaced, and how many undo steps it has, beside a mirror:
 the ranges that are due, and the old text with each of them replaced by the new text's range, from the last one back."""
+import functools
 import itertools
 import random
 
 from library import reply, rope_search
 from library_edits import LIMIT, after, places_in, some_edits
-from protocol import Session, matches_with_groups, parts_replaced, place_of
+from protocol import Session, lines_of, matches_with_groups, parts_replaced, place_of
 from test_edits import PATTERNS, some_text
 
 CHANGING = ("text", "edit", "undo", "redo", "replace")
@@ -28,8 +29,35 @@ def ranges_of(old, parts):
     return ranges
 
 
+def raised(call):
+    """Whether a call is refused because there is nothing to go back to."""
+    try:
+        call()
+    except rope_search.Nothing:
+        return True
+    return False
+
+
 def turned(ranges):
     return [(start, stop, first, last) for first, last, start, stop in ranges]
+
+
+def composed(length, steps):
+    """The ranges of several steps put together, of a text of so many bytes: what no byte is in that stays through all."""
+    stays = list(range(length))
+    for ranges in steps:
+        behind, at = [], 0
+        for first, last, start, stop in ranges:
+            behind += stays[at:first] + [None] * (stop - start)
+            at = last
+        stays = behind + stays[at:]
+    ranges, at, at_new = [], 0, 0
+    for new, old in [*enumerate(stays), (len(stays), length)]:
+        if old is not None:
+            if old > at or new > at_new:
+                ranges.append((at, old, at_new, new))
+            at, at_new = old + 1, new + 1
+    return ranges
 
 
 def applied(old, new, ranges):
@@ -99,6 +127,18 @@ class Mirror:
         self.led[number] = [[], *self.led[number][first + 1 : buffer.at + 1]]
         buffer.at -= first
 
+    def join(self, steps):
+        """Makes the last steps one, and tells whether there are so many."""
+        buffer, led = self.model.buffer, self.led[self.model.chosen]
+        if steps > buffer.at:
+            return False
+        if steps > 1:
+            first = buffer.at - steps + 1
+            led[first : buffer.at + 1] = [composed(bytes_in(buffer.texts[first - 1]), led[first : buffer.at + 1])]
+            del buffer.texts[first : buffer.at]
+            buffer.at = first
+        return True
+
 
 def ranges_of_matches(old, pattern, template):
     """A range for each match of a replacement."""
@@ -135,6 +175,12 @@ def wrong_text_changes(session, commands, chosen):
             mirror.keep(steps)
             if wrong := wrong_told(session, mirror, None, f"after {steps} steps are kept, before command {place}"):
                 return wrong
+        if chosen.random() < 0.2:
+            steps = chosen.choice((0, 1, 2, 2, 3, 4, 7, MOST))
+            done = not raised(lambda: session.join(steps))
+            wrong = [] if done == mirror.join(steps) else [f"{steps} steps are made one: {done}"]
+            if wrong := wrong + wrong_told(session, mirror, None, f"after {steps} steps are made one, before command {place}"):
+                return wrong
         old, number = mirror.model.buffer.text, mirror.model.chosen
         accepted = command[0] in CHANGING and not mirror.model.refusal(*command)
         got, due = reply(session, command), mirror.carried_out(command)
@@ -152,8 +198,9 @@ def wrong_after_edits(seed):
     text = some_text(chosen, 12)
     with rope_search.Session(LIMIT) as session:
         session.set_text(text)
-        if chosen.random() < 0.7:
-            session.set_pattern(chosen.choice(PATTERNS))
+        pattern = chosen.choice(PATTERNS) if chosen.random() < 0.7 else None
+        if pattern is not None:
+            session.set_pattern(pattern)
         texts, led = [text], [[]]
         for _ in range(6):
             edits = some_edits(chosen, text := texts[-1])
@@ -179,7 +226,35 @@ def wrong_after_edits(seed):
             session.redo()
             if (told := [tuple(one) for one in session.text_changes]) != led[place]:
                 return [f"a redo to {texts[place]!r} tells {told}, not {led[place]}"]
+        return wrong_joined(session, pattern, texts, led, chosen.randrange(len(texts)))
+
+
+def wrong_joined(session, pattern, texts, led, steps):
+    """What is wrong once the last steps are made one: on the way back over them, and forward again. Each makes no more rows
+    than what comes back has lines, and leaves the report of the text."""
+    first = len(texts) - 1 - steps
+    due = composed(bytes_in(texts[first]), led[first + 1 :]) if steps > 1 else led[-1]
+    session.join(steps)
+    if (told := [tuple(one) for one in session.text_changes]) != led[-1] or session.text != texts[-1]:
+        return [f"{steps} of {texts} made one tell {told}, not {led[-1]}"]
+    for call, text, ranges in ((session.undo, texts[first], turned(due)), (session.redo, texts[-1], due)) if steps else ():
+        rows, content = session.counted.rows, text.encode()
+        call()
+        made = session.counted.rows - rows
+        most = sum(len(lines_of(content[start:stop].decode())) for _, _, start, stop in ranges)
+        if (told := [tuple(one) for one in session.text_changes]) != ranges or session.text != text:
+            return [f"{steps} of {texts} made one: {call.__name__} to {session.text!r} tells {told}, not {ranges}"]
+        if made > most or (pattern is not None and session.matches() != matches_of(text, pattern)):
+            return [f"{steps} of {texts} made one: {call.__name__} to {text!r} makes {made} of {most} rows: {session.matches()}"]
     return []
+
+
+@functools.lru_cache(maxsize=None)
+def matches_of(text, pattern):
+    with rope_search.Session() as session:
+        session.set_text(text)
+        session.set_pattern(pattern)
+        return session.matches()
 
 
 def small_changes(length):
@@ -227,6 +302,44 @@ def wrong_small(session, text, start, stop, new):
     wrong += told_other(session, [(0, len(text), 0, len(after_edit))], 0, 0)
     session.keep(0)
     return wrong + told_other(session, [(0, len(text), 0, len(after_edit))], 0, 0)
+
+
+def small_joins(length):
+    """What is wrong after each two edits of each text of so many characters over CR, LF and `a`, made one, on the way back
+    and forward again."""
+    with rope_search.Session() as session:
+        session.set_pattern("a$|^")
+        for text in map("".join, itertools.product(SMALL, repeat=length)):
+            for one in edits_of(text):
+                for other in edits_of(after_one := one[3]):
+                    if wrong := wrong_join(session, text, one, other):
+                        return [f"{text!r}, {one[:3]} and {other[:3]} of {after_one!r}: {fault}" for fault in wrong]
+    return []
+
+
+def edits_of(text):
+    """The edits of a text that start and end outside of its breaks: where, by what, and what they make of it."""
+    places = [place for place in range(len(text) + 1) if text[place - 1 : place + 1] != "\r\n" or not place]
+    return [(start, stop, new, text[:start] + new + text[stop:])
+            for start, stop, new in itertools.product(places, places, ("", "a", "\n", "\r")) if start <= stop]
+
+
+def wrong_join(session, text, one, other):
+    session.set_text(text)
+    for start, stop, new, _ in (one, other):
+        session.edit_bytes(start, stop, new)
+    due = composed(len(text), [[(start, stop, start, start + len(new))] for start, stop, new, _ in (one, other)])
+    last = [(other[0], other[1], other[0], other[0] + len(other[2]))]
+    session.join(2)
+    wrong = told_other(session, last, 1, 0)
+    rows = session.counted.rows
+    session.undo()
+    wrong += told_other(session, turned(due), 0, 1)
+    most = sum(len(lines_of(text[start:stop])) for start, stop, _, _ in due)
+    if session.text != text or session.counted.rows - rows > most or session.matches() != matches_of(text, "a$|^"):
+        wrong.append(f"an undo to {session.text!r} makes {session.counted.rows - rows} of {most} rows")
+    session.redo()
+    return wrong + told_other(session, due, 1, 0) + ([] if session.text == other[3] else [f"a redo leads to {session.text!r}"])
 
 
 def told_other(session, due, undo, redo):

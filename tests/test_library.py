@@ -18,7 +18,7 @@ from library_edits import wrong_with
 from library_groups import wrong_groups
 from library_lines import wrong_edits, wrong_long, wrong_numbers, wrong_small
 from library_listed import wrong_listed
-from library_text_changes import small_changes, wrong_after_edits, wrong_text_changes
+from library_text_changes import small_changes, small_joins, wrong_after_edits, wrong_text_changes
 from protocol import Session, lines_of, place_of, position_at, positions_of, read_commands, spelled, units
 from random_patterns import Maker
 from test_edits import BACK_AND_FORWARD, OF_ALL_KINDS, SESSIONS, SESSIONS_IN_RUN, some_sessions
@@ -319,6 +319,8 @@ def test_text_changes():
     test(f"which ranges several edits as one replace, of {EDITED} texts at random", wrong)
     for length in range(5):
         test(f"which ranges edits replace, of all texts of {length} characters over CR, LF and a", small_changes(length))
+    for length in range(3):
+        test(f"two edits made one step, of all texts of {length} characters over CR, LF and a", small_joins(length))
 
 
 def test_edits():
@@ -371,7 +373,7 @@ def test_closed():
         "set_pattern": (b"a", 1), "off": (), "next": (origin, rope_search._Match(True)),
         "replace": (b"a", 1, ctypes.c_size_t(7)), "fork": (ctypes.c_size_t(7),), "choose": (0,),
         "column_in": (8, origin, ctypes.c_size_t(7)), "position_in": (8, 0, 0, rope_search._Position()),
-        "forget": (), "keep": (1,), "byte_of": (origin, ctypes.c_size_t(7)), "position_of": (0, rope_search._Position()),
+        "forget": (), "keep": (1,), "join": (1,), "byte_of": (origin, ctypes.c_size_t(7)), "position_of": (0, rope_search._Position()),
         "groups_at": (0, 0, (rope_search._Group * 10)(), 10), "edit_bytes": (0, 0, b"a", 1),
         "clamp": (8, 0, 0, rope_search._Position(7, 7)), "line_len": (0, 8, ctypes.c_size_t(7)),
     }

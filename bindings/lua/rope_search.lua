@@ -46,6 +46,7 @@ uint32_t rope_search_fork(rope_search *, size_t *);
 uint32_t rope_search_choose(rope_search *, uint64_t);
 uint32_t rope_search_forget(rope_search *);
 uint32_t rope_search_keep(rope_search *, size_t);
+uint32_t rope_search_join(rope_search *, size_t);
 size_t rope_search_buffers(rope_search *);
 size_t rope_search_chosen(rope_search *);
 bool rope_search_can_undo(rope_search *);
@@ -255,6 +256,11 @@ end
 -- Drops all undo steps but the last ones, and what could be redone.
 function Session:keep(steps)
   return told(calls.rope_search_keep(self.handle, steps))
+end
+
+-- Makes the last undo steps one, as many as told.
+function Session:join(steps)
+  return told(calls.rope_search_join(self.handle, steps))
 end
 
 -- How many buffers there are, and the number of the chosen one.

@@ -223,6 +223,7 @@ _CALLS = {
     "choose": (_STATUS, _HANDLE, ctypes.c_uint64),
     "forget": (_STATUS, _HANDLE),
     "keep": (_STATUS, _HANDLE, _SIZE),
+    "join": (_STATUS, _HANDLE, _SIZE),
     "buffers": (_SIZE, _HANDLE),
     "chosen": (_SIZE, _HANDLE),
     "can_undo": (ctypes.c_bool, _HANDLE),
@@ -407,6 +408,10 @@ class Session:
     def keep(self, steps: int) -> None:
         """Drops all undo steps but the last `steps`, and what could be redone."""
         _check(self._calls.rope_search_keep(self._handle, steps))
+
+    def join(self, steps: int) -> None:
+        """Makes the last `steps` undo steps one. Refused: Nothing, where there are fewer; Memory."""
+        _check(self._calls.rope_search_join(self._handle, steps))
 
     # ---- reading
 

@@ -93,6 +93,7 @@ extern "C" {
     fn rope_search_choose(session: *mut RawSession, number: u64) -> u32;
     fn rope_search_forget(session: *mut RawSession) -> u32;
     fn rope_search_keep(session: *mut RawSession, steps: usize) -> u32;
+    fn rope_search_join(session: *mut RawSession, steps: usize) -> u32;
     fn rope_search_buffers(session: *mut RawSession) -> usize;
     fn rope_search_chosen(session: *mut RawSession) -> usize;
     fn rope_search_can_undo(session: *mut RawSession) -> bool;
@@ -310,6 +311,10 @@ impl Handle {
 
     pub fn keep(&mut self, steps: usize) -> Result<()> {
         check(unsafe { rope_search_keep(self.ptr(), steps) })
+    }
+
+    pub fn join(&mut self, steps: usize) -> Result<()> {
+        check(unsafe { rope_search_join(self.ptr(), steps) })
     }
 
     pub fn buffers(&self) -> usize {

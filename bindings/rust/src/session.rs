@@ -277,6 +277,30 @@ impl Session {
         debug_assert_eq!(done, Ok(()));
     }
 
+    /// Makes the last `steps` undo steps one: the texts between them leave the history. Of 0 steps or 1 it changes
+    /// nothing. The current text, what can be redone, the pattern, the report and what [`Session::text_changes`]
+    /// returns stay.
+    ///
+    /// ```
+    /// use rope_search::Session;
+    ///
+    /// let mut session = Session::new()?;
+    /// for (column, text) in ["a", "b", "c"].into_iter().enumerate() {
+    ///     session.edit((0, column)..(0, column), text)?;
+    /// }
+    /// session.join(3)?;
+    /// session.undo()?;
+    /// assert_eq!(session.text_len(), 0);
+    /// # Ok::<(), rope_search::Error>(())
+    /// ```
+    ///
+    /// # Errors
+    ///
+    /// [`Error::Nothing`] where there are fewer undo steps; for two steps or more, [`Error::Memory`].
+    pub fn join(&mut self, steps: usize) -> Result<()> {
+        self.handle.join(steps)
+    }
+
     // ---- buffers, and the chosen one's history
 
     /// Returns the number of buffers.

@@ -222,6 +222,8 @@ fn buffers_have_their_own_histories() {
     let changes = session.text_changes();
     session.keep(1);
     assert_eq!((session.undo_steps(), session.redo_steps()), (1, 0));
+    session.join(1).unwrap();
+    assert_eq!(session.join(2), Err(Error::Nothing));
     assert_eq!(session.text_changes(), changes);
     session.undo().unwrap();
     assert_eq!(session.redo_steps(), 1);

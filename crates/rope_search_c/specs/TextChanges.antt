@@ -1,9 +1,13 @@
 -- The undo steps of a session's chosen buffer, and in which ranges its text was replaced.
-use Rattle.std.specs.Prelude.{◌≡◌, ℕ, List, length}
+use Rattle.std.specs.Prelude.{◌≡◌, ℕ, ◌<◌, ◌≤◌, ◌↔◌, ◌⊎◌, List, length, Result, Err, IfErr, OnOk, OnErr}
+use Rattle.rope_search_io.specs.declared.faults.Fault.{Fault}
+use Rattle.rope_search_io.specs.declared.faults.Fault.TheVariants.{Memory, Nothing}
 use Rattle.rope_search.specs.Session.{chosen_buffer, chosen_in, with_chosen}
 use Rattle.rope_search.specs.TextsKept.{ChangesChosen, KeepsSteps}
-use Rattle.rope_search.specs.UndoSteps.{with_steps}
+use Rattle.rope_search.specs.JoinedSteps.{KeepsJoined, with_joined}
+use Rattle.rope_search.specs.UndoSteps.{undo_count, with_steps}
 use Rattle.rope_search.specs.declared.text_changes.TextChange.{TextChange}
+use Rattle.rope_search_c.specs.Calls.{status_of}
 use Rattle.rope_search_c.specs.Reading.{with_front}
 use Rattle.rope_search_c.specs.declared.counting.CountingSession.{CountingSession}
 
@@ -18,6 +22,23 @@ pub record KeepsLast (old : CountingSession) (steps status : ℕ)
   pub kept : ChangesChosen (KeepsSteps steps) old.session new.session
   pub lines : new.lines ≡ old.lines
   pub told : status ≡ 0
+
+-- of the chosen buffer's last steps one is made, where there are so many, and else nothing changes; the
+-- other buffers, the limit, what the buffers tell, and the counts stay
+pub record JoinsLast (old : CountingSession) (steps status : ℕ)
+    (new : CountingSession) : Type 0 where
+  pub answer : Result Unit Fault
+  pub state : OnOk answer (new.session.state ≡ with_chosen old.session.state
+      (with_joined (chosen_buffer old.session.state) steps))
+  pub kept : OnOk answer (ChangesChosen (KeepsJoined steps) old.session new.session)
+  pub limit : new.session.limit ≡ old.session.limit
+  pub changed : new.session.changed ≡ old.session.changed
+  pub lines : new.lines ≡ old.lines
+  pub nothing : (answer ≡ Err Nothing) ↔ (undo_count (chosen_buffer old.session.state) < steps)
+  pub memory : answer ≡ Err Memory → 2 ≤ steps
+  pub fault : IfErr answer (λ fault. (fault ≡ Nothing) ⊎ (fault ≡ Memory))
+  pub err : OnErr answer (new.session ≡ old.session)
+  pub told : status ≡ status_of answer
 
 -- the ranges that the chosen buffer tells are at the front, as many as fit, and so many they are; it is
 -- kept beside the state that the session has

@@ -48,6 +48,7 @@ pub use look_ups::{
 pub use matches::{Group, Match, Span};
 pub use pattern_errors::{PatternReason, rope_search_pattern_error};
 pub use text_changes::{
-    rope_search_keep, rope_search_redo_steps, rope_search_text_changes, rope_search_undo_steps,
+    rope_search_join, rope_search_keep, rope_search_redo_steps, rope_search_text_changes,
+    rope_search_undo_steps,
 };
 pub use version::rope_search_version;

@@ -3,9 +3,9 @@ ghost use Rattle.std.specs.Prelude.{◌≡◌, MatchOption};
 ghost use Rattle.rope_search.specs.Session.{chosen_buffer};
 ghost use Rattle.rope_search.specs.UndoSteps.{redo_count, undo_count};
 ghost use Rattle.rope_search_c.specs.Calls.{LeadsHandle};
-ghost use Rattle.rope_search_c.specs.TextChanges.{CopiesRanges, KeepsLast};
+ghost use Rattle.rope_search_c.specs.TextChanges.{CopiesRanges, JoinsLast, KeepsLast};
 
-use crate::counting::CountingSession;
+use crate::counting::{CountingSession, status_of};
 use crate::handles::{CLOSED, Handle};
 use rope_search::TextChange;
 use std::alloc::Global;
@@ -16,6 +16,12 @@ impl CountingSession {
     {
         self.session.keep(steps);
         0
+    }
+
+    pub(crate) fn join(&mut self, steps: usize) -> u32
+        ensures { JoinsLast self.old steps result self.new }
+    {
+        status_of(self.session.join(steps))
     }
 
     pub(crate) fn text_changes(&self, out: &mut [TextChange]) -> usize
@@ -37,6 +43,23 @@ pub extern "C" fn rope_search_keep(alloc: Global, handle: &mut Handle, steps: us
     };
     let mut session = session;
     let status = session.keep(steps);
+    *handle = Handle::of(session);
+    status
+}
+
+/// Makes the last `steps` undo steps of the chosen buffer one, as `Session::join` does: the texts
+/// directly before the current one, one less than the steps, leave the history. Refused: `NONE`
+/// where there are fewer steps; for two or more, `MEMORY`.
+#[unsafe(no_mangle)]
+pub extern "C" fn rope_search_join(alloc: Global, handle: &mut Handle, steps: usize) -> u32
+    ensures { LeadsHandle handle.old.held result handle.new.held (λ old new.
+        JoinsLast old steps result new) }
+{
+    let Some(session) = handle.take(alloc) else {
+        return CLOSED;
+    };
+    let mut session = session;
+    let status = session.join(steps);
     *handle = Handle::of(session);
     status
 }
