@@ -87,7 +87,7 @@ REFUSED = [
     (EXPORT, "define noundef i32 @rope_search_rows(ptr noundef %a0, ...) #0 {"),
     (INNER, 'define linkonce_odr i32 @"rope_search::inner"(ptr noundef %a0) #0 {'),
     (LOAD, "  %r1 = phi i32 [ 0, %start ]"), (LOAD, "  %r1 = call i32 %a0(i32 1)"),
-    (LOAD, "  %r1 = call <16 x i8> @llvm.x86.ssse3.pshuf.b.128(<16 x i8> %a, <16 x i8> %b)"),
+    (LOAD, "  %r1 = call <16 x i8> @llvm.x86.sse2.pavg.b(<16 x i8> %a, <16 x i8> %b)"),
     (LOAD, "  %r1 = call i64 @write(i32 1, ptr %a0, i64 1)"), (LOAD, '  call void asm sideeffect "nop", ""()'),
     (LOAD, "  %r1 = musttail call i32 @\"rope_search::inner\"(ptr %a0)"), (LOAD, "  %r1 = fadd double 1.0, 2.0"),
     (LOAD, "  %r1 = load volatile i32, ptr %a0, align 4"), (LOAD, "  %r1 = load atomic i32, ptr %a0 seq_cst, align 4"),

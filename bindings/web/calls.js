@@ -50,6 +50,7 @@ export const CALLS = {
   choose: ["size", status()],
   forget: ["", status()],
   keep: ["size", status()],
+  join: ["size", status()],
   buffers: ["", value("size")],
   chosen: ["", value("size")],
   can_undo: ["", value("bool")],

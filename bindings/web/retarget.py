@@ -13,6 +13,9 @@ the attributes of functions, and the functions themselves in two ways, as rattle
   returns; then the export traps.
 - A function with a frame traps where the frame is below the end of the stack, before it writes to it.
 
+One instruction of x86-64 may be in it, the byte shuffle by which UTF-8 is checked: WebAssembly has one that differs for
+indices from 16 to 127, so these are cut to their last four bits.
+
 Nothing proves this step. tests/test_web.py tests what comes of it.
 """
 import re
@@ -38,7 +41,9 @@ PARAMETERS = rf"(?:{TYPE}(?: {SAID})*(?: %[\w.]+)?(?:, )?)*"
 ARGUMENTS = rf"(?:{TYPE}(?: {SAID})* {VALUE}(?:, )?)*"
 INTRINSICS = r"@llvm\.(?:memset\.p0\.i64|memcpy\.p0\.p0\.i64|memmove\.p0\.p0\.i64|trap|(?:cttz|ctlz|ctpop|bswap|abs|umin|" \
     r"umax|smin|smax|[us]add\.sat|[us]sub\.sat|fshl|fshr)\.(?:v\d+)?i\d+|vector\.reduce\.(?:add|and|or|xor|umax|umin)\.v\d+i\d+|" \
-    r"[us](?:add|sub|mul)\.with\.overflow\.i\d+)"
+    r"[us](?:add|sub|mul)\.with\.overflow\.i\d+|x86\.ssse3\.pshuf\.b\.128)"
+# The byte shuffle of x86-64: an index has four bits, and gives 0 where its highest bit is set.
+SHUFFLE, OWN_SHUFFLE = "@llvm.x86.ssse3.pshuf.b.128", "@__rattle_shuffle"
 # What the library calls of C, which heap.c has.
 OF_C = r"@rattle_(?:alloc|realloc|dealloc)"
 METADATA = r"(?:, !(?:noundef|range|nonnull|align|dereferenceable) !\d+)*"
@@ -102,6 +107,14 @@ frame.spent:
   unreachable
 
 frame.run:""".split("\n")
+# An index of 16 or more gives 0 in WebAssembly.
+SHUFFLES = f"""define internal <16 x i8> {OWN_SHUFFLE}(<16 x i8> %bytes, <16 x i8> %indices) {{
+  %kept = and <16 x i8> %indices, splat (i8 -113)
+  %found = call <16 x i8> @llvm.wasm.swizzle(<16 x i8> %bytes, <16 x i8> %kept)
+  ret <16 x i8> %found
+}}
+
+declare <16 x i8> @llvm.wasm.swizzle(<16 x i8>, <16 x i8>)""".split("\n")
 NEW_NAMES = re.compile(r"%(?:enter|spent|run|frame(?:\.\w+)?)\b")
 GUARDS = """declare ptr @llvm.frameaddress.p0(i32 immarg)
 declare void @llvm.trap()
@@ -199,13 +212,13 @@ def retargeted(lines):
         elif line.startswith("attributes "):
             out.append(attributes_line(line))
         elif line.startswith("declare "):
-            known(DECLARATION, line)
-            out.append(line)
+            is_shuffle = known(DECLARATION, line)[1] == SHUFFLE
+            out += SHUFFLES if is_shuffle else [line]
         else:
             out.append(target_line(line) or known(TOP, line)[0])
     names = {line.partition("@")[2].partition("(")[0] for line in out if line.startswith("declare ")}
     out += [line for line in GUARDS if line.partition("@")[2].partition("(")[0] not in names]
-    return out, exports, len(defined)
+    return [line.replace(f"{SHUFFLE}(", f"{OWN_SHUFFLE}(") for line in out], exports, len(defined)
 
 
 def main(given, to):

@@ -188,6 +188,8 @@ export class Session {
   forget(): void;
   /** Drops all undo steps but the last ones. */
   keep(steps: number): void;
+  /** Makes the last undo steps one. Refused: Nothing, Memory. */
+  join(steps: number): void;
 
   // ---- buffers and history
 
