@@ -50,3 +50,6 @@ pub mod ReplyLemmas
 pub mod TextChangeLemmas
 pub mod UndoStepLemmas
 pub mod KeptLemmas
+pub mod PlacedLemmas
+pub mod MatchEditLemmas
+pub mod MatchAnswerLemmas
