@@ -55,3 +55,6 @@ pub mod StayLemmas
 pub mod JoinSteps
 pub mod JoinedLemmas
 pub mod JoinedSessions
+pub mod PlacedLemmas
+pub mod MatchEditLemmas
+pub mod MatchAnswerLemmas

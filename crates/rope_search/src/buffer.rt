@@ -12,6 +12,7 @@ ghost use Rattle.rope_search_reports.specs.Position.{IsAt, IsNowhere, position};
 ghost use Rattle.rope_search_reports.specs.Ticks.{MakesAsMany, MakesAtMost, NeverFall, SearchesOneWhole};
 ghost use Rattle.rope_search.specs.Finding.{TellsPositions};
 ghost use Rattle.rope_search.specs.GroupsAt.{AnswersGroups, SearchesRow};
+ghost use Rattle.rope_search.specs.MatchEdits.{AnswersEdit, SearchesForGroups};
 ghost use Rattle.rope_search.specs.Replacing.{IsReplacement, GetsTooLongWith, RowsOfReplacement};
 ghost use Rattle.rope_search.specs.Cost.{rows_anew};
 ghost use Rattle.rope_search.specs.Histories.{LeadOn, KeepsEdit, KeepsReplacement, changes_at, rows_back, rows_on};
@@ -26,6 +27,7 @@ ghost use Rattle.rope_search.specs.Edits.{AcceptsEdits, AreEdits, IsFirstAgainst
 use crate::edits::{Edit, edited};
 use crate::history::History;
 use crate::limits::Limits;
+use crate::match_edits::MatchEdit;
 use crate::parts::Part;
 use crate::search::{Search, row_count};
 use crate::stretches::Stretch;
@@ -671,6 +673,33 @@ impl Buffer {
         };
         let groups = search.groups_at(tick, self.history.current(), line, number)?;
         Ok(groups)
+    }
+
+    /// The edit that replaces a match of the report, by its line and its number in that row, by
+    /// what a template stands for. It is refused with `Fault::Nothing` without a pattern, else with
+    /// `Fault::Range` where no such match is listed, else with `Fault::Size` where the new text
+    /// would have more bytes than the limit, and perhaps with `Fault::Memory`. The buffer is as it
+    /// was, whatever is answered.
+    pub(crate) fn match_edit(
+        &mut self,
+        tick: &mut Lines,
+        line: usize,
+        number: usize,
+        template: &str,
+    ) -> Result<MatchEdit, Fault>
+        ensures answer { AnswersEdit self.old.limit self.old.state line number
+            (chars template.now) result }
+        ensures same { self.new ≡ self.old }
+        ensures searches { SearchesForGroups self.old.state line number (chars template.now)
+            tick.old tick.new }
+    {
+        let Some(search) = &mut self.search else {
+            return Err(Fault::Nothing);
+        };
+        let (alloc, limits) = (self.alloc, self.limits);
+        let text = self.history.current();
+        let edit = search.match_edit(tick, alloc, limits, text, line, number, template)?;
+        Ok(edit)
     }
 
     /// Replaces all matches of the pattern in the whole current text by what the template stands

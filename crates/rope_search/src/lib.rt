@@ -17,6 +17,7 @@ mod limits;
 mod line_columns;
 mod listed;
 mod listings;
+mod match_edits;
 mod parts;
 mod pattern_errors;
 mod payloads;

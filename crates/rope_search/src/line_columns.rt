@@ -27,7 +27,7 @@ fn length_in(line: &RopeSlice<'_>, encoding: Encoding) -> usize
 
 /// How many characters the longest front of a line's text has that is no longer than a column.
 /// `O(log n)`.
-fn chars_up_to(line: &RopeSlice<'_>, encoding: Encoding, column: usize) -> usize
+pub(crate) fn chars_up_to(line: &RopeSlice<'_>, encoding: Encoding, column: usize) -> usize
     ensures within { result ≤ length (slice_text line.now) }
     ensures front { IsLongestFront encoding (slice_text line.now) column
         (take result (slice_text line.now)) }

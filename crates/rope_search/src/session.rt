@@ -1,5 +1,5 @@
 //! A session: buffers, of which one is chosen.
-ghost use Rattle.std.specs.Prelude.{◌≡◌, ◌+◌, ◌<◌, ◌≤◌, ◌↔◌, [], ◌∷◌, ◌++◌, List, ℕ, length, take, drop, map, slice_index_or, Bool, Err, OnOk, OnErr, IfOk, IfErr, IsOk, None, Some, ◌⊎◌};
+ghost use Rattle.std.specs.Prelude.{◌≡◌, ◌+◌, ◌<◌, ◌≤◌, ◌↔◌, [], ◌∷◌, ◌++◌, List, ℕ, length, take, drop, map, slice_index_or, Bool, chars, Err, OnOk, OnErr, IfOk, IfErr, IsOk, None, Some, ◌⊎◌};
 ghost use Rattle.rope_search.specs.Order.{SetText, EditText, UndoEdit, RedoEdit, SetPattern, DropPattern, ListMatches, FindNext, ReplaceAll};
 ghost use Rattle.rope_search.specs.Session.{opened_session, chosen_in, fresh, fresh_buffer, current_text, chosen_buffer, with_text, with_pattern, with_chosen};
 ghost use Rattle.rope_search_reports.specs.Pattern.{pattern_limit};
@@ -10,6 +10,7 @@ ghost use Rattle.rope_search.specs.Cost.{Costs, SearchesFor};
 ghost use Rattle.rope_search_reports.specs.Ticks.{MakesAtMost, NeverFall, SearchesOneWhole};
 ghost use Rattle.rope_search.specs.Finding as finding;
 ghost use Rattle.rope_search.specs.GroupsAt.{AnswersGroups, SearchesRow};
+ghost use Rattle.rope_search.specs.MatchEdits.{AnswersEdit, SearchesForGroups};
 ghost use Rattle.rope_search.specs.Stretches as stretches;
 ghost use Rattle.rope_search.specs.Changed.{TellsRows, TellsAfter};
 ghost use Rattle.rope_search.specs.TextsKept.{ChangesChosen, KeepsAfter, KeepsEditsOf, KeepsOf, KeepsSteps, MakesFew};
@@ -21,6 +22,7 @@ use crate::buffer::Buffer;
 use crate::commands::{Command, Payload, Reply};
 use crate::edits::Edit;
 use crate::limits::Limits;
+use crate::match_edits::MatchEdit;
 use crate::stretches::Stretch;
 use crate::text_changes::TextChange;
 use rope_search_io::Fault;
@@ -358,6 +360,24 @@ impl Session {
         ensures searches { SearchesRow (chosen_buffer self.old.state) line tick.old tick.new }
     {
         self.buffers[self.chosen].groups_at(tick, line, number)
+    }
+
+    /// The edit that replaces a match of the chosen buffer's report by what a template stands for,
+    /// as `Buffer::match_edit` has it. The session is as it was, whatever is answered.
+    pub(crate) fn match_edit(
+        &mut self,
+        tick: &mut Lines,
+        line: usize,
+        number: usize,
+        template: &str,
+    ) -> Result<MatchEdit, Fault>
+        ensures answer { AnswersEdit self.old.limit (chosen_buffer self.old.state) line number
+            (chars template.now) result }
+        ensures same { self.new ≡ self.old }
+        ensures searches { SearchesForGroups (chosen_buffer self.old.state) line number
+            (chars template.now) tick.old tick.new }
+    {
+        self.buffers[self.chosen].match_edit(tick, line, number, template)
     }
 
     // Makes the payload the chosen buffer's text.
