@@ -42,6 +42,8 @@
  *   are O(1).
  * - replace searches the whole text once, and takes time linear in the matches and in what comes in
  *   their place; next searches up to the match that it finds; groups_at searches one line.
+ *   replace_match takes the time of edit and, with a group in what takes the match's place, that of
+ *   groups_at.
  * - count_matches, copy_matches and copy_matches_in take time linear in the rows from `from` up to
  *   `to` and in their matches, and copy_matches_in O(log n) for each row with a match and each match.
  *   Where `from` is not below `to` there are no such rows.
@@ -266,6 +268,15 @@ uint32_t rope_search_next(rope_search *session, rope_search_position from,
  * MEMORY.
  */
 uint32_t rope_search_replace(rope_search *session, const uint8_t *by, size_t len, size_t *count);
+
+/*
+ * Replaces one match of the report, by its line and its number in the row of that line, from 0, as
+ * `edit` does between the positions where it starts and ends. In what takes its place `$` and a
+ * digit stand for the text of that group, as the search of the line finds it, and `$$` for a dollar.
+ * Refused: NONE, RANGE, where no such match is listed; UTF8, SIZE, MEMORY.
+ */
+uint32_t rope_search_replace_match(rope_search *session, size_t line, size_t number,
+                                   const uint8_t *by, size_t len);
 
 /*
  * Adds a buffer with the chosen one's text, and neither its history nor its pattern. The chosen one

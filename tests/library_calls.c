@@ -46,6 +46,7 @@ static void refusals(rope_search *s)
     IS(rope_search_next(s, at(0, 0), &match), ROPE_SEARCH_NONE);
     IS(match.found, false);
     IS(rope_search_replace(s, bytes("a"), 1, &count), ROPE_SEARCH_NONE);
+    IS(rope_search_replace_match(s, 0, 0, bytes("\377"), 1), ROPE_SEARCH_NONE);
     IS(count, 0);
     IS(rope_search_set_text(s, bytes("\xff"), 1), ROPE_SEARCH_UTF8);
     IS(rope_search_set_text(s, bytes("12345678901234567"), 17), ROPE_SEARCH_SIZE);
@@ -217,6 +218,31 @@ static void several(rope_search *s)
     IS(rope_search_text_len(s), 11);
 }
 
+/* Matches replaced one by one, of the text "ab abc\rab", under a pattern, undone at the end. */
+static void matches(rope_search *s)
+{
+    rope_search_text_change change;
+    uint8_t text[32];
+    IS(rope_search_set_text(s, bytes("ab abc\rab"), 9), ROPE_SEARCH_DONE);
+    IS(rope_search_set_pattern(s, bytes("(a)(b)(c)?$"), 11), ROPE_SEARCH_DONE);
+    IS(rope_search_replace_match(s, 0, 1, bytes("\377"), 1), ROPE_SEARCH_RANGE);
+    IS(rope_search_replace_match(s, 2, 0, bytes("x"), 1), ROPE_SEARCH_RANGE);
+    IS(rope_search_replace_match(s, SIZE_MAX, SIZE_MAX, bytes("x"), 1), ROPE_SEARCH_RANGE);
+    IS(rope_search_replace_match(s, 0, 0, bytes("\377"), 1), ROPE_SEARCH_UTF8);
+    IS(rope_search_can_undo(s), 0);
+    IS(rope_search_replace_match(s, 0, 0, bytes("$3$2$1$4"), 8), ROPE_SEARCH_DONE);
+    IS(rope_search_replace_match(s, 1, 0, bytes("<$3$$>"), 6), ROPE_SEARCH_DONE);
+    IS(rope_search_copy_text(s, 0, 10, text, sizeof text), 1);
+    IS(memcmp(text, "ab cba\r<$>", 10), 0);
+    IS(rope_search_text_changes(s, &change, 1), 1);
+    IS(change.old_start == 7 && change.old_end == 9 && change.new_start == 7 && change.new_end == 10, 1);
+    IS(rope_search_undo_steps(s), 2);
+    IS(rope_search_undo(s), ROPE_SEARCH_DONE);
+    IS(rope_search_undo(s), ROPE_SEARCH_DONE);
+    IS(rope_search_count_matches(s, 0, 2), 2);
+    IS(rope_search_off(s), ROPE_SEARCH_DONE);
+}
+
 /* Lines, and edits by bytes, of the text "hi ho\r\nh\303\251 \360\237\220\270", under a pattern, undone at the end. */
 static void lines(rope_search *s)
 {
@@ -357,6 +383,7 @@ int main(void)
     IS(rope_search_set_pattern(&s, bytes("h"), 1), ROPE_SEARCH_DONE);
     several(&s);
     lines(&s);
+    matches(&s);
     rope_search_close(&s);
     return wrong != 0;
 }

@@ -53,8 +53,8 @@ static void see(rope_search *s, struct seen *seen)
 }
 
 enum kind {
-    SET_TEXT, EDIT, EDIT_ALL, EDIT_BYTES, UNDO, REDO, SET_PATTERN, OFF, NEXT, REPLACE, FORK, CHOOSE, FORGET, KEEP, JOIN,
-    GROUPS_AT, PATTERN_ERROR
+    SET_TEXT, EDIT, EDIT_ALL, EDIT_BYTES, UNDO, REDO, SET_PATTERN, OFF, NEXT, REPLACE, REPLACE_MATCH, FORK, CHOOSE, FORGET, KEEP,
+    JOIN, GROUPS_AT, PATTERN_ERROR
 };
 
 struct call {
@@ -92,6 +92,7 @@ static uint32_t carry_out(rope_search *s, const struct call *call)
     case OFF: return rope_search_off(s);
     case NEXT: return rope_search_next(s, from, &match);
     case REPLACE: return rope_search_replace(s, text, len, &number);
+    case REPLACE_MATCH: return rope_search_replace_match(s, call->line, call->column, text, len);
     case FORK: return rope_search_fork(s, &number);
     case FORGET: return rope_search_forget(s);
     case KEEP: return rope_search_keep(s, call->line);
@@ -116,7 +117,8 @@ static const struct call calls[] = {
     TEXT(PATTERN_ERROR, "(a|(?<name>b)|(?<name>c"), TEXT(PATTERN_ERROR, "((a)|b{1,3}"),
     CALL(UNDO), CALL(REDO), AT(JOIN, 2, 0), CALL(UNDO), CALL(REDO), TEXT(REPLACE, "<$1\n$0>"), CALL(UNDO), AT(KEEP, 5, 0), CALL(FORK),
     AT(CHOOSE, 1, 0), TEXT(EDIT, "a letter"), TEXT(SET_PATTERN, "\\be"), CALL(UNDO), CALL(OFF),
-    CALL(REDO), AT(CHOOSE, 0, 0), TEXT(EDIT, "one\n"), AT(KEEP, 1, 0), AT(GROUPS_AT, 0, 0), CALL(FORGET),
+    CALL(REDO), AT(CHOOSE, 0, 0), TEXT(EDIT, "one\n"), {REPLACE_MATCH, 1, 0, 0, 0, "<$1\n$0>"}, CALL(UNDO),
+    {REPLACE_MATCH, 1, 0, 0, 0, "two"}, AT(KEEP, 1, 0), AT(GROUPS_AT, 0, 0), CALL(FORGET),
 };
 
 static int may_ask(enum kind kind)

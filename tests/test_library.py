@@ -18,6 +18,7 @@ from library_edits import wrong_with
 from library_groups import wrong_groups
 from library_lines import wrong_edits, wrong_long, wrong_numbers, wrong_small
 from library_listed import wrong_listed
+from library_replacing import wrong_replacements
 from library_text_changes import small_changes, small_joins, wrong_after_edits, wrong_text_changes
 from protocol import Session, lines_of, place_of, position_at, positions_of, read_commands, spelled, units
 from random_patterns import Maker
@@ -341,6 +342,11 @@ def test_lines():
     test("bindings/python cuts no number", wrong_numbers())
 
 
+def test_replacing():
+    wrong = [one for seed in range(GROUPED) for one in wrong_replacements(seed)]
+    test(f"single matches replaced, in {GROUPED} texts at random, beside the model", wrong)
+
+
 def test_listed():
     wrong = [one for seed in range(LISTED) for one in wrong_listed(seed)]
     test(f"listed matches looked up, in {LISTED} texts at random, beside the model", wrong)
@@ -375,6 +381,7 @@ def test_closed():
         "column_in": (8, origin, ctypes.c_size_t(7)), "position_in": (8, 0, 0, rope_search._Position()),
         "forget": (), "keep": (1,), "join": (1,), "byte_of": (origin, ctypes.c_size_t(7)), "position_of": (0, rope_search._Position()),
         "groups_at": (0, 0, (rope_search._Group * 10)(), 10), "edit_bytes": (0, 0, b"a", 1),
+        "replace_match": (0, 0, b"a", 1),
         "clamp": (8, 0, 0, rope_search._Position(7, 7)), "line_len": (0, 8, ctypes.c_size_t(7)),
     }
     read_only = {
@@ -567,6 +574,7 @@ def test_all():
     test_text_changes()
     test_edits()
     test_groups()
+    test_replacing()
     test_listed()
     test_explanations()
     test_programs()

@@ -42,6 +42,7 @@ uint32_t rope_search_pattern_error(const uint8_t *, size_t, rope_search_pattern_
 uint32_t rope_search_off(rope_search *);
 uint32_t rope_search_next(rope_search *, rope_search_position, rope_search_match *);
 uint32_t rope_search_replace(rope_search *, const uint8_t *, size_t, size_t *);
+uint32_t rope_search_replace_match(rope_search *, size_t, size_t, const uint8_t *, size_t);
 uint32_t rope_search_fork(rope_search *, size_t *);
 uint32_t rope_search_choose(rope_search *, uint64_t);
 uint32_t rope_search_forget(rope_search *);
@@ -235,6 +236,12 @@ function Session:replace(template)
   local count = ffi.new("size_t[1]")
   local status = calls.rope_search_replace(self.handle, template, #template, count)
   return told(status, tonumber(count[0]))
+end
+
+-- Replaces one match of the report, by its line and its number in that row, from 0, with the groups
+-- that the search of the line finds: "range" where no such match is listed.
+function Session:replace_match(line, number, template)
+  return told(calls.rope_search_replace_match(self.handle, line, number, template, #template))
 end
 
 -- Adds a buffer with this text alone, and tells its number.

@@ -219,6 +219,7 @@ _CALLS = {
     "off": (_STATUS, _HANDLE),
     "next": (_STATUS, _HANDLE, _Position, ctypes.POINTER(_Match)),
     "replace": (_STATUS, _HANDLE, _BYTES, _SIZE, ctypes.POINTER(_SIZE)),
+    "replace_match": (_STATUS, _HANDLE, _SIZE, _SIZE, _BYTES, _SIZE),
     "fork": (_STATUS, _HANDLE, ctypes.POINTER(_SIZE)),
     "choose": (_STATUS, _HANDLE, ctypes.c_uint64),
     "forget": (_STATUS, _HANDLE),
@@ -390,6 +391,12 @@ class Session:
         template, count = _bytes_of(template), ctypes.c_size_t()
         _check(self._calls.rope_search_replace(self._handle, template, len(template), count))
         return count.value
+
+    def replace_match(self, line: int, number: int, template: Text) -> None:
+        """Replaces one match of the report, by its line and its number in that row, with the groups that the search of the
+        line finds. Refused: Nothing, Range, where no such match is listed; Utf8, Size, Memory."""
+        template = _bytes_of(template)
+        _check(self._calls.rope_search_replace_match(self._handle, line, number, template, len(template)))
 
     def fork(self) -> int:
         """Adds a buffer with this text alone, and tells its number. Refused: Memory."""

@@ -51,6 +51,7 @@ export const CALLS = {
   forget: ["", status()],
   keep: ["size", status()],
   join: ["size", status()],
+  replace_match: ["size size text", status()],
   buffers: ["", value("size")],
   chosen: ["", value("size")],
   can_undo: ["", value("bool")],

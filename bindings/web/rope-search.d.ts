@@ -180,6 +180,8 @@ export class Session {
   next(from: PositionLike): Match | null;
   /** Replaces all matches in the whole text, and returns their number. Refused: Nothing, Utf8, Size, Memory. */
   replace(template: Text): number;
+  /** Replaces the match of a number in a line's row. Refused: Nothing, Range, Utf8, Size, Memory. */
+  replaceMatch(line: number, number: number, template: Text): void;
   /** Adds a buffer with the chosen one's text, and returns its number. Refused: Memory. */
   fork(): number;
   /** Chooses a buffer. Refused: Nothing. */

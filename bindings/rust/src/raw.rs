@@ -89,6 +89,13 @@ extern "C" {
         len: usize,
         count: *mut usize,
     ) -> u32;
+    fn rope_search_replace_match(
+        session: *mut RawSession,
+        line: usize,
+        number: usize,
+        by: *const u8,
+        len: usize,
+    ) -> u32;
     fn rope_search_fork(session: *mut RawSession, number: *mut usize) -> u32;
     fn rope_search_choose(session: *mut RawSession, number: u64) -> u32;
     fn rope_search_forget(session: *mut RawSession) -> u32;
@@ -293,6 +300,11 @@ impl Handle {
         let (by, len, mut count) = (template.as_ptr(), template.len(), 0);
         check(unsafe { rope_search_replace(self.ptr(), by, len, &mut count) })?;
         Ok(count)
+    }
+
+    pub fn replace_match(&mut self, line: usize, number: usize, template: &[u8]) -> Result<()> {
+        let (by, len) = (template.as_ptr(), template.len());
+        check(unsafe { rope_search_replace_match(self.ptr(), line, number, by, len) })
     }
 
     pub fn fork(&mut self) -> Result<usize> {

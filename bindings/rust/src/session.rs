@@ -221,6 +221,37 @@ impl Session {
         self.handle.replace(template.as_ref())
     }
 
+    /// Replaces one match of the report, by its line and its number in that row, from 0, as [`Session::edit`]
+    /// does between the positions where it starts and ends.
+    ///
+    /// In the template, `$` and a digit are that group's text, as the search of the line finds it; `$$` is a
+    /// dollar.
+    ///
+    /// # Errors
+    ///
+    /// [`Error::Nothing`] without a pattern; [`Error::Range`] if no such match is listed; [`Error::Utf8`],
+    /// [`Error::Size`], [`Error::Memory`].
+    ///
+    /// ```
+    /// use rope_search::{Error, Session};
+    ///
+    /// let mut session = Session::new()?;
+    /// session.set_text("a-b c-d\re-f")?;
+    /// session.set_pattern("(.)-(.)$")?;
+    /// session.replace_match(0, 0, "$2-$1")?;
+    /// assert_eq!(session.replace_match(1, 1, ""), Err(Error::Range));
+    /// assert_eq!(session.text(..)?, "a-b d-c\re-f");
+    /// # Ok::<(), Error>(())
+    /// ```
+    pub fn replace_match(
+        &mut self,
+        line: usize,
+        number: usize,
+        template: impl AsRef<[u8]>,
+    ) -> Result<()> {
+        self.handle.replace_match(line, number, template.as_ref())
+    }
+
     /// Adds a buffer with the chosen buffer's text, and neither its history nor its pattern, and returns its
     /// number. The chosen buffer stays chosen.
     ///

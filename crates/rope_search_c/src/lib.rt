@@ -15,6 +15,7 @@ mod lines;
 mod listed;
 mod listed_calls;
 mod look_ups;
+mod match_edits;
 mod matches;
 mod pattern_errors;
 mod reading;
@@ -45,6 +46,7 @@ pub use look_ups::{
     rope_search_position_in, rope_search_position_of, rope_search_rows, rope_search_text_len,
     rope_search_text_lines,
 };
+pub use match_edits::rope_search_replace_match;
 pub use matches::{Group, Match, Span};
 pub use pattern_errors::{PatternReason, rope_search_pattern_error};
 pub use text_changes::{
