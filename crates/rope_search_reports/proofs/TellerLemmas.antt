@@ -1,14 +1,17 @@
 -- The lines of places, told from the chunk that holds them.
-use Rattle.std.proofs.Common.{◌≡◌, ℕ, ◌+◌, ◌-◌, ◌<◌, ◌≤◌, ◌^◌, ◌&&◌, List, [], ◌∷◌, ◌++◌, length, take, drop, chars, refl, sym, ap, subst, ◌∙◌, arith, append_assoc, append-nil, length-append, IsUtf8}
+use Rattle.std.proofs.Common.{◌≡◌, ℕ, ◌+◌, ◌-◌, ◌<◌, ◌≤◌, ◌^◌, ◌&&◌, cond, List, [], ◌∷◌, ◌++◌, length, take, drop, map, nat_le, chars, refl, sym, ap, subst, ◌∙◌, arith, append_assoc, append-nil, length-append, IsUtf8}
 use Rattle.std.proofs.lemmas.List.{nil_from_length, take-append-drop, length-take-le}
+use Rattle.std.proofs.lemmas.Bool.{lt-leb}
 use Rattle.std.proofs.lemmas.List.Folds.{concat-append}
+use Rattle.std.proofs.lemmas.List.Sums.{sum_by-cons}
 use Rattle.std.proofs.lemmas.Str.{IsUtf8-nil, IsUtf8-take, IsUtf8-drop, chars-append, chars-nil, encodes-chars}
 use Rattle.std.specs.Str.{IsCharBoundary}
+use Rattle.str_indices.specs.FirstBreak.{IsFirstBreak}
 use Rattle.str_indices.specs.Laws.{EndsAddUp, EndsBehind}
 use Rattle.str_indices.specs.Text.{breaks, break_ends, byte_len, ends_up_to, ends_with_cr, starts_with_lf, NoCrLfBetween}
 use Rattle.ropey.specs.Chunks.{IsCutting, IsPiece, ShowsChunk, is_break, lone_piece, text_of}
 use Rattle.rope_search_reports.specs.Text.{line_count}
-use Rattle.rope_search_reports.specs.Drafts.{IsTeller}
+use Rattle.rope_search_reports.specs.Drafts.{IsTeller, StaysInLine}
 use Rattle.rope_search_reports.specs.Position.{line_at}
 use Rattle.rope_search_reports.proofs.LineLemmas.{byte_len-append, ends-joined_cr}
 use Rattle.rope_search_reports.proofs.WalkLemmas.{chunk-whole, cutting-tail, no-lf, reaches, uncut-behind}
@@ -175,3 +178,33 @@ teller-on text rest start line place line' is low high here line_is =
       fits = is.fits;
       bytes_fit = is.bytes_fit;
     }
+
+-- ---- places in the same line
+
+-- no end of these lies up to a place: all are behind another one
+none-up-to : (end place : ℕ) (ends : List ℕ) → place < end → ends_up_to place (map (λ e. end + e) ends) ≡ 0
+none-up-to end place [] low = refl
+none-up-to end place (e ∷ es) low =
+    sum_by-cons (λ e. cond (nat_le e place) 1 0) (end + e) (map (λ e. end + e) es)
+    ∙ rw (lt-leb (end + e) place (omega (arith, low))) (omega (arith, none-up-to end place es low))
+
+-- none ends before the first break does
+pub none-before-first : (bytes : List ℕ) (start end place : ℕ) → IsFirstBreak is_break bytes start end → place < end → ends_up_to place (break_ends is_break (chars bytes)) ≡ 0
+none-before-first bytes start end place first low =
+    let others = map (λ e. end + e) (break_ends is_break (chars (drop end bytes))) in
+    ap (ends_up_to place) first.break_ends
+    ∙ sum_by-cons (λ e. cond (nat_le e place) 1 0) end others
+    ∙ rw (lt-leb end place low) (omega (arith, none-up-to end place (break_ends is_break (chars (drop end bytes))) low))
+
+-- no place is known to be in the same line
+pub stays-none : (text : List ℕ) (start line : ℕ) → StaysInLine text start line 0
+stays-none text start line = λ k low. absurd (omega (arith, low))
+
+-- the places of what is left, up to where its first line ends
+pub stays-on : EndsAddUp NoCrLfBetween (breaks is_break) (break_ends is_break) → EndsBehind (break_ends is_break) → (text rest : List ℕ) (start line count : ℕ) → IsTeller text rest start line
+    → count ≤ length rest → ((place : ℕ) → place < count → ends_up_to place (break_ends is_break (chars rest)) ≡ 0) → StaysInLine text start line count
+stays-on law behind text rest start line count is within first = λ k low.
+    let told = line-told law behind text rest start line (start + k) is (omega arith) (omega (arith, low, within)) in
+    let same : ends_up_to ((start + k) - start) (break_ends is_break (chars rest)) ≡ ends_up_to k (break_ends is_break (chars rest)) =
+    ap (λ n. ends_up_to n (break_ends is_break (chars rest))) (omega arith) in
+    omega (arith, told, same, first k low)

@@ -58,6 +58,10 @@ abbrev pub HoldsText : Line → Type 0
 HoldsText (Whole text) = IsUtf8 text.now
 HoldsText (Parted slice) = IsText (slice_text slice)
 
+-- each of its characters takes one byte and one code unit
+abbrev pub HasNarrowText : Line → Type 0
+HasNarrowText line = units (own_text line) ≡ byte_len (own_text line)
+
 -- a place in a line's text that so many code units stand before, up to its end
 pub record HasColumn (own : List ℕ) (column : ℕ) (place : Place) : Type 0 where
   pub front : List ℕ
@@ -160,6 +164,10 @@ pub record IsTeller (text rest : List ℕ) (start line : ℕ) : Type 0 where
   pub whole : NoCrLfBetween (chars rest) after
   pub fits : line_count text < 2 ^ 64
   pub bytes_fit : byte_len text < 2 ^ 63
+
+-- so many places from one on are in the same line
+abbrev pub StaysInLine : List ℕ → ℕ → ℕ → ℕ → Type 0
+StaysInLine text start line count = (k : ℕ) → k < count → line_at text (start + k) ≡ line
 
 -- ---- behind the last change
 

@@ -1,6 +1,8 @@
 //! The lines in which places of a text are, each told from the place before.
-ghost use Rattle.std.specs.Prelude.{◌≡◌, ◌+◌, ◌<◌, ◌≤◌};
-ghost use Rattle.str_indices.specs.Text.{byte_len};
+ghost use Rattle.std.specs.Prelude.{◌≡◌, ◌+◌, ◌<◌, ◌≤◌, ℕ, length};
+ghost use Rattle.std.specs.Str.{chars};
+ghost use Rattle.str_indices.specs.Text.{break_ends, byte_len, ends_up_to};
+ghost use Rattle.ropey.specs.Chunks.{is_break};
 ghost use Rattle.ropey.specs.Slices.{slice_text};
 ghost use Rattle.rope_search_reports.specs.Text.{line_count};
 ghost use Rattle.rope_search_reports.specs.Position.{line_at};
@@ -9,9 +11,10 @@ ghost use Rattle.rope_search_reports.specs.Drafts.{IsTeller};
 use ropey::{RopeSlice, breaks};
 use std::marker::Model;
 
-/// Tells the lines of places in a text. It keeps what is left of a chunk from the last place on,
-/// and counts breaks from there; a place before it or in another chunk is looked up. Contracts see
-/// the text, and where what is left starts and ends.
+/// Tells the lines of places in a text. It keeps what is left of a chunk from a place on, and how
+/// far that place's line goes there; behind that it counts breaks from the place, and a place
+/// before it or in another chunk is looked up. Contracts see the text, and where what is left
+/// starts and ends.
 #[derive(Drop)]
 pub(crate) struct LineTeller<'a> {
     text: RopeSlice<'a>,
@@ -19,12 +22,26 @@ pub(crate) struct LineTeller<'a> {
     // Where that starts, and the line of this place.
     start: usize,
     line_idx: usize,
+    // How many places from there on are known to be in the same line.
+    same: usize,
+}
+
+/// How many places of a text are in its first line: those before the end of its first break.
+fn len_of_first_line(text: &str) -> usize
+    ensures within { result ≤ length text.now }
+    ensures first { (place : ℕ) → place < result
+        → ends_up_to place (break_ends is_break (chars text.now)) ≡ 0 }
+{
+    match breaks::first_break(text) {
+        Some(found) => found.end,
+        None => text.len(),
+    }
 }
 
 impl<'a> Model for LineTeller<'a> {
     ghost use Rattle.std.specs.Prelude.{◌+◌, length};
     ghost use Rattle.ropey.specs.Slices.{slice_text};
-    ghost use Rattle.rope_search_reports.specs.Drafts.{IsTeller, TellerState};
+    ghost use Rattle.rope_search_reports.specs.Drafts.{IsTeller, StaysInLine, TellerState};
 
     ghost Value = { TellerState };
 
@@ -34,7 +51,8 @@ impl<'a> Model for LineTeller<'a> {
       end = t.start + length t.rest.now;
     } };
 
-    ghost invariant = { λ t. IsTeller (slice_text t.text) t.rest.now t.start t.line_idx };
+    ghost invariant = { λ t. IsTeller (slice_text t.text) t.rest.now t.start t.line_idx ×
+        StaysInLine (slice_text t.text) t.start t.line_idx t.same };
 }
 
 impl<'a> LineTeller<'a> {
@@ -49,6 +67,7 @@ impl<'a> LineTeller<'a> {
             rest: "",
             start: 0,
             line_idx: 0,
+            same: 0,
         }
     }
 
@@ -67,6 +86,7 @@ impl<'a> LineTeller<'a> {
             rest,
             start,
             line_idx,
+            same: 0,
         }
     }
 
@@ -85,6 +105,7 @@ impl<'a> LineTeller<'a> {
             rest,
             start,
             line_idx,
+            same: 0,
         }
     }
 
@@ -100,9 +121,8 @@ impl<'a> LineTeller<'a> {
         }
     }
 
-    /// The line that a place is in. From the place before on, in the same chunk, it takes no
-    /// look-up, and time linear in what lies between.
-    pub(crate) fn line(&mut self, byte_idx: usize) -> usize
+    /// `line` where that isn't known yet. Then it is known up to the line's end, or the chunk's.
+    fn count_to(&mut self, byte_idx: usize) -> usize
         requires { byte_idx ≤ byte_len self.old.text }
         ensures line { result ≡ line_at self.old.text byte_idx }
         ensures few { result < line_count self.old.text }
@@ -115,9 +135,27 @@ impl<'a> LineTeller<'a> {
         if !rest.is_char_boundary(within) {
             return line_idx;
         }
-        self.rest = &rest[within..];
+        let rest = &rest[within..];
+        self.rest = rest;
         self.start = byte_idx;
         self.line_idx = line_idx;
+        self.same = len_of_first_line(rest);
         line_idx
+    }
+
+    /// The line that a place is in. From the place before on, in the same line and chunk, it takes
+    /// nothing; in the same chunk no look-up, and time linear in what lies between and in the
+    /// place's line.
+    #[inline(always)]
+    pub(crate) fn line(&mut self, byte_idx: usize) -> usize
+        requires { byte_idx ≤ byte_len self.old.text }
+        ensures line { result ≡ line_at self.old.text byte_idx }
+        ensures few { result < line_count self.old.text }
+        ensures text { self.new.text ≡ self.old.text }
+    {
+        if self.start <= byte_idx && byte_idx - self.start < self.same {
+            return self.line_idx;
+        }
+        self.count_to(byte_idx)
     }
 }

@@ -137,9 +137,11 @@ fn columns_in<C: Cursor + Drop>(
     let mut slots = [None; 2];
     // Where the last match ended, and its column there.
     let (mut place, mut column) = (0, 0);
+    let mut is_narrow = false;
     while let Some((start, end)) = regex.next(&mut pass, &mut slots)? {
-        let start_column = line.column_from(place, column, start);
-        column = line.column_from(start, start_column, end);
+        is_narrow = line.is_narrow_at(columns.len(), is_narrow);
+        let start_column = line.column_from(is_narrow, place, column, start);
+        column = line.column_from(is_narrow, start, start_column, end);
         columns.push((start_column, column))?;
         place = end;
     }

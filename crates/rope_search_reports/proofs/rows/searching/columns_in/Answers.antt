@@ -26,6 +26,7 @@ loop-pass-init g c =
       λ text built.
           rw (ap (λ p. p.last) begins, c.requires.empty) (Searched-start (columns_of content) built.tree content (finds_of_trees built.tree)),
       ap (λ p. p.by) begins,
+      λ is. absurd (cc is),
     )
 
 pub column_from-start_column-requires-clause-ends : goal.column_from-start_column-requires-clause-ends
@@ -120,6 +121,7 @@ loop-pass-preserved g c =
           (columns-are built.tree content c.loop-pass.pass.last (c.in-Some.start, c.in-Some.end) _ c.column_from-start_column.result c.column_from-column.result next' c.column_from-start_column.ensures c.column_from-column.ensures)
           (c.loop-pass.invariant.6 text built)),
       ap (λ p. p.by) gone ∙ c.loop-pass.invariant.7,
+      c.is_narrow_at-is_narrow.ensures,
     )
 
 pub returns-clause-row : goal.returns-clause-row
