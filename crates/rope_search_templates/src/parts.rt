@@ -11,8 +11,8 @@ use ropey::{Rope, RopeSlice};
 use std::alloc::AllocError;
 use std::marker::Model;
 
-/// The parts of a text. It keeps the chunk in which the last part starts, so that parts which follow
-/// each other take a look-up a chunk. Contracts see the text's chunks.
+/// The parts of a text. It keeps the chunk in which the last part starts, so that parts which
+/// follow each other take a look-up a chunk. Contracts see the text's chunks.
 #[derive(Drop)]
 pub(crate) struct Parts<'a> {
     text: &'a Rope,
