@@ -6,9 +6,6 @@ import random
 import re
 import shutil
 import statistics
-import subprocess
-import sys
-import time
 
 from processes import (
     OURS,
@@ -30,7 +27,6 @@ from processes import (
 from texts import TOP, lines_of, source_text
 
 UNDO = b"undo\n"
-CALLED = r"y\(\w+"  # under which the library's calls are measured
 LITERALS = ["let", "e", "xyz"]  # in about three lines of ten, in nearly each and in none
 EXPRESSIONS = [r"\w+\s*=>\s*\w+", "(?i)todo|error", "[0-9]+|0x[0-9a-f]+"]
 # Patterns that find something in this line alone, which `next` has to reach.
@@ -270,82 +266,6 @@ def build_patterns(patterns, folder, tiny):
         yield of, "time", nanos([run[0] for run in runs]), unit_of(is_right)
         if tells_peak():
             yield of, "memory", f"{peak_of([PROGRAM], session) - bare}", "kB"
-
-
-def told_by(words, **more):
-    """The medians that a program tells, each behind its name."""
-    told = subprocess.run(words, stdout=subprocess.PIPE, check=True, text=True, env=dict(os.environ, **more)).stdout
-    return [float(line.split()[1]) for line in told.splitlines()]
-
-
-def lines_of_calls(lines):
-    """The text that the library's calls are measured over."""
-    return b"".join(b"line %d of the text: let x = y(a, b);\n" % line for line in range(lines))
-
-
-def by_buffer(folder, lines):
-    """The median of a letter typed in a buffer of `rope_search`, by bin/bench."""
-    words = [os.path.join(TOP, "bin", "bench"), "live", written(folder, "lines", lines_of_calls(lines)), CALLED]
-    told = subprocess.run(words, stdout=subprocess.PIPE, check=True, text=True).stdout
-    return [float(line.split("\t")[1]) for line in told.splitlines() if line.startswith("a letter in a random line\t")][:1]
-
-
-def by_c(folder, lines, edits):
-    """The medians of a letter typed, undone, and a window's rows, by a program in C."""
-    made = os.path.join(folder, "embedded")
-    words = ["cc", "-O2", "-I", os.path.join(TOP, "include"), "-o", made, os.path.join(TOP, "bench", "embedded.c")]
-    subprocess.run([*words, os.path.join(TOP, "bin", "librope_search.a")], check=True)
-    return told_by([made, str(lines), str(edits)])
-
-
-def over_pipes(folder, lines, edits):
-    """Those of a letter typed and undone, by a program in C that writes the commands to the program."""
-    made = os.path.join(folder, "piped")
-    subprocess.run(["cc", "-O2", "-o", made, os.path.join(TOP, "bench", "piped.c")], check=True)
-    return told_by([made, PROGRAM, str(lines), str(edits)])
-
-
-def by_lua(lines, edits):
-    """The same as in C by bindings/lua, where LuaJIT is at hand."""
-    if not shutil.which("luajit"):
-        return []
-    paths = {"LUA_PATH": os.path.join(TOP, "bindings", "lua", "?.lua")}
-    return told_by(["luajit", os.path.join(TOP, "bench", "embedded.lua"), str(lines), str(edits)], **paths)
-
-
-def by_python(lines, edits):
-    """The same by bindings/python."""
-    sys.path.insert(0, os.path.join(TOP, "bindings", "python"))
-    import rope_search
-
-    chance, times = random.Random(7), ([], [], [])
-    with rope_search.Session() as session:
-        session.set_text(lines_of_calls(lines))
-        session.set_pattern(CALLED.encode())
-        for _ in range(edits):
-            line = chance.randrange(lines)
-            typed, shown = lambda: session.edit((line, 5), (line, 5), b"a"), lambda: session.matches(line, line + 50)
-            for times_of_call, call in zip(times, (typed, session.undo, shown)):
-                start = time.perf_counter_ns()
-                call()
-                times_of_call.append(time.perf_counter_ns() - start)
-    return [statistics.median(times_of_call) for times_of_call in times]
-
-
-def embedded(folder, tiny):
-    """A letter typed in a random line, undone, and the rows of a window, through the library that make lib builds."""
-    lines, edits = (4_000, 200) if tiny else (400_000, 2_000)
-    whats = ("a letter in a random line", "undo", "a window's 50 rows")
-    ways = {
-        "in Rattle, a buffer": by_buffer(folder, lines),
-        "in C": by_c(folder, lines, edits),
-        "in Python": by_python(lines, edits),
-        "in LuaJIT": by_lua(lines, edits),
-        "by the program over pipes": over_pipes(folder, lines, edits),
-    }
-    for way, medians in ways.items():
-        for what, median in zip(whats, medians):
-            yield way, what, f"{median:.0f}", "ns"
 
 
 def count_instructions(folder, tiny):

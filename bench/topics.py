@@ -9,6 +9,7 @@ import itertools
 from typing import NamedTuple
 
 import sessions
+import ways
 
 MB = 1_000_000
 EXPRESSIONS = [r"\w+\s*=>\s*\w+", "(?i)todo|error", "[0-9]+|0x[0-9a-f]+"]
@@ -101,7 +102,7 @@ AIMS = {
         "a typist's letter": "6 us",
         "what a random letter keeps": "3,000 bytes",
     },
-    "embedded": dict.fromkeys(("in C", "in Python", "in LuaJIT"), "1 us above the buffer"),
+    "embedded": dict.fromkeys(("in C", "in Rust", "in Python", "in LuaJIT"), "1 us above the buffer"),
     "replace": {sessions.by_template(*replaced[:2]): "the plain program's" for replaced in sessions.REPLACED},
     "next": {f"`{pattern}`": "5 ns" for pattern in sessions.REACHED},
     "enter": {"a break under `let`": "1.2 ms"},
@@ -166,7 +167,7 @@ TOPICS = {
         "a letter typed in a random line, with the report of `y\\(\\w+` in 400,000 lines, its `undo` and the rows of a "
         "window, by the library, its modules, and the program over pipes, which tells no window: medians, but for the "
         "buffer's, a mean",
-        [sessions.embedded],
+        [ways.embedded],
         built=("bin/bench", "bin/librope_search.a", "bin/librope_search.so"),
     ),
     "replace": Topic(

@@ -167,7 +167,9 @@ def test_costs():
     results, page = read(os.path.join(TOP, "bench", "RESULTS.md")), read(os.path.join(TOP, "docs", "embedding.md"))
     rows = re.findall(r"^\| (.*?) \| ([\d,]+) (ns|us) \|", results.split("\n## embedded\n")[1].split("\n## ")[0], re.M)
     measured = {name: int(number.replace(",", "")) / (1000 if unit == "ns" else 1) for name, number, unit in rows}
-    names = {"C": "in C", "Python": "in Python", "Lua": "in LuaJIT", "A child process": "by the program over pipes"}
+    names = {"C": "in C", "Rust": "in Rust", "Python": "in Python", "Lua": "in LuaJIT", "Node": "by the program from Node",
+             "A web page": "in WebAssembly, in Node", "A child process": "by the program over pipes",
+             "A language server": "by the language server", "Neovim": "in Neovim, with its own edit"}
     told = dict(re.findall(r"^\| \[([^]]*)\].*\| ([\d.]+) µs \|$", page, re.M))
     due = {way: f"{measured[name]:.{int(measured[name] < 10)}f}" for way, name in names.items()}
     test("docs/embedding.md has what a letter costs", [] if told == due else [f"it has {told}, not {due}"])
