@@ -6,7 +6,7 @@ use Rattle.rx_util.specs.Groups.{GroupNames, group_len, name_of, noted_groups, s
 abbrev groups : GroupNames
 groups = (None ∷ Some (codes "x") ∷ []) ∷ (None ∷ []) ∷ []
 
--- with group 0; there is no third pattern
+-- group 0 is counted; there is no third pattern
 lengths : group_len groups 0 ∷ group_len groups 1 ∷ group_len groups 2 ∷ [] ≡ 3 ∷ 2 ∷ 0 ∷ []
 lengths = refl
 
@@ -27,6 +27,6 @@ slots = refl
 no_such_group : first_slot groups 1 2 ≡ None
 no_such_group = refl
 
--- where the groups 0 alone are captured
+-- if only the groups 0 are captured
 slots_of_whole_matches : slot_len (noted_groups which.Implicit groups) ≡ 4
 slots_of_whole_matches = refl

@@ -1,5 +1,5 @@
--- What small programs find backward, from an end of the span that is past the content.
-use Rattle.std.proofs.Common.{◌≡◌, ℕ, Bool, true, ◌==◌, List, [], ◌∷◌, Option, Some, None, inl, refl, arith}
+-- What a small program finds backward if the span ends past the content.
+use Rattle.std.proofs.Common.{ℕ, Bool, true, ◌==◌, [], ◌∷◌, Option, Some, None, inl, refl, arith}
 use Rattle.std.proofs.Math.Utf8.{encode}
 use Rattle.std.specs.Str.{is_utf8, chars}
 use Rattle.rx_walks.specs.Backward.{ProgramFindsBack, none_back, least_back}
@@ -27,7 +27,7 @@ a_star = record {
   line_terminator = 10;
 }
 
--- `aa`, in which the span starts at this place; it ends past the content, and so does the slice
+-- `aa`, with a span from this offset; span and slice end past the content
 abbrev aa_from : Anchoring → ℕ → Search
 aa_from anchoring start = record {
   content = 97 ∷ 97 ∷ [];
@@ -39,14 +39,14 @@ aa_from anchoring start = record {
   utf8_empty = true;
 }
 
--- `a*` matches `aa` from this start to the content's end
+-- this is what `a*` finds backward in it
 abbrev FindsFrom : Anchoring → ℕ → Option PatternMatch → Type 0
 FindsFrom anchoring start out = ProgramFindsBack is_letter is_x a_star (aa_from anchoring start) out
 
 abbrev to_end_from : ℕ → PatternMatch
 to_end_from start = record { start = start; pattern = 0; end = 2 }
 
--- the walks that take two letters, one, and none
+-- the walks that read two letters and one
 abbrev ends_at_2 : ℕ → Outcome Notes
 ends_at_2 start = record { pattern = 0; end = 2; notes = fresh_notes start }
 
@@ -71,13 +71,7 @@ takes_one =
     went (1 ∷ 2 ∷ []) 2 (is_seen_false [] 0 refl) refl refl (
     ended (is_seen_false (0 ∷ []) 2 refl) refl)))
 
-takes_none : Walk (of_aa (anchored_pattern 0) 2) [] (fresh_notes 2) 0 2 (1 ∷ []) (ends_at_2 2)
-unfolding is_utf8 chars encode
-takes_none =
-    went (1 ∷ 2 ∷ []) 2 (is_seen_false [] 0 refl) refl refl (
-    ended (is_seen_false (0 ∷ []) 2 refl) refl)
-
--- from the content's end the least start is found, not the nearest one
+-- the search starts at the content's end, and finds the least start, not the nearest one
 from_0 : FindsFrom anchored 0 (Some (to_end_from 0))
 from_0 = least_back (record {
   inside = (omega arith, omega arith, omega arith, omega arith, omega arith);
@@ -86,7 +80,7 @@ from_0 = least_back (record {
   may_end = inl (λ same. omega (arith, same));
 }) (λ b counts. (omega arith, λ same. omega arith))
 
--- no start before the span is
+-- no start before the span is found
 from_1 : FindsFrom anchored 1 (Some (to_end_from 1))
 from_1 = least_back (record {
   inside = (omega arith, omega arith, omega arith, omega arith, omega arith);
@@ -95,10 +89,10 @@ from_1 = least_back (record {
   may_end = inl (λ same. omega (arith, same));
 }) (λ b counts. (counts.inside.2, λ same. omega arith))
 
--- nothing is found where the span starts past the content
+-- nothing is found if the span starts past the content
 from_3 : FindsFrom anchored 3 None
 from_3 = none_back (λ a counts. omega (arith, counts.inside.2, counts.inside.4))
 
--- nor of a pattern that there isn't
+-- nor for a pattern that doesn't exist
 no_pattern : FindsFrom (anchored_pattern 1) 0 None
 no_pattern = refl

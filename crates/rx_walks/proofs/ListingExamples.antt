@@ -1,4 +1,5 @@
--- A list of matches by the nodes that lead; and what is found of one pattern where all matches are wanted.
+-- A list of matches made from the nodes that lead to a match; and searches for one pattern of several, where all matches
+-- are wanted.
 use Rattle.std.proofs.Common.{◌≡◌, ℕ, ◌+◌, ◌≤◌, Bool, true, false, ◌==◌, List, [], ◌∷◌, Some, None, refl, sym, subst, ◌∙◌, arith}
 use Rattle.std.proofs.Math.Utf8.{encode}
 use Rattle.std.specs.Str.{is_utf8, chars}
@@ -11,7 +12,7 @@ use Rattle.rx_walks.specs.Looks.{Look}
 use Rattle.rx_walks.specs.Machines.{Machine, Outcome, goes}
 use Rattle.rx_walks.specs.Paths.{Path, at_end, by_edge, by_read}
 use Rattle.rx_walks.specs.ProgramFinds.{ProgramFindsAll, ProgramMatches, machine_of}
-use Rattle.rx_walks.specs.Programs.{Node, Program, Notes, fresh_notes, match, pass, set}
+use Rattle.rx_walks.specs.Programs.{Program, Notes, fresh_notes, match, pass, set}
 use Rattle.rx_walks.specs.StepsAll as all
 use Rattle.rx_walks.specs.StepsAll.{StepsAll, Met, met_first, met_other}
 use Rattle.rx_walks.proofs.Evaluation.{is_seen_false, begins_at_true, found_by_all}
@@ -58,7 +59,7 @@ leads_at_1 : LeadsToMatch of_aa 0 1
 unfolding is_utf8 chars encode
 leads_at_1 = record { pattern = 0; end = 2; path = by_read 1 2 refl (at_end refl) }
 
--- a node with no edge doesn't lead
+-- no path goes on from a node without edges
 no_path : (q i p e : ℕ) → of_aa.move i q ≡ goes [] → Path of_aa q i p e → ⊥
 no_path q i p e still (at_end is) = absurd (cc (still, is))
 no_path q i p e still (by_edge rs r k is at path) = none_there rs k (same_goes rs [] (sym is ∙ still)) at
@@ -84,7 +85,7 @@ list_of_a =
 matches_of_a : ProgramMatches is_letter is_x a_once aa (match_at 0 1 ∷ match_at 1 2 ∷ [])
 matches_of_a = listings_are_matches is_letter is_x a_once aa 0 (match_at 0 1 ∷ match_at 1 2 ∷ []) refl list_of_a
 
--- ---- `b`, `ab??` and `ab` in `ab`, of which one alone is asked for, and all matches are wanted
+-- ---- one of `b`, `ab??` and `ab` in `ab`, where all matches are wanted
 
 abbrev three : Program Look ℕ
 three = record {
@@ -109,7 +110,7 @@ none_past pattern j from begins = omega (arith, from, begins.0.0.4)
 none_met : (s p : ℕ) → Met s p [] → ⊥
 none_met s p met = elim met [ ]
 
--- the third, though the second matches there too, to the same end
+-- the third is found, though the second has the same match
 third_at_2 : (s p : ℕ) → Met s p ((0, 2) ∷ []) → (0 ≤ s) × (s ≡ 0 → 2 ≤ p)
 third_at_2 s p (met_first e e') = (omega arith, λ same. omega (arith, e'))
 third_at_2 s p (met_other met) = absurd (none_met s p met)
@@ -122,7 +123,7 @@ third = found_by_all is_letter is_x three (ab_of 2) 7 (Some (record { start = 0;
     all.stepped (none_further 2 1) (all.met (is_seen_false [] 9 refl) refl all.done) (all.some_met (met_first refl refl) third_at_2) (
     all.over (none_past 2)))))
 
--- the first begins further on, where none may
+-- the first isn't: its match would start past the span's start
 no_first : ProgramFindsAll is_letter is_x three (ab_of 0) None
 unfolding is_utf8 chars encode
 no_first = found_by_all is_letter is_x three (ab_of 0) 1 None refl (
@@ -131,6 +132,6 @@ no_first = found_by_all is_letter is_x three (ab_of 0) 1 None refl (
     all.stepped (none_further 0 1) all.done (all.none_met none_met) (
     all.over (none_past 0)))))
 
--- and there is no fourth
+-- there is no fourth
 no_fourth : ProgramFindsAll is_letter is_x three (ab_of 3) None
 no_fourth = refl
