@@ -22,3 +22,4 @@ pub mod EmptyLaws
 pub mod OwnerLaws
 pub mod ArrivalLaws
 pub mod ReverseLaws
+pub mod Examples

@@ -9,3 +9,4 @@ pub mod LengthLaws
 pub mod ListLaws
 pub mod SourceLaws
 pub mod SubsetLaws
+mod Examples

@@ -1,3 +1,4 @@
 pub mod SparseSetLemmas
 pub mod SlotLemmas
 pub mod NameLemmas
+mod Examples
