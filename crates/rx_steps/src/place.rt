@@ -82,7 +82,7 @@ pub struct Place {
     pub at: NonMaxUsize,
     /// The byte.
     pub byte: Option<u8>,
-    /// The looks.
+    /// The assertions that hold.
     pub looks: Looks,
 }
 

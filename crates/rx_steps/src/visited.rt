@@ -186,7 +186,7 @@ impl Visited {
         if !self.set.insert(StateID::new(index)) {
             return false;
         }
-        let _len = self.set.len(); // tells that no member is there twice
+        let _len = self.set.len(); // for the proof: the members are distinct
         self.followed.add();
         true
     }
