@@ -422,7 +422,7 @@ fn seek<C: Cursor>(
     ensures bound { length input.old.cursor.content < 2 ^ 63 }
     ensures refused { IfErr result (λ error. error ≡ MatchError.Memory) }
 {
-    let _at = input.position(); // tells how long the content may be
+    let _at = input.position(); // for the proof: how long the haystack may be
     match vm.match_kind() {
         MatchKind::LeftmostFirst => seek_first(vm, cache, input, earliest, slots),
         MatchKind::All => seek_all(vm, cache, input, earliest, slots),
@@ -449,7 +449,7 @@ fn seek_first<C: Cursor>(
     ensures bound { length input.old.cursor.content < 2 ^ 63 }
     ensures refused { IfErr result (λ error. error ≡ MatchError.Memory) }
 {
-    let _at = input.position(); // tells how long the content may be
+    let _at = input.position(); // for the proof: how long the haystack may be
     let utf8_empty = vm.utf8_empty();
     search::search_slots(vm.program(), cache, input, utf8_empty, earliest, slots)
 }
