@@ -38,9 +38,13 @@ fn leaf_behind(alloc: Global, leaf: &Leaf, at: usize) -> Result<Rc<Node>, AllocE
     Ok(node)
 }
 
-/// Returns the text before a byte index, which must be a character boundary. The tree is unchanged,
-/// and shares with the half what both have. Enters at most as many nodes as the tree is high; at an
-/// end of the text none, without allocating.
+/// Returns the text before a byte index. The tree is unchanged, and shares with the half what both
+/// have. Enters at most as many nodes as the tree is high; at an end of the text none, without
+/// allocating.
+///
+/// # Requires
+///
+/// The index is a character boundary.
 pub fn split_front(
     alloc: Global,
     node: &Rc<Node>,

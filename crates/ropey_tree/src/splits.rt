@@ -105,10 +105,13 @@ pub fn concat(
     }
 }
 
-/// Returns the texts before and after a byte index, which must be a character boundary. Between CR
-/// and LF the halves have one break more than the whole. The tree is unchanged, and shares with the
-/// halves what they have in common. Enters as many nodes as the tree is high, also if there is no
-/// memory then.
+/// Returns the texts before and after a byte index. Between CR and LF the halves have one break
+/// more than the whole. The tree is unchanged, and shares with the halves what they have in common.
+/// Enters as many nodes as the tree is high, also if there is no memory then.
+///
+/// # Requires
+///
+/// The index is a character boundary.
 pub fn split(
     alloc: Global,
     node: &Rc<Node>,

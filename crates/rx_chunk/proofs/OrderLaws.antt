@@ -1,4 +1,4 @@
--- The lists of matches of engines: there is one, in order, and an iterator gives its matches in order.
+-- The lists of matches of engines: there is one, and an iterator gives its matches in order.
 use Rattle.std.proofs.Common.{◌≡◌, ℕ, ◌≤◌, true, false, List, [], ◌∷◌, ◌++◌, map, length, Option, Some, None, Result, Ok, Err, append_assoc, refl, sym, ap, ap₂, subst, ◌∙◌, arith}
 use Rattle.std.specs.List.{last_or}
 use Rattle.std.specs.Iterator.{Yields}

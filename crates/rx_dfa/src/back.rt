@@ -350,9 +350,13 @@ pub(crate) fn search_back<T: Table, C: Cursor>(
 
 /// Searches backward with the automaton of a reverse program. Of the matches that end at the end of
 /// the span, or of the haystack if that is less, and are inside span and slice, returns the least
-/// start with the least pattern for it, as the forward program finds them. The cache must be one of
-/// `Cache::new_back` for this program and alphabet, and remains one after an error. `utf8_empty`
-/// skips an empty match inside a character.
+/// start with the least pattern for it, as the forward program finds them. `utf8_empty` skips an
+/// empty match inside a character.
+///
+/// # Requires
+///
+/// The cache is one of `Cache::new_back` for this program and alphabet. It remains one, also after
+/// an error.
 ///
 /// # Errors
 ///

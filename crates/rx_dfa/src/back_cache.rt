@@ -116,11 +116,14 @@ impl BackCache {
 
 /// Searches backward with a reverse program. Of the matches that end at the end of the span, or of
 /// the haystack if that is less, and are inside span and slice, returns the least start with the
-/// least pattern for it, as the forward program finds them. The cache must be one for this program
-/// and alphabet, and remains one after an error. `utf8_empty` skips an empty match inside a
-/// character.
+/// least pattern for it, as the forward program finds them. `utf8_empty` skips an empty match
+/// inside a character.
 ///
 /// It uses the automaton, and follows threads if that quits or gives up.
+///
+/// # Requires
+///
+/// The cache is for this program and alphabet, for which it remains one, also after an error.
 ///
 /// # Errors
 ///

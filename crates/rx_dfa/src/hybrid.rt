@@ -286,12 +286,15 @@ impl Cache {
     }
 }
 
-/// Searches forward: returns the pattern and the end of the match that is found. The cache must be
-/// one for the engine, and remains one after an error: it has at most two states, or as many as the
-/// capacity has room for.
+/// Searches forward: returns the pattern and the end of the match that is found.
 ///
 /// Errors and complexity are those of the crate's `try_search_fwd` (`dfa`: the program contains
 /// `\b` or `\B` if a byte makes it quit).
+///
+/// # Requires
+///
+/// The cache is for this engine, for which it remains one, also after an error: it has at most two
+/// states, or as many as the capacity has room for.
 pub fn try_search_fwd<C: Cursor>(
     re: &Regex,
     cache: &mut Cache,
@@ -313,8 +316,11 @@ pub fn try_search_fwd<C: Cursor>(
 
 /// Searches backward on an anchored input. Of the matches that end at the end of the span, or of
 /// the haystack if that is less, and are inside span and slice, returns the least start with the
-/// least pattern for it; with `Anchored::Pattern`, only matches of that pattern count. The cache
-/// must be one for the engine, and remains one after an error.
+/// least pattern for it; with `Anchored::Pattern`, only matches of that pattern count.
+///
+/// # Requires
+///
+/// The cache is for this engine, for which it remains one, also after an error.
 ///
 /// # Errors
 ///

@@ -376,8 +376,11 @@ pub(crate) fn search<T: Table, C: Cursor>(
 }
 
 /// Searches forward with the automaton of a program: returns the pattern and the end of the match
-/// that the program finds. The cache must be one for this program and alphabet, and remains one
-/// after an error.
+/// that the program finds.
+///
+/// # Requires
+///
+/// The cache is for this program and alphabet, for which it remains one, also after an error.
 ///
 /// # Errors
 ///

@@ -45,8 +45,8 @@ pub record StaysInside {F A : Type 0} (tells : Finder F A) (end : A → ℕ) : T
   pub inside : (p q : F) (i j : InputState) (a : A) → tells p q i (Ok (Some a)) j
       → EndsInside i (end a)
 
--- the next result: what the finder returns, or, if that is a match to skip, what it returns with the
--- span starting one byte later
+-- the next result: what the finder returns, or, if that is a match to skip, what it returns with
+-- the span starting one byte later
 pub data TellsNext {F A : Type 0} (tells : Finder F A) (passes : A → Type 0) (p q : F)
     (i : InputState) (r : Result (Option A) MatchError) (j : InputState) : Type 0 where
   at_once : tells p q i r j → ((a : A) → r ≡ Ok (Some a) → passes a → ⊥)

@@ -56,8 +56,11 @@ fn search_back<C: Cursor>(
 
 /// Searches forward for the end of the match that is found, and from there backward for its start,
 /// and returns that match. It ends in the span. An anchored input, or an empty match at the span's
-/// start, needs no backward search. The cache must be one for the engine, and remains one after an
-/// error.
+/// start, needs no backward search.
+///
+/// # Requires
+///
+/// The cache is for this engine, for which it remains one, also after an error.
 ///
 /// # Errors
 ///
@@ -153,8 +156,11 @@ fn find_next<C: Cursor>(
 }
 
 /// Returns an iterator over the matches in an input. An empty match at the end of the one before is
-/// skipped; after an error, which is one of `try_search`, it ends. The cache must be one for the
-/// engine, and can be used again once the iterator is dropped.
+/// skipped; after an error, which is one of `try_search`, it ends.
+///
+/// # Requires
+///
+/// The cache is for this engine. It can be used again once the iterator is dropped.
 pub fn find_iter<'r, 'c, C: Cursor>(
     re: &'r Regex,
     cache: &'c mut Cache,

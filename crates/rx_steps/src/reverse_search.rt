@@ -284,8 +284,12 @@ pub fn told_back(best: Option<HalfMatch>, end: usize, may_be_empty: bool) -> Opt
 
 /// Searches backward with a reverse program. Of the matches that end at the end of the span, or of
 /// the haystack if that is less, and are inside span and slice, returns the least start with the
-/// least pattern for it, as the forward program finds them. The cache must be one for the program,
-/// and remains one after an error. `utf8_empty` skips an empty match inside a character.
+/// least pattern for it, as the forward program finds them. `utf8_empty` skips an empty match
+/// inside a character.
+///
+/// # Requires
+///
+/// The cache is for this program, for which it remains one, also after an error.
 ///
 /// # Errors
 ///

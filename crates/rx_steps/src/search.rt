@@ -460,10 +460,14 @@ pub fn clear_slots(slots: &mut [Option<NonMaxUsize>])
 
 /// Searches: returns the pattern of the match that the program finds, and writes its offsets into
 /// the slots, as many as there are; the others are cleared. `utf8_empty` skips empty matches inside
-/// a character. The cache must be one for the program, and remains one after an error.
+/// a character.
 ///
 /// With `earliest` it stops at the first match end, if there is a match, and returns what it found
 /// up to that offset. Without, it stops when no thread is left.
+///
+/// # Requires
+///
+/// The cache is for this program, for which it remains one, also after an error.
 ///
 /// # Errors
 ///
@@ -516,11 +520,14 @@ pub fn search_slots<C: Cursor>(
 }
 
 /// Searches among all matches: returns the one with the greatest end, then the least start, then
-/// the least pattern. `utf8_empty` skips empty matches inside a character. The cache must be one
-/// for the program, and remains one after an error.
+/// the least pattern. `utf8_empty` skips empty matches inside a character.
 ///
 /// With `earliest` it stops at the first match end, if there is a match, and returns what it found
 /// up to that offset. Without, an unanchored search reads its whole span.
+///
+/// # Requires
+///
+/// The cache is for this program, for which it remains one, also after an error.
 ///
 /// # Errors
 ///
