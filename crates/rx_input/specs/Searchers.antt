@@ -7,7 +7,8 @@ use Rattle.rx_util.specs.declared.search.MatchError.{MatchError}
 use Rattle.rx_util.specs.Search.{Found, HalfFound}
 use Rattle.rx_input.specs.Inputs.{InputState, HasSpan}
 
--- an input, and the end of the last match, if there was one; the span starts there
+-- an input, and the end of the last match, if there was one; the span starts there, unless it was
+-- moved since
 pub record SearcherState : Type 0 where
   pub input : InputState
   pub last_match_end : Option ℕ
@@ -117,8 +118,8 @@ module _ {F I : Type 0}
     pub inside : StaysInside (finder_of calls state) end_of_half
 
   -- the next half match, with the finder after it: like the next match, but the first one is
-  -- skipped if it ends at the end of the last one. Its start isn't known; it is empty then, unless
-  -- the span was moved to start before that end.
+  -- skipped if it ends at the end of the last one, because its start isn't known. The one found
+  -- with the span starting one byte later isn't skipped, wherever it ends.
   abbrev pub GivesHalfMatchBy : F → F → SearcherState → Result (Option HalfFound) MatchError
       → SearcherState → Type 0
   GivesHalfMatchBy finder left old r new =

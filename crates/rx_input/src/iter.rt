@@ -144,8 +144,9 @@ impl<I: Searched> Searcher<I> {
     /// same requirements and errors.
     ///
     /// A half match has no start, so the first one is skipped if it ends at the end of the last
-    /// one. It is empty then, unless the caller has moved the span's start back. What the finder
-    /// returns with the span starting one byte later isn't skipped.
+    /// one. It is empty then, unless the span's start was moved back through
+    /// [`input`](Self::input). The one found with the span starting one byte later isn't skipped,
+    /// wherever it ends.
     pub fn try_advance_half<F>(&mut self, mut finder: F) -> Result<Option<HalfMatch>, MatchError>
     where
         F: FnMut(&mut I) -> Result<Option<HalfMatch>, MatchError>,
