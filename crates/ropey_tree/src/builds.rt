@@ -53,6 +53,14 @@ fn level(alloc: Global, height: usize, nodes: &[Rc<Node>]) -> Result<Vec<Rc<Node
 
 /// Builds a tree over leaves. Its nodes have `NEW_CHILDREN` children, except for the last two of
 /// each level.
+///
+/// # Requires
+///
+/// There is at least one node, all are leaves, and their texts are those of a rope.
+///
+/// # Errors
+///
+/// Out of memory.
 pub fn build(alloc: Global, leaves: Vec<Rc<Node>>) -> Result<Rc<Node>, AllocError>
     requires some { 1 ≤ vec_len leaves }
     requires leaves { AreNodes 0 12 (views leaves.items) }

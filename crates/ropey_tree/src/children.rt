@@ -75,6 +75,10 @@ impl Children {
     }
 
     /// Returns the node at an index.
+    ///
+    /// # Requires
+    ///
+    /// `k < len()`.
     #[inline]
     pub fn get(&self, k: usize) -> &Rc<Node>
         requires { k < length self.now }
@@ -93,6 +97,10 @@ impl Children {
     }
 
     /// Returns the counts of the node at an index.
+    ///
+    /// # Requires
+    ///
+    /// `k < len()`.
     #[inline]
     pub fn count(&self, k: usize) -> Counts
         requires { k < length self.now }
@@ -152,6 +160,10 @@ impl Children {
     }
 
     /// Chooses the child to enter: the first whose end is past `i` in a measure, or else the last.
+    ///
+    /// # Requires
+    ///
+    /// There is a child.
     #[inline]
     pub fn choose(&self, by: By, i: usize, visits: &mut Visits) -> Choice
         requires { 0 < length self.now }

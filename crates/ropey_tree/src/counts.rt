@@ -61,6 +61,10 @@ impl Counts {
     }
 
     /// Returns the sums, measure by measure.
+    ///
+    /// # Requires
+    ///
+    /// Each sum is less than 2^64.
     #[inline]
     pub fn plus(self, other: Self) -> Self
         requires bytes { self.bytes + other.bytes < 2 ^ 64 }

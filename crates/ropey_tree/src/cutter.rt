@@ -221,6 +221,10 @@ fn leaf_node(alloc: Global, text: LeafBuffer) -> Result<Rc<Node>, AllocError>
 }
 
 /// Returns the leaves of a text, each but the last with room for less than a character.
+///
+/// # Errors
+///
+/// Out of memory.
 pub fn leaves_of(alloc: Global, text: &str) -> Result<Vec<Rc<Node>>, AllocError>
     ensures leaves { IfOk result (λ leaves. AreNodes 0 12 (views leaves.items)) }
     ensures text { IfOk result (λ leaves. concat (all_pieces (views leaves.items)) ≡

@@ -378,6 +378,14 @@ fn replaced(
 /// leaf, if the leaf would have fewer than `least` bytes and isn't the last one, if it would have
 /// no text or more than 1,960 bytes, or if a CR LF might then span one of its ends.
 ///
+/// # Requires
+///
+/// `from <= to` and `least >= 1`, and the two texts together have fewer than 2^63 bytes.
+///
+/// # Errors
+///
+/// Out of memory.
+///
 /// # Complexity
 ///
 /// Makes one node for each level, 19 at most, if one leaf replaces it; if two do, at most two for

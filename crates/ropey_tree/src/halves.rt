@@ -45,6 +45,10 @@ fn leaf_behind(alloc: Global, leaf: &Leaf, at: usize) -> Result<Rc<Node>, AllocE
 /// # Requires
 ///
 /// The index is a character boundary.
+///
+/// # Errors
+///
+/// Out of memory.
 pub fn split_front(
     alloc: Global,
     node: &Rc<Node>,
@@ -82,7 +86,8 @@ pub fn split_front(
     }
 }
 
-/// Returns the text after a byte index, as `split_front` returns the one before it.
+/// Returns the text after a byte index, as `split_front` returns the one before it, with the same
+/// requirement and errors.
 pub fn split_back(
     alloc: Global,
     node: &Rc<Node>,

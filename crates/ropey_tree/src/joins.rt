@@ -45,6 +45,14 @@ fn beside(alloc: Global, left: &Rc<Node>, right: &Rc<Node>) -> Result<Joined, Al
 
 /// Joins two nodes: returns one node or two of the greater height, whose leaf texts are theirs in
 /// order. Copies the path down the side of the higher one, and shares all else.
+///
+/// # Requires
+///
+/// The leaf texts of both, in order, are those of a rope.
+///
+/// # Errors
+///
+/// Out of memory.
 pub fn join(alloc: Global, left: &Rc<Node>, right: &Rc<Node>) -> Result<Joined, AllocError>
     requires { IsRopeText (left.now.value.pieces ++ right.now.value.pieces) }
     ensures { IfOk result (λ joined. AreJoined left.now.value right.now.value (nodes_of joined)) }
@@ -73,6 +81,14 @@ pub fn join(alloc: Global, left: &Rc<Node>, right: &Rc<Node>) -> Result<Joined, 
 }
 
 /// Returns one tree of the leaf texts of two, in order. Both are unchanged.
+///
+/// # Requires
+///
+/// The leaf texts of both, in order, are those of a rope.
+///
+/// # Errors
+///
+/// Out of memory.
 pub fn concat(alloc: Global, left: &Rc<Node>, right: &Rc<Node>) -> Result<Rc<Node>, AllocError>
     requires { IsRopeText (left.now.value.pieces ++ right.now.value.pieces) }
     ensures { IfOk result (λ node. node.value.pieces ≡ left.now.value.pieces ++

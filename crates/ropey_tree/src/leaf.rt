@@ -34,6 +34,14 @@ impl Model for Leaf {
 
 impl Leaf {
     /// Returns a leaf with a copy of a text.
+    ///
+    /// # Requires
+    ///
+    /// The text has 1 to 984 bytes.
+    ///
+    /// # Errors
+    ///
+    /// Out of memory.
     pub fn new(alloc: Global, text: &str) -> Result<Self, AllocError>
         requires not_empty { 1 ≤ length text.now }
         requires not_long { length text.now ≤ 984 }
@@ -149,6 +157,14 @@ impl LeafBuffer {
     }
 
     /// Returns the leaf with the text.
+    ///
+    /// # Requires
+    ///
+    /// The text isn't empty.
+    ///
+    /// # Errors
+    ///
+    /// Out of memory.
     pub fn into_leaf(self, alloc: Global) -> Result<Leaf, AllocError>
         requires { 1 ≤ byte_len self }
         ensures text { IfOk result (λ leaf. leaf ≡ self) }

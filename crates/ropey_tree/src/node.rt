@@ -139,6 +139,10 @@ pub struct Entered<'a> {
 
 /// Enters the child that contains position `i` of a measure: the first whose end is past `i`, or
 /// else the last.
+///
+/// # Requires
+///
+/// The node isn't a leaf.
 #[inline]
 pub fn enter<'a>(node: &'a Node, by: By, i: usize, visits: &mut Visits) -> Entered<'a>
     requires { 0 < node.now.height }
@@ -287,6 +291,10 @@ fn way_near<'a>(node: &'a Node, near: Option<OnTheWay<'a>>, by: By, i: usize) ->
 
 /// `leaf_at` for callers that go from leaf to leaf: it remembers the node above the leaf, and
 /// searches from there if that contains the next position.
+///
+/// # Requires
+///
+/// The node remembered is one of this tree.
 pub fn leaf_near<'a>(node: &'a Node, near: &mut Option<OnTheWay<'a>>, by: By, i: usize) -> Found<'a>
     requires { IfSome near.old (λ way. StandsIn node.now.pieces way.node.now.pieces way.before) }
     ensures near { IfSome near.new (λ way.

@@ -101,6 +101,10 @@ impl Seam {
 /// first text meets an LF that starts the second, both go into one leaf. The new tree shares with
 /// the old ones what they have in common.
 ///
+/// # Requires
+///
+/// Both texts together have fewer than 2^63 bytes.
+///
 /// # Errors
 ///
 /// Out of memory.

@@ -86,7 +86,7 @@ pub(crate) fn tree_over(
     Ok(Some(node))
 }
 
-/// `joins::concat` for sides that may be empty.
+/// `joins::concat` for sides that may be empty, with the same requirement and errors.
 pub fn concat(
     alloc: Global,
     left: Option<Rc<Node>>,
@@ -112,6 +112,10 @@ pub fn concat(
 /// # Requires
 ///
 /// The index is a character boundary.
+///
+/// # Errors
+///
+/// Out of memory.
 pub fn split(
     alloc: Global,
     node: &Rc<Node>,
@@ -146,7 +150,8 @@ pub fn split(
     }
 }
 
-/// `split` without a count of visits. At an end of the text nothing is split or allocated.
+/// `split` without a count of visits, with the same requirement and errors. At an end of the text
+/// nothing is split or allocated.
 pub fn halves_at(alloc: Global, node: &Rc<Node>, at: usize) -> Result<Halves, AllocError>
     requires { IsBoundaryOf (concat node.now.value.pieces) at }
     ensures { IfOk result (λ halves. IsSplit node.now.value.pieces at (pieces_in halves.left)

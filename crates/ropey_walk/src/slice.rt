@@ -129,6 +129,10 @@ impl<'a> RopeSlice<'a> {
     }
 
     /// `new` with known counts, which aren't looked up then. `O(1)`.
+    ///
+    /// # Requires
+    ///
+    /// The leaf texts are those of a rope, and `len` has their counts.
     #[doc(hidden)]
     pub fn with_counts(node: Option<&'a Node>, len: Counts) -> Self
         requires cut { IsRopeText (pieces_under node) }

@@ -317,7 +317,8 @@ impl Model for Cache {
 }
 
 impl Cache {
-    /// Returns a cache for searches with an engine, as [`PikeVM::create_cache`] does.
+    /// Returns a cache for searches with an engine, as [`PikeVM::create_cache`] does. The only
+    /// error is `Memory`.
     pub fn new(alloc: Global, vm: &PikeVM) -> Result<Cache, MatchError>
         ensures made { IfOk result (λ cache. IsCacheOf vm.now.program cache) }
         ensures refused { IfErr result (λ error. error ≡ MatchError.Memory) }

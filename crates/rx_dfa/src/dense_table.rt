@@ -81,6 +81,10 @@ impl DenseTable {
     /// Computes the states and steps of a program's automaton. Returns `None` if there are more
     /// states than `state_limit`, or if they take more than about `size_limit` bytes.
     ///
+    /// # Requires
+    ///
+    /// The alphabet is that of the program.
+    ///
     /// # Errors
     ///
     /// Out of memory.
@@ -107,7 +111,8 @@ impl DenseTable {
         DenseTable::of(alloc, &automaton, state_limit, size_limit)
     }
 
-    /// Computes the states and steps of a reverse program's automaton, as `new` does.
+    /// Computes the states and steps of a reverse program's automaton, as `new` does, with the same
+    /// requirement and errors.
     pub fn new_back(
         alloc: Global,
         reverse: &ReverseProgram,
@@ -173,6 +178,10 @@ impl DenseTable {
 
     /// Searches forward: returns the pattern and the end of the match that the program finds.
     ///
+    /// # Requires
+    ///
+    /// The alphabet is that of the program, and this is the table for both.
+    ///
     /// # Errors
     ///
     /// `Quit` for a byte of the slice that is 128 or more, if the program has word assertions.
@@ -207,6 +216,10 @@ impl DenseTable {
     /// of the haystack if that is less, and are inside span and slice, returns the least start with
     /// the least pattern for it, as the forward program finds them. `utf8_empty` skips an empty
     /// match inside a character.
+    ///
+    /// # Requires
+    ///
+    /// The alphabet is that of the reverse program, and this is the table for both.
     ///
     /// # Errors
     ///

@@ -137,8 +137,8 @@ impl Regex {
         Regex::with_capacity(alloc, patterns, CACHE_CAPACITY)
     }
 
-    /// Builds the engine of patterns, as `new_many` does, with caches whose states may take about
-    /// `capacity` bytes. There is always room for two states.
+    /// Builds the engine of patterns, as `new_many` does and with the same errors, with caches
+    /// whose states may take about `capacity` bytes. There is always room for two states.
     pub fn with_capacity(
         alloc: Global,
         patterns: &[&str],

@@ -92,7 +92,8 @@ impl<I: Searched> Searcher<I> {
         &mut self.input
     }
 
-    /// Returns the next match. The same as [`try_advance`](Self::try_advance).
+    /// Returns the next match. The same as [`try_advance`](Self::try_advance), with the same
+    /// requirements and errors.
     pub fn advance<F>(&mut self, finder: F) -> Result<Option<Match>, MatchError>
     where
         F: FnMut(&mut I) -> Result<Option<Match>, MatchError>,

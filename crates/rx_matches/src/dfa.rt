@@ -84,7 +84,7 @@ pub fn try_search<C: Cursor>(re: &Regex, input: &mut Input<C>) -> Result<Option<
     Ok(Some(whole(half, back.offset())))
 }
 
-/// Returns the match that is found, as `try_search` does.
+/// Returns the match that is found, as `try_search` does, with the same errors.
 pub fn find<C: Cursor>(re: &Regex, input: &mut Input<C>) -> Result<Option<Match>, MatchError>
     ensures answer { IfOk result (IsFound (Finds re.now.engine.program)
         (search_of re.now.engine.utf8_empty input.old)) }

@@ -25,6 +25,10 @@ pub fn starts_first<C: Cursor>(input: &Input<C>, end: usize) -> bool
 
 /// Sets an input that isn't anchored to the backward search from the end of a match, and returns
 /// the end of its span.
+///
+/// # Requires
+///
+/// The span starts at or before `end + 1`.
 pub fn turn_back<C: Cursor>(input: &mut Input<C>, end: usize) -> usize
     requires span { input.old.asked.span.start ≤ end + 1 }
     ensures turned { IsTurnedBack input.old input.new end }
@@ -37,6 +41,10 @@ pub fn turn_back<C: Cursor>(input: &mut Input<C>, end: usize) -> usize
 }
 
 /// Sets an input to the forward search again, with this end of its span.
+///
+/// # Requires
+///
+/// The span starts at or before `last + 1`.
 pub fn turn_forward<C: Cursor>(input: &mut Input<C>, last: usize)
     requires span { input.old.asked.span.start ≤ last + 1 }
     ensures asked { input.new.asked ≡ record input.old.asked {
@@ -50,6 +58,10 @@ pub fn turn_forward<C: Cursor>(input: &mut Input<C>, last: usize)
 }
 
 /// Returns the match with this half and this start.
+///
+/// # Requires
+///
+/// The start isn't past the half match's offset.
 pub fn whole(half: HalfMatch, start: usize) -> Match
     requires { start ≤ half.offset }
     ensures { result ≡ whole_of half start }

@@ -102,7 +102,7 @@ pub fn try_search<C: Cursor>(
     Ok(Some(whole(half, back.offset())))
 }
 
-/// Returns the match that is found, as `try_search` does, with the same requirement.
+/// Returns the match that is found, as `try_search` does, with the same requirement and errors.
 pub fn find<C: Cursor>(
     re: &Regex,
     cache: &mut Cache,

@@ -235,6 +235,10 @@ impl Stepper {
     /// one. A match that starts here stops no thread; returns the least pattern of those that start
     /// here. No slots are written.
     ///
+    /// # Requires
+    ///
+    /// This is for the program, and the threads are at nodes of it.
+    ///
     /// # Errors
     ///
     /// `Memory`; the contents of `next` are unspecified then.

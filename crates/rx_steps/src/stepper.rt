@@ -356,6 +356,10 @@ impl Stepper {
     /// returns its slots. The offset is written into the slots that the program names, if the
     /// threads have these.
     ///
+    /// # Requires
+    ///
+    /// This is for the program, and the threads are at nodes of it.
+    ///
     /// # Errors
     ///
     /// `Memory`; the contents of `next` are unspecified then.
@@ -397,6 +401,10 @@ impl Stepper {
     /// the offset at which it started, also past match ends. Returns the best match end: that with
     /// the least start, then the least pattern. If several threads reach a node, the first in the
     /// list keeps it. No slots are written.
+    ///
+    /// # Requires
+    ///
+    /// This is for the program, and the threads are at nodes of it.
     ///
     /// # Errors
     ///

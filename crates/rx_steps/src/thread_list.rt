@@ -91,6 +91,10 @@ impl ThreadList {
     }
 
     /// Returns a copy.
+    ///
+    /// # Errors
+    ///
+    /// Out of memory.
     pub fn clone(&self) -> Result<ThreadList, AllocError>
         ensures { IfOk result (λ threads. threads ≡ self.now) }
     {
@@ -143,6 +147,10 @@ impl ThreadList {
     }
 
     /// Returns the node of the thread at this index.
+    ///
+    /// # Requires
+    ///
+    /// There is that thread.
     #[inline(always)]
     pub fn node(&self, index: usize) -> Node
         requires { index < length self.now.threads }
@@ -152,6 +160,10 @@ impl ThreadList {
     }
 
     /// Returns the slots of the thread at this index.
+    ///
+    /// # Requires
+    ///
+    /// There is that thread.
     #[inline(always)]
     pub fn slots(&self, index: usize) -> &[Option<NonMaxUsize>]
         requires { index < length self.now.threads }
@@ -162,7 +174,15 @@ impl ThreadList {
         part(&self.slots, self.slot_len, index)
     }
 
-    /// Adds a thread after the others. After an error there is no thread.
+    /// Adds a thread after the others.
+    ///
+    /// # Requires
+    ///
+    /// There are `slot_len()` slots.
+    ///
+    /// # Errors
+    ///
+    /// Out of memory; there is no thread then.
     #[inline(always)]
     pub fn push(&mut self, node: Node, slots: &[Option<NonMaxUsize>]) -> Result<(), AllocError>
         requires slots { length slots.now ≡ self.old.slot_len }

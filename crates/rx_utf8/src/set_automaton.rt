@@ -77,6 +77,10 @@ impl Model for SetAutomaton {
 
 impl SetAutomaton {
     /// Builds the automaton of a set.
+    ///
+    /// # Errors
+    ///
+    /// Out of memory.
     pub fn new(alloc: Global, set: Rc<CharacterSet>) -> Result<SetAutomaton, AllocError>
         ensures { IfOk result (λ automaton. automaton.ranges ≡ set.value) }
     {
@@ -87,6 +91,10 @@ impl SetAutomaton {
     /// Builds the reverse automaton of the set. Takes time proportional to this automaton's ranges,
     /// and for each of its own states, of which there are some four thousand at most, to the ranges
     /// that lead into its level.
+    ///
+    /// # Errors
+    ///
+    /// Out of memory.
     pub fn reversed(&self, alloc: Global) -> Result<ReverseAutomaton, AllocError>
         ensures { IfOk result (λ automaton. automaton.ranges ≡ self.now.ranges) }
     {
