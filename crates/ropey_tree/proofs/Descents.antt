@@ -1,4 +1,4 @@
--- Ways down a tree: the part of a text in which a place lies.
+-- Paths down a tree: the part of a text that contains a position.
 use Rattle.std.proofs.Common.{◌≡◌, ℕ, ◌+◌, ◌-◌, ◌^◌, ◌<◌, ◌≤◌, ◌⊎◌, ◌==◌, true, inl, inr, List, [], ◌++◌, length, get_or, take, drop, refl, ap, arith, sym, ◌∙◌, append_assoc}
 use Rattle.std.proofs.lemmas.Bool.Decides.{nat_tests}
 use Rattle.std.proofs.lemmas.List.{append-nil}
@@ -31,7 +31,7 @@ child_lies vs k v by i before within is stands_before not_past passed =
       ];
     }
 
--- nothing stands before the whole
+-- the whole
 pub whole_lies : (ps : List (List ℕ)) (by : By) (i : ℕ) → LiesIn ps ps by i zero_counts
 whole_lies ps by i = record {
   left = [];
@@ -74,7 +74,7 @@ deeper whole part inner by i before within outer h =
       passed = deeper_passed whole part inner by i before within outer h;
     }
 
--- what stands before a part, and the next step, fit
+-- the counts before a part and those of the next step can be added
 pub record Fits (before within : Counts) : Type 0 where
   pub bytes : before.bytes + within.bytes < 2 ^ 64
   pub chars : before.chars + within.chars < 2 ^ 64
@@ -99,7 +99,7 @@ lies_fits whole inner by i before within fits h =
       breaks = omega (arith, l, below.breaks);
     }
 
--- a part in hand, and a place that lies there
+-- a part in hand that contains a position
 pub stands_lies : (whole part : List (List ℕ)) (by : By) (i : ℕ) (before : Counts) → StandsIn whole part before → amount by before ≤ i → i < amount by before + amount by (total part)
     → LiesIn whole part by i before
 stands_lies whole part by i before h low high = record {
@@ -114,7 +114,7 @@ stands_lies whole part by i before h low high = record {
 pub lies_stands : (whole part : List (List ℕ)) (by : By) (i : ℕ) (before : Counts) → LiesIn whole part by i before → StandsIn whole part before
 lies_stands whole part by i before h = record { left = h.left; right = h.right; parts = h.parts; stands_before = h.stands_before }
 
--- what is known of a part by its counts
+-- what the counts of a part determine
 pub known_bytes : (len : Counts) (ps : List (List ℕ)) → (len.chars == len.bytes) ≡ true → len ≡ total ps → (total ps).chars ≡ (total ps).bytes
 known_bytes len ps e is =
     let same : len.chars ≡ len.bytes = grind (arith, nat_tests) in

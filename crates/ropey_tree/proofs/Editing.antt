@@ -37,14 +37,14 @@ use Rattle.ropey_tree.proofs.Joining.{nodes-weaker}
 pub not_both : (b : Bool) → b ≡ true → b ≡ false → ⊥
 not_both b h g = true≢false (sym h ∙ g)
 
--- ---- another piece in the place of one
+-- ---- another leaf text in place of one
 cutting-other : (ls : List (List ℕ)) (p q : List ℕ) (rs : List (List ℕ)) → IsCutting (ls ++ p ∷ rs) → IsPiece q → starts_with_lf q ≡ starts_with_lf p → ends_with_cr q ≡ ends_with_cr p → IsCutting (ls ++ q ∷ rs)
 cutting-other [] p q [] h piece starts ends = piece
 cutting-other [] p q (r ∷ rs) h piece starts ends = (piece, ap (λ b. b && starts_with_lf r) ends ∙ h.1, h.2)
 cutting-other (l ∷ []) p q rs h piece starts ends = (h.0, ap (λ b. ends_with_cr l && b) starts ∙ h.1, cutting-other [] p q rs h.2 piece starts ends)
 cutting-other (l ∷ m ∷ ls) p q rs h piece starts ends = (h.0, h.1, cutting-other (m ∷ ls) p q rs h.2 piece starts ends)
 
--- two pieces in the place of one
+-- two leaf texts in place of one
 cutting-two : (ls : List (List ℕ)) (p a b : List ℕ) (rs : List (List ℕ)) → IsCutting (ls ++ p ∷ rs) → IsPiece a → IsPiece b → cuts_cr_lf a b ≡ false → starts_with_lf a ≡ starts_with_lf p → ends_with_cr b ≡ ends_with_cr p
     → IsCutting (ls ++ a ∷ b ∷ rs)
 cutting-two [] p a b [] h first second whole starts ends = (first, whole, second)
@@ -52,7 +52,7 @@ cutting-two [] p a b (r ∷ rs) h first second whole starts ends = (first, whole
 cutting-two (l ∷ []) p a b rs h first second whole starts ends = (h.0, ap (λ c. ends_with_cr l && c) starts ∙ h.1, cutting-two [] p a b rs h.2 first second whole starts ends)
 cutting-two (l ∷ m ∷ ls) p a b rs h first second whole starts ends = (h.0, h.1, cutting-two (m ∷ ls) p a b rs h.2 first second whole starts ends)
 
--- the pieces that may stand for it
+-- the leaf texts that may replace it
 cutting-leaves : (ls : List (List ℕ)) (p : List ℕ) (leaves rs : List (List ℕ)) → IsCutting (ls ++ p ∷ rs) → MayStandFor p leaves → IsCutting (ls ++ (leaves ++ rs))
 cutting-leaves ls p [] rs h may = elim may.number [
   | inl one ↦ absurd (omega (arith, one))
@@ -74,7 +74,7 @@ total-leaves ls leaves rs = omega (arith, bytes-append ls (leaves ++ rs), bytes-
 total-mid : (ls : List (List ℕ)) (p : List ℕ) (rs : List (List ℕ)) → (total (ls ++ p ∷ rs)).bytes ≡ (total ls).bytes + byte_len p + (total rs).bytes
 total-mid ls p rs = omega (arith, bytes-append ls (p ∷ rs), sum_by-cons byte_len p rs)
 
--- ---- a text in the place of a part of another
+-- ---- a text in place of a part of another
 module _ (old : List ℕ) (from to : ℕ) (text new : List ℕ) (h : IsReplaced old from to text new) where
   pub gone_bytes : to ≡ from + byte_len h.gone
   gone_bytes = omega (arith, h.starts, h.ends, byte_len-append h.front h.gone)
@@ -96,12 +96,12 @@ module _ (old : List ℕ) (from to : ℕ) (text new : List ℕ) (h : IsReplaced 
   pub replaced_to : IsBoundaryOf old to
   replaced_to = record { front = h.front ++ h.gone; back = h.back; parts = h.old_is; place = h.ends }
 
--- at equal places
+-- at equal offsets
 replaced_at : (old : List ℕ) (from to start end : ℕ) (text new : List ℕ) → IsReplaced old from to text new → from ≡ start → to ≡ end → IsReplaced old start end text new
 replaced_at old from to start end text new h e g =
     record { front = h.front; gone = h.gone; back = h.back; old_is = h.old_is; new_is = h.new_is; starts = h.starts ∙ e; ends = h.ends ∙ g }
 
--- there is one text that it gives
+-- the resulting text is unique
 pub one_replaced : (old : List ℕ) (from to : ℕ) (text new other : List ℕ) → IsReplaced old from to text new → IsReplaced old from to text other → other ≡ new
 one_replaced old from to text new other h g =
     let fronts = same_front g.front (g.gone ++ g.back) h.front (h.gone ++ h.back)
@@ -109,7 +109,7 @@ one_replaced old from to text new other h g =
     let backs = same_front (g.front ++ g.gone) g.back (h.front ++ h.gone) h.back (sym g.old_is ∙ h.old_is) (g.ends ∙ sym h.ends) in
     g.new_is ∙ ap (λ t. t ++ text ++ g.back) fronts.0 ∙ ap (λ t. h.front ++ text ++ t) backs.1 ∙ sym h.new_is
 
--- ---- the bytes of a text cut at two places
+-- ---- the bytes of a text cut at two offsets
 pub front_bytes : (bytes : List ℕ) (at : ℕ) → IsUtf8 bytes → IsCharBoundary bytes at → byte_len (chars (take at bytes)) ≡ at
 front_bytes bytes at u boundary = ap length (encodes-chars (take at bytes) (IsUtf8-take bytes at u boundary)) ∙ length-take-le at bytes boundary.0
 
@@ -131,11 +131,11 @@ mid_bytes bytes mid from to u starts ends le mid_utf8 is =
     let len = ap length is ∙ length-take-le (to - from) (drop from bytes) (omega (arith, ends, length-drop from bytes)) in
     omega (arith, le, len, byte_len-append (chars (take from bytes)) (chars mid), front_bytes bytes from u starts, ap length (encodes-chars mid mid_utf8))
 
--- a text between two others that gave way to a text
+-- a text between two others that is replaced
 pub replaced_in : (old front gone back text : List ℕ) (from to : ℕ) → old ≡ front ++ gone ++ back → byte_len front ≡ from → byte_len (front ++ gone) ≡ to → IsReplaced old from to text (front ++ text ++ back)
 replaced_in old front gone back text from to is starts ends = record { front = front; gone = gone; back = back; old_is = is; new_is = refl; starts = starts; ends = ends }
 
--- ---- what a text between two others counts
+-- ---- the counts of a text between two others
 module _ (lines : LosesBreakInCrLf is_break) where
   pub seams_some : (front mid back : List ℕ) (cr lf : Bool) → ends_with_cr front ≡ cr → starts_with_lf back ≡ lf → 1 ≤ byte_len mid
       → breaks is_break (front ++ mid ++ back) + (cond (cr && starts_with_lf mid) 1 0 + cond (ends_with_cr mid && lf) 1 0) ≡ breaks is_break front + breaks is_break mid + breaks is_break back
@@ -155,7 +155,7 @@ module _ (lines : LosesBreakInCrLf is_break) where
       ap (λ t. breaks is_break t + cond (cr && lf) 1 0) whole ∙ ap (λ b. breaks is_break (front ++ back) + cond (b && lf) 1 0) (sym cr_is) ∙ ap (λ b. breaks is_break (front ++ back) + cond (ends_with_cr front && b) 1 0) (sym lf_is) ∙ lines front back in
       omega (arith, zero, joined)
 
--- a text of so few bytes counts no more in any measure
+-- a text of at most n bytes has at most n of every measure
 pub record CountsFew (text : List ℕ) (n : ℕ) : Type 0 where
   pub bytes : byte_len text ≤ n
   pub chars : length text ≤ n
@@ -173,7 +173,7 @@ counts-few text n few = record {
 pub bytes-few : (bytes : List ℕ) (n : ℕ) → IsUtf8 bytes → length bytes ≤ n → CountsFew (chars bytes) n
 bytes-few bytes n u few = counts-few (chars bytes) n (omega (arith, few, ap length (encodes-chars bytes u)))
 
--- three texts of which the bytes are few
+-- three texts of at most n bytes together
 pub three-few : (a b c : List ℕ) (n : ℕ) → IsUtf8 a → IsUtf8 b → IsUtf8 c → length a + length b + length c ≤ n → CountsFew (chars a ++ chars b ++ chars c) n
 three-few a b c n u v w few =
     counts-few (chars a ++ chars b ++ chars c) n
@@ -232,7 +232,7 @@ cut_twice (p ∷ a) b (q ∷ x) y e =
       | inr m ↦ inr (record { first = m.first; mid = m.mid; front = ap (λ r. r ∷ a) h.0 ∙ ap (λ r. q ∷ r) m.front; back = m.back })
     ]
 
--- the piece at a place lies in the part of the pieces in which the place lies
+-- the leaf text at an offset is in the part that contains the offset
 record IsInside (a c b left : List (List ℕ)) (piece : List ℕ) (right : List (List ℕ)) : Type 0 where
   mid : List (List ℕ)
   rest : List (List ℕ)
@@ -280,7 +280,7 @@ is_inside a c b at left piece right h some low passed =
           ]
     ]
 
--- ---- the pieces of a node, and those of a leaf
+-- ---- the leaf texts of a node, and that of a leaf
 pub edited_bytes : (v : NodeView) (from to : ℕ) (text : List ℕ) (pieces : List (List ℕ)) → AreEdited v from to text pieces → (total pieces).bytes ≤ (total v.pieces).bytes + byte_len text
 edited_bytes v from to text pieces h =
     omega (
@@ -313,7 +313,7 @@ leaf_edited v old from to text leaves pieces v_is is h stands = record {
 leaf_node : (leaf : List ℕ) → IsNodeOf 0 12 (leaf_view leaf)
 leaf_node leaf = record { level = refl; full = omega arith; many = omega arith }
 
--- a leaf in the place of a leaf
+-- a leaf in place of a leaf
 pub one_replaces : (v w : NodeView) (old new : List ℕ) (from to : ℕ) (text : List ℕ) (made : ℕ) → v ≡ leaf_view old → w ≡ leaf_view new → IsReplaced old from to text (concat (new ∷ [])) → MayStandFor old (new ∷ []) → made ≡ 1
     → IsReplacedBy v from to text made (w ∷ [])
 one_replaces v w old new from to text made v_is w_is h stands one = rw (v_is, w_is) (record {
@@ -343,7 +343,7 @@ two_replace v w u old front back from to text made v_is w_is u_is h stands two =
       counted = (λ one. absurd (omega (arith, one)), omega (arith, two));
     })
 
--- the nodes of what comes out of a leaf
+-- the nodes of the leaves that replace a leaf
 pub leaves_replace : (v : NodeView) (old : List ℕ) (leaves : Leaves) (nodes : List NodeView) (from to : ℕ) (text : List ℕ) (made : ℕ) → v ≡ leaf_view old → nodes ≡ map leaf_view (leaves_of leaves)
     → IsReplaced old from to text (concat (leaves_of leaves)) → MayStandFor old (leaves_of leaves) → made ≡ length (leaves_of leaves) → IsReplacedBy v from to text made nodes
 leaves_replace v old (OneLeaf leaf counts) nodes from to text made v_is is h may number = rw is (one_replaces v (leaf_view leaf) old leaf from to text made v_is refl h may number)
@@ -353,7 +353,7 @@ pub edited_len : (edited : Edited) → (1 ≤ length (edited_nodes edited)) × (
 edited_len (OneNode node counts) = (omega arith, omega arith)
 edited_len (TwoNodes first second) = (omega arith, omega arith)
 
--- an edit of a leaf is one of its piece
+-- an edit of a leaf is one of its text
 pub record IsOfPiece (old : List ℕ) (from to : ℕ) (text : List ℕ) (leaves : List (List ℕ)) : Type 0 where
   pub replaced : IsReplaced old from to text (concat leaves)
   pub may_stand : MayStandFor old leaves
@@ -371,7 +371,7 @@ of_piece v old from to text pieces v_is h =
     one_piece p [] q rs e = (refl, sym (heads p q [] rs e).0)
     one_piece p (l ∷ ls) q rs e = absurd (omega (arith, ap length e, length-append (l ∷ ls) (q ∷ rs)))
 
--- what is known of a child with the way to it
+-- the counts of a child that was entered
 pub child_counted : (vs : List NodeView) (k : ℕ) (c : NodeView) (len : Counts) → c ≡ get_or vs k c → ((d : NodeView) → len ≡ count_of (get_or vs k d)) → len ≡ total c.pieces
 child_counted vs k c len is counted = counted c ∙ ap count_of (sym is)
 
@@ -559,7 +559,7 @@ module _ (v : NodeView) (vs : List NodeView) (k : ℕ) (c : NodeView) (from to :
         one_degree packed n is same = rw is (All-cons (λ w. w.degree ≡ v.degree) (inner_view v.height row) [] same (All-nil (λ w. w.degree ≡ v.degree)))
 
 -- ---- a tree
--- the same pieces
+-- the same leaf texts
 at_pieces : (v : NodeView) (from to : ℕ) (text : List ℕ) (pieces others : List (List ℕ)) → AreEdited v from to text pieces → others ≡ pieces → AreEdited v from to text others
 at_pieces v from to text pieces others h is = record {
   left = h.left;

@@ -1,4 +1,4 @@
--- Where a leaf may end: the bytes on both sides of a place in UTF-8.
+-- Where a leaf may end: the bytes on both sides of an offset in UTF-8.
 use Rattle.std.proofs.Common.{◌≡◌, ℕ, suc, ◌+◌, ◌-◌, ◌<◌, ◌≤◌, Bool, true, false, ◌&&◌, List, [], ◌∷◌, ◌++◌, length, take, drop, get_or, refl, ap, arith, sym, ◌∙◌, length-append, length-drop}
 use Rattle.std.specs.Prelude.{encode_utf8_all}
 use Rattle.std.specs.Str.{chars, IsUtf8, IsCharBoundary}
@@ -65,7 +65,7 @@ unless_both true true h = absurd (h refl refl)
 unless_both true false h = refl
 unless_both false b h = refl
 
--- the next boundary is at most four bytes on
+-- the next boundary is at most four bytes further
 record HasNext (bytes : List ℕ) (end : ℕ) : Type 0 where
   place : ℕ
   later : end < place
@@ -83,7 +83,7 @@ next_end bytes (c ∷ cs) end u within e =
       boundary = IsCharBoundary-past_char bytes (encode_utf8_all cs) end c (omega (arith, within)) u (sym e);
     }
 
--- the last boundary up to a room: at most three bytes of it are left, and LF does not stand there if any is
+-- the last boundary up to `room`: at most three bytes of it are left, and none if LF follows
 module _ (bytes : List ℕ) (room end : ℕ) (u : IsUtf8 bytes) (long : room ≤ length bytes) (boundary : IsCharBoundary bytes end) (high : end ≤ room)
     (nearest : (i : ℕ) → end < i → i ≤ room → ¬ (IsCharBoundary bytes i)) where
   rest_utf8 : IsUtf8 (drop end bytes)

@@ -17,7 +17,7 @@ frog_pieces : total ((0x61 ∷ 0x1F438 ∷ []) ∷ (13 ∷ 10 ∷ []) ∷ []) �
 unfolding encode_utf8
 frog_pieces = refl
 
--- but not where the cut goes through CR LF: such a cut is no cutting
+-- but not if the cut is inside CR LF: such texts are no leaf texts
 cut_line : amount Breaks (total ((0x61 ∷ 13 ∷ []) ∷ (10 ∷ []) ∷ [])) ≡ 2
 cut_line = refl
 

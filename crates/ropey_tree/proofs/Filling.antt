@@ -1,4 +1,4 @@
--- A leaf that is being filled, and the leaves before it.
+-- A leaf under construction, and the leaves before it.
 use Rattle.std.proofs.Common.{◌≡◌, ℕ, ◌+◌, ◌-◌, ◌<◌, ◌≤◌, ◌⊎◌, inl, inr, true, false, ◌&&◌, List, [], ◌∷◌, ◌++◌, length, take, drop, refl, ap, arith, sym, ◌∙◌, append_assoc, length-append, length-take-le, take-append-drop, subst}
 use Rattle.std.specs.List.{concat}
 use Rattle.std.proofs.lemmas.List.{append-nil}
@@ -23,7 +23,7 @@ use Rattle.ropey_tree.proofs.Ends.{unless_both}
 some_bytes : (c : ℕ) (cs : List ℕ) → 1 ≤ byte_len (c ∷ cs)
 some_bytes c cs = omega (arith, length-le-encodes (c ∷ cs))
 
--- ---- a text that is filled up from the front of another
+-- ---- a text that is filled from the start of another
 
 -- a CR at its end leaves room
 abbrev pub IsOpen : List ℕ → Type 0
@@ -51,7 +51,7 @@ module _ (text t rest : List ℕ) (end room : ℕ) (h : IsOpen text) (space : by
     ]
   ]
 
-  -- where LF comes next, there is no room left
+  -- if LF follows, there is no room left
   pub no_cut : (starts_with_lf rest ≡ true → end ≡ room) → cuts_cr_lf (text ++ t) rest ≡ false
   no_cut lf = unless_both (ends_with_cr (text ++ t)) (starts_with_lf rest) (λ is_cr is_lf. both is_cr (lf is_lf) stays_open)
     where
@@ -68,7 +68,7 @@ before_more text t leaves h = record {
   whole = λ next. ap (λ s. cuts_cr_lf (concat (all_pieces leaves)) s) (append_assoc text t next) ∙ h.whole (t ++ next);
 }
 
--- one piece more
+-- one more leaf text
 add_piece : (ps : List (List ℕ)) (p : List ℕ) → IsCutting ps → IsPiece p → cuts_cr_lf (concat ps) p ≡ false → IsCutting (ps ++ p ∷ [])
 add_piece [] p h piece whole = piece
 add_piece (q ∷ []) p h piece whole = (h, ap (λ t. cuts_cr_lf t p) (sym (append-nil q)) ∙ whole, piece)
@@ -80,7 +80,7 @@ add_piece (q ∷ r ∷ ps) p h piece whole =
     rest_piece : (s : List ℕ) (qs : List (List ℕ)) → IsCutting (s ∷ qs) → 1 ≤ byte_len (concat (s ∷ qs))
     rest_piece s qs g = omega (arith, (first_piece s qs g).not_empty, byte_len-append s (concat qs))
 
--- ---- full pieces
+-- ---- full leaf texts
 pub all_full : (ps : List (List ℕ)) → All IsFull ps → AreFull ps
 all_full ps h = All-take IsFull (length ps - 1) ps h
 
@@ -114,7 +114,7 @@ module _ (leaves : List NodeView) (v : NodeView) (text : List ℕ) (is : v ≡ l
   pub leaf_full : AreFull (all_pieces (leaves ++ v ∷ []))
   leaf_full = rw leaf_pieces (last_of_full (all_pieces leaves) text h.full)
 
-  -- and the front of what comes after it is the next
+  -- and the start of the following text is next
   pub next_before : (t back : List ℕ) → IsFull text → 1 ≤ byte_len t → cuts_cr_lf text (t ++ back) ≡ false → IsCutBefore t (leaves ++ v ∷ [])
   next_before t back near some seam = record {
     nodes = leaf_nodes;
@@ -125,7 +125,7 @@ module _ (leaves : List NodeView) (v : NodeView) (text : List ℕ) (is : v ≡ l
         ∙ ap (λ b. ends_with_cr text && b) (starts-append t next some ∙ sym (starts-append t back some)) ∙ seam;
   }
 
--- ---- the loop over a text: its leaves, the leaf that is being filled, and what is left
+-- ---- the loop over a text: its leaves, the leaf under construction, and the text that is left
 pub record IsFilling (whole left : List ℕ) (text : List ℕ) (leaves : List NodeView) : Type 0 where
   pub before : IsCutBefore text leaves
   pub joined : concat (all_pieces leaves) ++ (text ++ left) ≡ whole
@@ -156,7 +156,7 @@ filling_next whole left text t back leaves v h is piece parts some seam near = r
 pub filling_last : (whole left text : List ℕ) (leaves : List NodeView) → IsFilling whole left text leaves → left ≡ [] → concat (all_pieces leaves) ++ text ≡ whole
 filling_last whole left text leaves h none = ap (λ s. concat (all_pieces leaves) ++ s) (sym (append-nil text) ∙ ap (λ s. text ++ s) (sym none)) ∙ h.joined
 
--- ---- the bytes of a text that is filled up
+-- ---- the bytes of a text that is filled
 pub record IsFilled (old text : List ℕ) (end : ℕ) : Type 0 where
   pub text_is : chars (old ++ take end text) ≡ chars old ++ chars (take end text)
   pub stays : (length (old ++ take end text) < 984) ⊎ (ends_with_cr (chars (old ++ take end text)) ≡ false)

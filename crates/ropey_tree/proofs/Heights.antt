@@ -1,4 +1,4 @@
--- How many pieces stand below a node of some height, and how high a node can be.
+-- The number of leaf texts below a node of some height, and the greatest height of a node.
 use Rattle.std.proofs.Common.{◌≡◌, ℕ, suc, ◌+◌, ◌*◌, ◌^◌, ◌≤◌, List, [], ◌∷◌, length, ap, arith, length-append, ◌∙◌}
 use Rattle.std.proofs.Math.Nat.{pow-suc, pow-le-pow_right, mul-le-mul_left, mul-le-mul_right}
 use Rattle.std.proofs.lemmas.List.Sums.{sum_by-cons}
@@ -10,7 +10,7 @@ use Rattle.ropey_tree.specs.Cutting.{IsCutting}
 use Rattle.ropey_tree.specs.NodeView.{NodeView}
 use Rattle.ropey_tree.specs.Nodes.{all_pieces, AreNodes, IsNodeOf, IsTree, IsInner, inner_view}
 
--- each child has that many pieces at least
+-- each child has at least that many leaf texts
 pub many_below : (below : ℕ) (vs : List NodeView) → AreNodes below 12 vs → length vs * 12 ^ below ≤ length (all_pieces vs)
 many_below below [] h = omega arith
 many_below below (v ∷ vs) h =
@@ -22,7 +22,7 @@ many_below below (v ∷ vs) h =
     let parts : length (all_pieces (v ∷ vs)) ≡ length v.pieces + length (all_pieces vs) = ap length (flat_map-cons (λ w. w.pieces) v vs) ∙ length-append v.pieces (all_pieces vs) in
     grind arith
 
--- a piece is not empty
+-- a leaf text isn't empty
 pub pieces-le-bytes : (ps : List (List ℕ)) → IsCutting ps → length ps ≤ (total ps).bytes
 pieces-le-bytes [] h = omega arith
 pieces-le-bytes (p ∷ []) h = omega (arith, sum_by-cons byte_len p [], h.not_empty)

@@ -1,4 +1,4 @@
--- Nodes in a row, and the pieces of their texts.
+-- Nodes in a row, and their leaf texts.
 use Rattle.std.proofs.Common.{◌≡◌, ℕ, ◌+◌, ◌^◌, ◌<◌, ◌≤◌, List, [], ◌∷◌, ◌++◌, length, get_or, take, drop, refl, ap, arith, sym, ◌∙◌, append_assoc}
 use Rattle.std.proofs.lemmas.Grind.{flat_map-append}
 use Rattle.std.proofs.lemmas.List.Concat.{flat_map-cons}
@@ -14,11 +14,11 @@ all_pieces-append vs ws = flat_map-append (λ v. v.pieces) vs ws
 pub all_pieces-one : (v : NodeView) → all_pieces (v ∷ []) ≡ v.pieces
 all_pieces-one v = flat_map-cons (λ v. v.pieces) v [] ∙ append-nil v.pieces
 
--- one child more
+-- one more child
 pub all_pieces-take_more : (vs : List NodeView) (k : ℕ) (d : NodeView) → k < length vs → all_pieces (take (k + 1) vs) ≡ all_pieces (take k vs) ++ (get_or vs k d).pieces
 all_pieces-take_more vs k d h = rw (take_more vs k d h, all_pieces-append (take k vs) (get_or vs k d ∷ []), all_pieces-one (get_or vs k d)) refl
 
--- the pieces of the child at k, and those on both sides
+-- the leaf texts of the child at k, and those on both sides
 pub all_pieces-parts : (vs : List NodeView) (k : ℕ) (d : NodeView) → k < length vs → all_pieces vs ≡ all_pieces (take k vs) ++ (get_or vs k d).pieces ++ all_pieces (drop (k + 1) vs)
 all_pieces-parts vs k d h =
     let whole : all_pieces (take (k + 1) vs ++ drop (k + 1) vs) ≡ all_pieces (take (k + 1) vs) ++ all_pieces (drop (k + 1) vs) = all_pieces-append (take (k + 1) vs) (drop (k + 1) vs) in
@@ -27,7 +27,7 @@ all_pieces-parts vs k d h =
 abbrev pub no_view : NodeView
 no_view = record { pieces = []; height = 0; degree = 0 }
 
--- no part counts more than the whole
+-- no part has more bytes than the whole
 pub bytes-take-le : (vs : List NodeView) (k : ℕ) → (total (all_pieces (take k vs))).bytes ≤ (total (all_pieces vs)).bytes
 bytes-take-le vs k =
     let parts = ap all_pieces (sym (take-append-drop k vs)) ∙ all_pieces-append (take k vs) (drop k vs) in
@@ -35,7 +35,7 @@ bytes-take-le vs k =
     let bytes : (total (all_pieces vs)).bytes ≡ (total (all_pieces (take k vs))).bytes + (total (all_pieces (drop k vs))).bytes = ap (λ c. c.bytes) sums in
     omega arith
 
--- a part that takes the child at k too fits where the whole does
+-- a part with the child at k fits if the whole does
 pub part_fits : (vs part : List NodeView) (from k : ℕ) (v : NodeView) → take from vs ++ part ≡ take k vs → k < length vs → v ≡ get_or vs k v → (total (all_pieces vs)).bytes < 2 ^ 63
     → (total (all_pieces (part ++ v ∷ []))).bytes < 2 ^ 63
 part_fits vs part from k v is within at fits =

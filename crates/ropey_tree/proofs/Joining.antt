@@ -1,4 +1,4 @@
--- Rows of which one side is a joined child.
+-- Rows with a joined child on one side.
 use Rattle.std.proofs.Common.{◌≡◌, ℕ, ◌+◌, ◌-◌, ◌<◌, ◌≤◌, min, max, inl, inr, List, [], ◌∷◌, ◌++◌, length, take, drop, get_or, refl, ap, arith, sym, ◌∙◌, subst, append_assoc, length-append, length-take-le}
 use Rattle.std.proofs.lemmas.List.{take_more}
 use Rattle.std.proofs.Math.Seq.{take-length}
@@ -36,7 +36,7 @@ pub first_child : (vs : List NodeView) (v : NodeView) → 0 < length vs → v �
 first_child [] v some is = absurd (omega arith)
 first_child (w ∷ vs) v some is = ap (λ u. u ∷ vs) is
 
--- nodes that a child was joined to stand in its place
+-- nodes that replace a joined child
 joined_nodes : (l r : NodeView) (below : ℕ) (joined : List NodeView) → AreJoined l r joined → max l.height r.height ≡ below
     → (least : ℕ) → 12 ≤ least → AreNodes (max l.height r.height) least joined → AreNodes below 12 joined
 joined_nodes l r below joined h level least enough nodes = rw level at (nodes-weaker (max l.height r.height) least 12 joined enough nodes)
@@ -117,7 +117,7 @@ both_siblings height front back f g few few_back text =
       text = rw (all_pieces-append front back) text;
     }
 
--- what is packed is what two nodes are joined to
+-- what is packed is the result of joining two nodes
 pub joined_of_packed : (l r : NodeView) (height : ℕ) (siblings packed : List NodeView) → Packed height siblings packed → all_pieces siblings ≡ l.pieces ++ r.pieces → max l.height r.height ≡ height
     → (r.height ≤ l.height → l.degree ≤ length siblings) → (l.height ≤ r.height → r.degree ≤ length siblings) → AreJoined l r packed
 joined_of_packed l r height siblings packed h pieces level left right = record {
@@ -146,7 +146,7 @@ leaves_joined l r p q l_is r_is = rw (l_is, r_is) (record {
     leaf_node : (s : List ℕ) → IsNodeOf 0 12 (leaf_view s)
     leaf_node s = record { level = refl; full = omega arith; many = omega arith }
 
--- ---- the same for nodes that are seen whole
+-- ---- the same for whole nodes
 module _ (l r : NodeView) (text : IsRopeText (l.pieces ++ r.pieces)) where
   module _ (front back : List NodeView) (l_is : l ≡ inner_view l.height front) (f : IsInner l.height front) (r_is : r ≡ inner_view r.height back) (b : IsInner r.height back) (same : l.height ≡ r.height) where
     beside_pieces : all_pieces (front ++ back) ≡ l.pieces ++ r.pieces
@@ -224,7 +224,7 @@ module _ (l r : NodeView) (text : IsRopeText (l.pieces ++ r.pieces)) where
         joined_of_packed l r r.height (nodes_of joined ++ drop 1 back) packed p pieces (omega (arith, lower))
         (λ q. absurd (omega (arith, q, lower))) (λ _. omega (arith, degree, length-append (nodes_of joined) (drop 1 back), back_len, len.0))
 
--- a root over two nodes that come of joining
+-- a root over the two nodes that joining gives
 pub joined_inner : (l r v w : NodeView) → IsRopeText (l.pieces ++ r.pieces) → AreJoined l r (v ∷ w ∷ []) → IsInner (max l.height r.height + 1) (v ∷ w ∷ [])
 joined_inner l r v w text j = record {
   below = max l.height r.height;

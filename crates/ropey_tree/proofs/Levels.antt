@@ -29,7 +29,7 @@ module _ (height : ℕ) (below above children : List NodeView) (from to : ℕ) (
   next_pieces = all_pieces-append above (node ∷ []) ∙ ap (λ ps. ps ++ all_pieces (node ∷ [])) h.pieces ∙ ap (λ ps. all_pieces (take from below) ++ ps) (all_pieces-one node ∙ ap (λ v. v.pieces) is)
       ∙ sym (all_pieces-append (take from below) children) ∙ ap all_pieces taken
 
-  -- a full node beside full nodes
+  -- a full node next to full nodes
   full_step : 12 ≤ length children → AreNodes height 12 (above ++ node ∷ []) ⊎ ((to ≡ length below) × (length (above ++ node ∷ []) ≡ 1))
   full_step big =
       let new = All-cons (IsNodeOf height 12) node [] (node_over height 12 children node children_inner is big) (All-nil (IsNodeOf height 12)) in

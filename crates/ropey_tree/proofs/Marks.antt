@@ -1,4 +1,4 @@
--- Leaves up to a mark, where others come behind them.
+-- Leaves up to a mark, with others after them.
 use Rattle.std.proofs.Common.{◌≡◌, ℕ, ◌≤◌, List, ap, sym, ◌∙◌, length, take}
 use Rattle.std.proofs.lemmas.List.{take-map, take-take}
 use Rattle.std.specs.declared.rc.Rc.{Rc}

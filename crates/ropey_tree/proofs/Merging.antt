@@ -1,4 +1,4 @@
--- Texts joined over a leaf of what stands at their seam.
+-- Texts joined with a leaf for their seam.
 use Rattle.std.proofs.Common.{◌≡◌, ℕ, ◌+◌, ◌<◌, ◌≤◌, Bool, true, false, ◌&&◌, ◌⊎◌, inl, inr, List, [], ◌∷◌, ◌++◌, take, drop, refl, ap, arith, sym, ◌∙◌, append_assoc}
 use Rattle.std.specs.Prelude.{◌^◌}
 use Rattle.std.specs.List.{concat}
@@ -21,13 +21,13 @@ use Rattle.ropey_tree.proofs.Editing.{front_bytes}
 use Rattle.ropey_tree.proofs.Ends.{ends_at_cr, lf_front, and_false}
 use Rattle.ropey_tree.proofs.OverSeams.{cr_lf, no_text, text-append, same_front, one_byte, last_leaf_parts, first_leaf_parts, some_text}
 
--- ---- no CR LF is cut before the last piece of a cutting
+-- ---- no CR LF spans the start of the last leaf text
 whole_before : (ps : List (List ℕ)) (q : List ℕ) → IsCutting (ps ++ q ∷ []) → cuts_cr_lf (concat ps) q ≡ false
 whole_before [] q h = refl
 whole_before (p ∷ []) q h = ap (λ t. ends_with_cr t && starts_with_lf q) (append-nil p) ∙ h.1
 whole_before (p ∷ r ∷ ps) q h = ap (λ b. b && starts_with_lf q) (ends-append p (concat (r ∷ ps)) (some_text r ps (cut-left (r ∷ ps) (q ∷ []) h.2))) ∙ whole_before (r ∷ ps) q h.2
 
--- ---- what stands between two leaves: CR LF, or a back of the one and a front of the other
+-- ---- the text between two leaves: CR LF, or the end of the one and the start of the other
 pub cr_lf_between : (a b : List ℕ) (at : ℕ) → ends_with_cr a ≡ true → starts_with_lf b ≡ true → at + 1 ≡ byte_len a → StandsBetween (a ∷ []) at cr_lf (b ∷ []) 1
 cr_lf_between a b at h g len =
     let cr = ends_at_cr a h in
@@ -63,7 +63,8 @@ over_between last first a b from to leaf u v a_is b_is starts ends is whole = re
   whole_left = ap (λ t. ends_with_cr (chars (take from last)) && starts_with_lf t) is ∙ whole;
 }
 
--- a text that is cut up to a room, where no CR ends a front that fills it, and no LF starts what is behind one that doesn't
+-- a text that is cut up to `room`, if no CR ends a start that fills it, and no LF follows one that
+-- doesn't
 pub whole_cut : (front back rest : List ℕ) (n room : ℕ) → 1 ≤ byte_len back → 1 ≤ room → (n < room) ⊎ ((n ≡ 0) ⊎ (ends_with_cr front ≡ false)) → (starts_with_lf back ≡ true → n ≡ room)
     → cuts_cr_lf front (back ++ rest) ≡ false
 whole_cut front back rest n room more some cr lf = ap (λ b. ends_with_cr front && b) (starts-append back rest more) ∙ cut (starts_with_lf back) lf
@@ -78,7 +79,7 @@ whole_cut front back rest n room more some cr lf = ap (λ b. ends_with_cr front 
       ]
     ]
 
--- ---- what stands between the last leaf of a text and the first of another stands between the texts
+-- ---- the text between the last leaf of a text and the first of another is between the texts
 some_front : (start front mid : List ℕ) → cuts_cr_lf front mid ≡ false → (byte_len front ≡ 0 → cuts_cr_lf start mid ≡ false) → cuts_cr_lf (start ++ front) mid ≡ false
 some_front start [] mid h g = ap (λ t. ends_with_cr t && starts_with_lf mid) (append-nil start) ∙ g refl
 some_front start (c ∷ cs) mid h g = ap (λ b. b && starts_with_lf mid) (ends-append start (c ∷ cs) (omega (arith, byte_len-some c cs))) ∙ h
@@ -110,7 +111,7 @@ leaves_between ps qs a b mid i at from to before before_b h past g p_is some len
       whole_left = some_front start between.front mid between.whole_left whole;
     }
 
--- ---- the front of the one, and behind it what stands between and the back of the other
+-- ---- the start of the one, and after it the text between and the end of the other
 module _ (ps qs : List (List ℕ)) (mid : List ℕ) (at from : ℕ) (b : StandsBetween ps at mid qs from) where
   pub left_boundary : IsBoundaryOf (concat ps) at
   left_boundary = record { front = b.front; back = b.last; parts = b.left_is; place = b.place }

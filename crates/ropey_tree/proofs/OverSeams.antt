@@ -1,4 +1,4 @@
--- Texts joined over a seam.
+-- Texts joined across a seam.
 use Rattle.std.proofs.Common.{◌≡◌, ℕ, ◌+◌, ◌-◌, ◌<◌, ◌≤◌, ◌==◌, Bool, true, false, ◌&&◌, inl, inr, List, [], ◌∷◌, ◌++◌, length, get_or, refl, ap, arith, sym, ◌∙◌, length-append}
 use Rattle.std.specs.Prelude.{encode_utf8_all, ◌^◌}
 use Rattle.std.specs.List.{concat}
@@ -18,7 +18,7 @@ use Rattle.ropey_tree.proofs.Pieces.{first_piece, bytes-append}
 use Rattle.ropey_tree.proofs.Splitting.{between, bytes-concat, starts-append, ends-append}
 use Rattle.ropey_tree.proofs.Ends.{is_code, first_byte, last_byte}
 
--- ---- cuttings beside each other
+-- ---- rows of leaf texts next to each other
 pub some_text : (p : List ℕ) (ps : List (List ℕ)) → IsCutting (p ∷ ps) → 1 ≤ byte_len (concat (p ∷ ps))
 some_text p ps h = omega (arith, (first_piece p ps h).not_empty, byte_len-append p (concat ps))
 
@@ -102,7 +102,7 @@ first_leaf_parts pieces leaf before h =
 pub first_leaf : (pieces : List (List ℕ)) (leaf : List ℕ) (before : Counts) → LiesIn pieces (leaf ∷ []) Bytes 0 before → 1 ≤ byte_len leaf → starts_with_lf (concat pieces) ≡ starts_with_lf leaf
 first_leaf pieces leaf before h some = ap starts_with_lf (first_leaf_parts pieces leaf before h) ∙ starts-append leaf (concat h.right) some
 
--- ---- CR LF over a seam
+-- ---- CR LF across a seam
 abbrev pub cr_lf : List ℕ
 cr_lf = 13 ∷ 10 ∷ []
 
@@ -117,7 +117,7 @@ cr_lf_len = refl
 pub one_byte : (c : ℕ) → c < 128 → byte_len (c ∷ []) ≡ 1
 one_byte c h = omega (arith, length-append (encode_utf8 c) [], length-encode c, len_utf8_ascii c h)
 
--- of two ways to cut a text in two, fronts of one length are the same
+-- if a text is cut in two in two ways, starts of one length are equal
 pub same_front : (front back short rest : List ℕ) → front ++ back ≡ short ++ rest → byte_len front ≡ byte_len short → (front ≡ short) × (back ≡ rest)
 same_front front back short rest e len =
     let parts = between front back short rest e (omega (arith, len)) in

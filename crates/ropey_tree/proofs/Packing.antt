@@ -16,7 +16,7 @@ pub nodes-right : (h least : ℕ) (vs ws : List NodeView) → AreNodes h least (
 nodes-right h least [] ws all = all
 nodes-right h least (v ∷ vs) ws all = nodes-right h least vs ws (All-tail (IsNodeOf h least) v (vs ++ ws) all)
 
--- children that are the front or the back of a row
+-- children that are the start or the end of a row
 pub front_inner : (height : ℕ) (siblings front back : List NodeView) → AreSiblings height siblings → front ++ back ≡ siblings → 2 ≤ length front → IsInner height front
 front_inner height siblings front back h is branches =
     let pieces : all_pieces siblings ≡ all_pieces front ++ all_pieces back = sym (ap all_pieces is) ∙ all_pieces-append front back in

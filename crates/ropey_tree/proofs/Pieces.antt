@@ -1,4 +1,4 @@
--- Parts of cuttings and of texts.
+-- Parts of leaf texts and of texts.
 use Rattle.std.proofs.Common.{◌≡◌, ℕ, ◌+◌, List, [], ◌∷◌, ◌++◌, ap, arith}
 use Rattle.ropey_tree.specs.Counts.{total}
 use Rattle.ropey_tree.specs.Cutting.{IsPiece, IsCutting, IsRopeText}

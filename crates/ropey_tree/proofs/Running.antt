@@ -17,7 +17,7 @@ use Rattle.ropey_tree.proofs.Totals.{total-append, total-below, AreBelow, amount
 use Rattle.ropey_tree.proofs.InRow.{all_pieces-append, all_pieces-one, bytes-take-le}
 use Rattle.ropey_tree.proofs.Within.{row_len}
 
--- one node more, with what all count together
+-- one more node, with the counts of all
 pub totals-more : (vs : List NodeView) (totals : List Counts) (v : NodeView) (sum : Counts) → AreTotals vs totals → sum ≡ total (all_pieces (vs ++ v ∷ [])) → AreTotals (vs ++ v ∷ []) (totals ++ sum ∷ [])
 totals-more vs totals v sum h is =
     let more = length-append vs (v ∷ []) in
@@ -37,7 +37,7 @@ totals-more vs totals v sum h is =
           ];
     }
 
--- what is read of them
+-- what the totals give
 pub totals-before : (vs : List NodeView) (totals : List Counts) (k : ℕ) (before : Counts) → AreTotals vs totals → k ≤ length vs
     → (k ≡ 0 → before ≡ zero_counts) → ((d : Counts) → 0 < k → before ≡ get_or totals (k - 1) d) → before ≡ total (all_pieces (take k vs))
 totals-before vs totals zero before h within start end = start refl
@@ -46,7 +46,7 @@ totals-before vs totals (suc k) before h within start end =
     let next : suc k ≡ k + 1 = omega arith in
     end zero_counts (omega arith) ∙ ap (λ i. get_or totals i zero_counts) index ∙ h.running k zero_counts (omega (arith, within)) ∙ ap (λ i. total (all_pieces (take i vs))) (sym next)
 
--- what was found by halving stands before the place
+-- the counts before the index that is found are not past the position
 pub totals-not_past : (vs : List NodeView) (totals : List Counts) (by : By) (i k : ℕ) → AreTotals vs totals → k ≤ length vs
     → ((d : Counts) → 0 < k → amount by (get_or totals (k - 1) d) ≤ i) → amount by (total (all_pieces (take k vs))) ≤ i
 totals-not_past vs totals by i zero h within low = omega (arith, amount-zero by)
@@ -56,7 +56,7 @@ totals-not_past vs totals by i (suc k) h within low =
     let at = ap (λ i. amount by (get_or totals i zero_counts)) index ∙ ap (amount by) (h.running k zero_counts (omega (arith, within))) ∙ ap (λ i. amount by (total (all_pieces (take i vs)))) (sym next) in
     omega (arith, at, low zero_counts (omega arith))
 
--- what one node more counts goes to what all before it count
+-- the counts of one more node are added to those of all before it
 pub record Adds (vs : List NodeView) (v : NodeView) (before count : Counts) : Type 0 where
   pub fits : FitsWith before count
   pub is : plus before count ≡ total (all_pieces (vs ++ v ∷ []))
@@ -81,11 +81,11 @@ adds vs v before count fits stands_before counted =
       is = is;
     }
 
--- one total more
+-- one more total
 pub in_step-more : (vs : List NodeView) (totals : List Counts) (v : NodeView) (sum : Counts) → AreInStep vs totals → length vs < 24 → sum ≡ total (all_pieces (vs ++ v ∷ [])) → AreInStep (vs ++ v ∷ []) (totals ++ sum ∷ [])
 in_step-more vs totals v sum h room is = record { few = omega (arith, room, length-append vs (v ∷ [])); counted = totals-more vs totals v sum h.counted is }
 
--- nodes behind one, as they are seen
+-- the views of the nodes after one
 pub views-drop : (k : ℕ) (nodes : List (Rc Node Global)) → views (drop (k + 1) nodes) ≡ drop (suc k) (views nodes)
 views-drop k nodes = let next : k + 1 ≡ suc k = omega arith in ap (λ n. views (drop n nodes)) next ∙ by_suc k nodes
   where
@@ -94,12 +94,12 @@ views-drop k nodes = let next : k + 1 ≡ suc k = omega arith in ap (λ n. views
     by_suc zero (node ∷ nodes) = refl
     by_suc (suc k) (node ∷ nodes) = by_suc k nodes
 
--- ---- another node in the place of one
+-- ---- another node in place of one
 -- the totals of a row, and of one with another node at k
 abbrev pub shifted : List Counts → ℕ → Counts → Counts → List Counts
 shifted totals k new old = take k totals ++ map (λ t. minus (plus t new) old) (drop k totals)
 
--- the first ones of a row of which one node stands behind a front
+-- the first ones of a row with one node after a start
 take-behind : (front rest : List NodeView) (v : NodeView) (k j : ℕ) → length front ≡ k → k ≤ j → take (j + 1) (front ++ (v ∷ []) ++ rest) ≡ front ++ (v ∷ []) ++ take (j - k) rest
 take-behind front rest v k j len high =
     let n : j + 1 ≡ length (front ++ v ∷ []) + (j - k) = omega (arith, len, high, length-append front (v ∷ [])) in
@@ -121,7 +121,7 @@ swapped a v b w =
     let l : a.breaks + v.breaks + b.breaks + w.breaks - v.breaks ≡ a.breaks + w.breaks + b.breaks = omega arith in
     rw (n, h, u, l) refl
 
--- a row is what stands before the node at k, that node, and what stands behind it
+-- a row is what precedes the node at k, that node, and what follows it
 pub row-at : (vs : List NodeView) (k : ℕ) (d : NodeView) → k < length vs → vs ≡ take k vs ++ (get_or vs k d ∷ []) ++ drop (suc k) vs
 row-at vs k d within =
     let next : suc k ≡ k + 1 = omega arith in

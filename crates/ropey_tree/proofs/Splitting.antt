@@ -1,4 +1,4 @@
--- Texts before and after a place.
+-- Texts before and after an offset.
 use Rattle.std.proofs.Common.{◌≡◌, ℕ, ◌+◌, ◌-◌, ◌<◌, ◌≤◌, ◌⊎◌, Bool, true, false, ◌&&◌, inl, inr, List, [], ◌∷◌, ◌++◌, length, take, drop, take-append-drop, get_or, refl, ap, arith, sym, ◌∙◌, subst, append_assoc, length-append}
 use Rattle.std.specs.Prelude.{encode_utf8_all}
 use Rattle.std.specs.List.{concat}
@@ -22,7 +22,7 @@ use Rattle.ropey_tree.specs.Splits.{IsSplit}
 use Rattle.ropey_tree.proofs.Texts.{byte_len-append}
 use Rattle.ropey_tree.proofs.Pieces.{bytes-append, text-left, text-right}
 
--- bytes of pieces are those of their text
+-- the bytes of leaf texts are those of their text
 pub bytes-concat : (ps : List (List ℕ)) → (total ps).bytes ≡ byte_len (concat ps)
 bytes-concat [] = refl
 bytes-concat (p ∷ ps) = sum_by-cons byte_len p ps ∙ ap (λ n. byte_len p + n) (bytes-concat ps) ∙ sym (byte_len-append p (concat ps))
@@ -30,7 +30,7 @@ bytes-concat (p ∷ ps) = sum_by-cons byte_len p ps ∙ ap (λ n. byte_len p + n
 pub byte_len-some : (c : ℕ) (cs : List ℕ) → 1 ≤ byte_len (c ∷ cs)
 byte_len-some c cs = let few = length-le-encodes (c ∷ cs) in omega arith
 
--- of two ways to cut a text in two, the longer front begins with the shorter
+-- if a text is cut in two in two ways, the longer start begins with the shorter
 pub record Between (front back short rest : List ℕ) : Type 0 where
   pub mid : List ℕ
   pub front_is : front ≡ short ++ mid
@@ -50,7 +50,7 @@ between (y ∷ front) back (x ∷ short) rest e le =
     let below = between front back short rest t.1 (omega arith) in
     record { mid = below.mid; front_is = ap (λ c. c ∷ front) t.0 ∙ ap (λ cs. x ∷ cs) below.front_is; rest_is = below.rest_is }
 
--- a place in a text is a place in the part in which it lies
+-- a boundary of a text is a boundary of the part that contains it
 pub inner_boundary : (a c b : List (List ℕ)) (at : ℕ) → IsBoundaryOf (concat (a ++ c ++ b)) at → (total a).bytes ≤ at → at ≤ (total (a ++ c)).bytes → IsBoundaryOf (concat c) (at - (total a).bytes)
 inner_boundary a c b at h low high =
     let whole : concat (a ++ c ++ b) ≡ concat a ++ (concat c ++ concat b) = concat-append (a ++ c) b ∙ ap (λ t. t ++ concat b) (concat-append a c) ∙ append_assoc (concat a) (concat c) (concat b) in
@@ -60,11 +60,11 @@ inner_boundary a c b at h low high =
     let second = between (concat c) (concat b) first.mid h.back first.rest_is (omega (arith, sums, h.place, bytes-concat a, bytes-append a c, bytes-concat c)) in
     record { front = first.mid; back = second.mid; parts = second.front_is; place = omega (arith, sums, h.place, bytes-concat a) }
 
--- no place of a text is past its end
+-- no boundary of a text is past its end
 pub boundary-le : (ps : List (List ℕ)) (at : ℕ) → IsBoundaryOf (concat ps) at → at ≤ (total ps).bytes
 boundary-le ps at h = omega (arith, bytes-concat ps, ap byte_len h.parts, byte_len-append h.front h.back, h.place)
 
--- the halves of a part, with what stands on both sides of it
+-- the halves of a part, with the text on both sides of it
 pub split_around : (a c b l r : List (List ℕ)) (at : ℕ) → (total a).bytes ≤ at → IsSplit c (at - (total a).bytes) l r → IsSplit (a ++ c ++ b) at (a ++ l) (r ++ b)
 split_around a c b l r at low h = record {
   text = ap (λ t. t ++ concat (r ++ b)) (concat-append a l) ∙ ap (λ t. concat a ++ concat l ++ t) (concat-append r b) ∙ regroup (concat a) (concat l) (concat r) (concat b)
@@ -77,7 +77,7 @@ split_around a c b l r at low h = record {
     regroup : (s t u v : List ℕ) → (s ++ t) ++ (u ++ v) ≡ s ++ (t ++ u) ++ v
     regroup s t u v = simp append_assoc
 
--- ---- a piece in two
+-- ---- a leaf text in two
 pub starts-append : (s t : List ℕ) → 1 ≤ byte_len s → starts_with_lf (s ++ t) ≡ starts_with_lf s
 starts-append [] t h = absurd (omega arith)
 starts-append (c ∷ cs) t h = refl
@@ -126,14 +126,14 @@ piece_split s t some some_back = record {
   before = λ ys text. record { cut = cut_back s t some_back ys text.cut; fits = omega (arith, text.fits, sum_by-cons byte_len t ys, sum_by-cons byte_len (s ++ t) ys, byte_len-append s t) };
 }
 
--- a place at the start
+-- an offset at the start
 pub split_start : (ps : List (List ℕ)) → IsSplit ps 0 [] ps
 split_start ps = record { text = refl; place = refl; after = λ xs text. text-left (xs ++ []) ps (rw append-nil text); before = λ ys text. text }
 
 pub split_end : (ps : List (List ℕ)) (at : ℕ) → at ≡ (total ps).bytes → IsSplit ps at ps []
 split_end ps at e = record { text = append-nil (concat ps); place = sym e; after = λ xs text. text; before = λ ys text. text-right ps ys text }
 
--- ---- the bytes of a piece in two
+-- ---- the bytes of a leaf text in two
 pub record LeafParts (bytes front back : List ℕ) (at : ℕ) : Type 0 where
   pub boundary : IsCharBoundary bytes at
   pub front_is : chars (take at bytes) ≡ front
@@ -156,7 +156,7 @@ leaf_parts bytes leaf at is piece h =
 pub slice_front : (bytes : List ℕ) (at : ℕ) → slice_range bytes 0 at ≡ take at bytes
 slice_front bytes at = grind (arith, common_steps)
 
--- ---- a node in two, by the child in which the place lies
+-- ---- a node in two, by the child that contains the offset
 module _ (v : NodeView) (vs : List NodeView) (k : ℕ) (c : NodeView) (at : ℕ) (v_is : v ≡ inner_view v.height vs) (inner : IsInner v.height vs) (text : IsRopeText v.pieces)
     (within : k < length vs) (is : c ≡ get_or vs k c) (boundary : IsBoundaryOf (concat v.pieces) at) (not_past : (total (all_pieces (take k vs))).bytes ≤ at)
     (passed : (at < (total (all_pieces (take (k + 1) vs))).bytes) ⊎ (k + 1 ≡ length vs)) where

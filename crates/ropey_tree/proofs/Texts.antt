@@ -1,4 +1,4 @@
--- The counts of a text that is cut into pieces.
+-- The counts of a text that is cut into leaf texts.
 use Rattle.std.proofs.Common.{◌≡◌, ℕ, ◌+◌, ◌≤◌, false, cond, ◌&&◌, List, [], ◌∷◌, ◌++◌, length, refl, ap, arith, sym, ◌∙◌, length-append, zero-add}
 use Rattle.std.proofs.lemmas.List.{append-nil}
 use Rattle.std.proofs.lemmas.Str.{encodes-append}
@@ -30,7 +30,7 @@ total-one p =
     cc
 
 module _ (lines : LosesBreakInCrLf is_break) (adds : AddsUp units) where
-  -- two texts between which no CR LF is cut
+  -- two texts with no CR LF across them
   counts-append : (s t : List ℕ) → cuts_cr_lf s t ≡ false → counts_of (s ++ t) ≡ plus (counts_of s) (counts_of t)
   counts-append s t h =
       let joined = lines s t in

@@ -1,4 +1,4 @@
--- What pieces of text count together.
+-- The counts of leaf texts together.
 use Rattle.std.proofs.Common.{◌≡◌, ℕ, ◌+◌, ◌≤◌, cond, List, [], ◌∷◌, ◌++◌, length, refl, arith, replicate, length-append}
 use Rattle.std.proofs.lemmas.List.{length-replicate}
 use Rattle.std.proofs.lemmas.List.Sums.{sum_by-append, sum_by-le-sum_by}
@@ -35,7 +35,7 @@ amount-zero Chars = refl
 amount-zero Units = refl
 amount-zero Breaks = refl
 
--- no measure of a text is above its bytes
+-- no measure of a text exceeds its bytes
 units-le : (c : ℕ) → units_of c ≤ len_utf8 c
 units-le c = grind (arith, nat_tests)
 

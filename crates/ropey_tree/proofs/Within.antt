@@ -1,4 +1,4 @@
--- A row of children with others in the place of the one at an index.
+-- A row of children with others in place of the one at an index.
 use Rattle.std.proofs.Common.{◌≡◌, ℕ, suc, ◌+◌, ◌-◌, ◌<◌, ◌≤◌, List, ◌++◌, length, take, drop, get_or, ap, arith, ◌∙◌, length-append, length-take-le, length-drop}
 use Rattle.std.proofs.lemmas.List.{get_or-drop, get_or-append_right}
 use Rattle.ropey_tree.specs.NodeView.{NodeView}

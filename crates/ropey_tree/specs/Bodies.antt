@@ -1,4 +1,4 @@
--- What a node's body is seen as, and what holds of it.
+-- The view of a node's body, and what holds of it.
 use Rattle.ropey_tree.specs.declared.node.Body.{Body}
 use Rattle.ropey_tree.specs.declared.node.Body.TheVariants.{Leaf, Inner}
 use Rattle.ropey_tree.specs.Cutting.{IsPiece}

@@ -1,4 +1,4 @@
--- A node is taller than its children: the measure of a walk down.
+-- A node is higher than its children: the measure of a descent.
 use Rattle.std.proofs.Common.{◌≡◌, ℕ, ◌+◌, ◌*◌, ◌≤◌, max, List, [], ◌∷◌, arith}
 use Rattle.std.proofs.lemmas.List.Elements.{All-head, All-tail}
 use Rattle.std.specs.declared.rc.Rc.{Rc}

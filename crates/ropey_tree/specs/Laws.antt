@@ -4,6 +4,6 @@ use Rattle.std.specs.List.{concat}
 use Rattle.ropey_tree.specs.Counts.{counts_of, total}
 use Rattle.ropey_tree.specs.Cutting.{IsCutting}
 
--- what the pieces of a cutting count together is what their text counts
+-- the counts of leaf texts together are those of their text
 abbrev pub CountsAreOfTheText : Type 0
 CountsAreOfTheText = (pieces : List (List ℕ)) → IsCutting pieces → total pieces ≡ counts_of (concat pieces)

@@ -1,4 +1,4 @@
--- What an edit inside one leaf leaves of it, and of the nodes above.
+-- What an edit inside one leaf makes of it, and of the nodes above.
 use Rattle.std.specs.Prelude.{◌≡◌, ℕ, ◌<◌, suc, List, [], ◌∷◌, ◌++◌, take, drop}
 use Rattle.str_indices.specs.Text.{byte_len}
 use Rattle.ropey_tree.specs.Counts.{counts_of}
@@ -10,31 +10,32 @@ use Rattle.ropey_tree.specs.NodeView.{NodeView}
 use Rattle.ropey_tree.specs.Nodes.{all_pieces, count_of}
 use Rattle.ropey_tree.specs.Edits.{AreEdited, AreInPlaceOf, MadeFor}
 
--- one leaf or two, as they are seen
+-- the texts of one leaf or two
 abbrev pub leaves_of : Leaves → List (List ℕ)
 leaves_of (One leaf counts) = leaf ∷ []
 leaves_of (Two front back) = front ∷ back ∷ []
 
--- one leaf of fewer than 984 bytes and what it counts, or two leaves
+-- one leaf of fewer than 984 bytes and its counts, or two leaves
 abbrev pub AreLeavesCounted : Leaves → Type 0
 AreLeavesCounted (One leaf counts) = (counts ≡ counts_of leaf) × (byte_len leaf < 984)
 AreLeavesCounted (Two front back) = Unit {0}
 
--- one node or two, as they are seen
+-- the views of one node or two
 abbrev pub edited_nodes : Edited → List NodeView
 edited_nodes (OneNode node counts) = node.value ∷ []
 edited_nodes (TwoNodes first second) = first.value ∷ second.value ∷ []
 
--- one node and what it counts, or two nodes
+-- one node and its counts, or two nodes
 abbrev pub AreNodesCounted : Edited → Type 0
 AreNodesCounted (OneNode node counts) = counts ≡ count_of node.value
 AreNodesCounted (TwoNodes first second) = Unit {0}
 
--- a row with others in the place of the one at an index
+-- a row with others in place of the node at an index
 abbrev pub row_with : ℕ → List NodeView → List NodeView → List NodeView
 row_with k others row = take k row ++ others ++ drop (suc k) row
 
--- nodes of a node's height that stand in its place after an edit of one of its pieces, and how many nodes were made for them
+-- nodes that replace a node after an edit of one of its leaf texts, and the number of nodes made
+-- for them
 pub record IsReplacedBy (v : NodeView) (from to : ℕ) (text : List ℕ) (made : ℕ)
     (nodes : List NodeView) : Type 0 where
   pub edited : AreEdited v from to text (all_pieces nodes)

@@ -1,10 +1,10 @@
--- What stands over the seam of two texts.
+-- The text over the seam of two texts.
 use Rattle.std.specs.Prelude.{◌≡◌, ℕ, false, List, ◌++◌}
 use Rattle.std.specs.List.{concat}
 use Rattle.str_indices.specs.Text.{byte_len}
 use Rattle.ropey_tree.specs.Cutting.{cuts_cr_lf}
 
--- a text that stands between a byte index of the left one and one of the right one, and where it starts no CR LF is cut
+-- a text between a byte index of the left one and one of the right one; no CR LF spans its start
 pub record StandsBetween (left : List (List ℕ)) (at : ℕ) (middle : List ℕ) (right : List (List ℕ)) (from : ℕ) : Type 0 where
   pub front : List ℕ
   pub last : List ℕ

@@ -5,7 +5,7 @@ use Rattle.ropey_tree.specs.Counts.{total}
 use Rattle.ropey_tree.specs.NodeView.{NodeView}
 use Rattle.ropey_tree.specs.Nodes.{all_pieces}
 
--- for each node in a row what all up to and with it count together
+-- for each node in a row the counts of all up to and including it
 pub record AreTotals (nodes : List NodeView) (totals : List Counts) : Type 0 where
   pub number : length totals ≡ length nodes
   pub running : (k : ℕ) (d : Counts) → k < length nodes

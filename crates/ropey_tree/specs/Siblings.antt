@@ -4,13 +4,12 @@ use Rattle.ropey_tree.specs.declared.siblings.Joined.{Joined}
 use Rattle.ropey_tree.specs.declared.siblings.Joined.TheVariants.{One, Two}
 use Rattle.ropey_tree.specs.declared.siblings.Siblings.{Siblings}
 use Rattle.ropey_tree.specs.declared.siblings.Siblings.TheVariants.{One as OneNode, Nodes, Both, Front, Back, Within}
--- nodes side by side, as they are seen
 pub use Rattle.ropey_tree.specs.Children.{views}
 use Rattle.ropey_tree.specs.Cutting.{IsRopeText}
 use Rattle.ropey_tree.specs.NodeView.{NodeView}
 use Rattle.ropey_tree.specs.Nodes.{all_pieces, AreNodes}
 
--- one node or two, as they are seen
+-- the views of one node or two
 abbrev pub nodes_of : Joined → List NodeView
 nodes_of (One node) = node.value ∷ []
 nodes_of (Two first second) = first.value ∷ second.value ∷ []
@@ -25,7 +24,7 @@ siblings_of (Back joined back) = nodes_of joined.now ++ drop 1 back.now
 siblings_of (Within children k joined) =
     take k children.now ++ nodes_of joined.now ++ drop (suc k) children.now
 
--- a child whose place is taken is there
+-- a child that is replaced is there
 abbrev pub IsFilled : Siblings → Type 0
 IsFilled (OneNode children) = Unit {0}
 IsFilled (Nodes nodes) = Unit {0}
@@ -34,7 +33,7 @@ IsFilled (Front front joined) = 0 < length front.now
 IsFilled (Back joined back) = 0 < length back.now
 IsFilled (Within children k joined) = k < length children.now
 
--- nodes that may stand under one node or two: 2 to 48, each full, and their pieces a text
+-- nodes for one parent or two: 2 to 48, each full, and their leaf texts are those of a rope
 pub record AreSiblings (height : ℕ) (siblings : List NodeView) : Type 0 where
   pub below : ℕ
   pub level : height ≡ below + 1
@@ -43,7 +42,8 @@ pub record AreSiblings (height : ℕ) (siblings : List NodeView) : Type 0 where
   pub nodes : AreNodes below 12 siblings
   pub text : IsRopeText (all_pieces siblings)
 
--- the nodes over a row: one, or two that are full, and no smaller than the row
+-- the parents of a row: one, or two that are full, with no fewer children than 12 or the row's
+-- length
 pub record Packed (height : ℕ) (siblings packed : List NodeView) : Type 0 where
   pub pieces : all_pieces packed ≡ all_pieces siblings
   pub nodes : AreNodes height (min 12 (length siblings)) packed

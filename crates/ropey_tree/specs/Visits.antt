@@ -1,7 +1,7 @@
--- What a way down a tree counts.
+-- The work of descending a tree.
 use Rattle.std.specs.Prelude.{ℕ}
 
--- the nodes that were entered, and the running totals that were compared with a place on the way
+-- the number of nodes that were entered, and of running totals that were compared
 pub record Visited : Type 0 where
   pub nodes : ℕ
   pub comparisons : ℕ

@@ -1,4 +1,4 @@
-//! Building a tree from its leaves, level by level.
+//! Builds a tree from its leaves, level by level.
 
 ghost use Rattle.std.specs.Prelude.{◌≡◌, ◌+◌, ◌<◌, ◌≤◌, ◌⊎◌, IfOk, vec_len};
 ghost use Rattle.ropey_tree.specs.Cutting.{IsRopeText};
@@ -12,12 +12,12 @@ use crate::{MAX_CHILDREN, MIN_CHILDREN};
 use std::alloc::{AllocError, Global};
 use std::rc::Rc;
 
-/// How many children a node of a new tree has where there are enough nodes: two fewer than there is
-/// room for, so that the first edits below it don't make it two, and all nodes above it neither.
+/// The number of children of a node of a new tree, if there are enough nodes: two fewer than it has
+/// room for, so that the first edits below it don't split it and all nodes above it.
 const NEW_CHILDREN: usize = 22;
 
-/// How many of the nodes that are left the next node takes: all of them, or so many that both it
-/// and the rest have children enough.
+/// Returns the number of children of the next node: all nodes that are left, or a number for which
+/// both it and the rest have enough.
 fn share(left: usize) -> usize
     requires { 2 ≤ left }
     ensures some { 2 ≤ result }
@@ -34,7 +34,7 @@ fn share(left: usize) -> usize
     }
 }
 
-/// The nodes of the next level.
+/// Builds the nodes of the next level.
 fn level(alloc: Global, height: usize, nodes: &[Rc<Node>]) -> Result<Vec<Rc<Node>>, AllocError>
     requires { IsInner height (views nodes.now) }
     ensures { IfOk result (λ above. IsLevelOver height (views nodes.now) (views above.items)) }
@@ -51,7 +51,16 @@ fn level(alloc: Global, height: usize, nodes: &[Rc<Node>]) -> Result<Vec<Rc<Node
     Ok(above)
 }
 
-/// A tree over leaves. Its nodes have `NEW_CHILDREN` children but for the last two of each level.
+/// Builds a tree over leaves. Its nodes have `NEW_CHILDREN` children, except for the last two of
+/// each level.
+///
+/// # Requires
+///
+/// There is at least one node, all are leaves, and their texts are those of a rope.
+///
+/// # Errors
+///
+/// Out of memory.
 pub fn build(alloc: Global, leaves: Vec<Rc<Node>>) -> Result<Rc<Node>, AllocError>
     requires some { 1 ≤ vec_len leaves }
     requires leaves { AreNodes 0 12 (views leaves.items) }

@@ -1,4 +1,4 @@
-//! The children of a node, with what they count up to each of them.
+//! The children of a node, with running totals of their counts.
 
 ghost use Rattle.std.specs.Prelude.{◌≡◌, suc, ◌+◌, ◌<◌, ◌≤◌, ◌^◌, ◌⊎◌, [], ◌∷◌, ◌++◌, length, slice_index_or, take, drop, IfOk, OnOk};
 ghost use Rattle.ropey_tree.specs.Children.{views};
@@ -14,8 +14,8 @@ use std::alloc::{AllocError, Global};
 use std::marker::Model;
 use std::rc::Rc;
 
-/// Nodes side by side, and for each what the texts of all up to and with it count together: the
-/// `NodeChildren` of `ropey`. Contracts see what the nodes are seen as.
+/// Sibling nodes, and for each the counts of all texts up to its end: `NodeChildren` in `ropey`.
+/// Contracts see the views of the nodes.
 #[cycle(node)]
 #[derive(Drop)]
 pub struct Children {
@@ -56,7 +56,7 @@ fn copy_behind(nodes: &mut Vec<Rc<Node>>, more: &[Rc<Node>]) -> Result<(), Alloc
 }
 
 impl Children {
-    /// None yet, with room for so many.
+    /// Returns no nodes, with room for `number`.
     pub(crate) fn with_capacity(alloc: Global, number: usize) -> Result<Self, AllocError>
         ensures { IfOk result (λ children. children ≡ []) }
     {
@@ -65,7 +65,7 @@ impl Children {
         Ok(Children { nodes, totals })
     }
 
-    /// How many there are.
+    /// Returns the number of nodes.
     #[inline]
     pub fn len(&self) -> usize
         ensures value { result ≡ length self.now }
@@ -74,7 +74,11 @@ impl Children {
         self.totals.len()
     }
 
-    /// The one at an index.
+    /// Returns the node at an index.
+    ///
+    /// # Requires
+    ///
+    /// `k < len()`.
     #[inline]
     pub fn get(&self, k: usize) -> &Rc<Node>
         requires { k < length self.now }
@@ -83,7 +87,7 @@ impl Children {
         &self.nodes[k]
     }
 
-    /// What those before an index count together.
+    /// Returns the counts of the nodes before an index.
     #[inline]
     fn before(&self, k: usize) -> Counts
         requires { k ≤ length self.now }
@@ -92,20 +96,23 @@ impl Children {
         self.totals.before(k)
     }
 
-    /// What the one at an index counts.
+    /// Returns the counts of the node at an index.
+    ///
+    /// # Requires
+    ///
+    /// `k < len()`.
     #[inline]
     pub fn count(&self, k: usize) -> Counts
         requires { k < length self.now }
         ensures { (d : NodeView) → result ≡ count_of (slice_index_or self.now k d) }
     {
-        // For its facts alone.
+        // For the proof only.
         let _ = self.len();
         let (through, before) = (self.before(k + 1), self.before(k));
         through.saturating_sub(before)
     }
 
-    /// With a node behind them, and what it counts. All of them together are to be a text that
-    /// fits.
+    /// Appends a node with its counts. The texts of all must fit together.
     pub(crate) fn with(self, node: Rc<Node>, counts: Counts) -> Result<Self, AllocError>
         requires room { length self < 24 }
         requires counted { counts ≡ count_of node.value }
@@ -122,7 +129,7 @@ impl Children {
         Ok(Children { nodes, totals })
     }
 
-    /// Copies of them, with another node in the place of the one at an index, and what it counts.
+    /// Returns a copy with another node and its counts at an index.
     pub(crate) fn with_replaced(
         &self,
         alloc: Global,
@@ -144,7 +151,7 @@ impl Children {
         Ok(Children { nodes, totals })
     }
 
-    /// What they count together.
+    /// Returns the counts of all nodes.
     #[inline]
     pub fn sum(&self) -> Counts
         ensures { result ≡ total (all_pieces self.now) }
@@ -152,8 +159,11 @@ impl Children {
         self.before(self.len())
     }
 
-    /// The way to a child, which is entered: the first up to whose end more than `i` stand in a
-    /// measure, else the last.
+    /// Chooses the child to enter: the first whose end is past `i` in a measure, or else the last.
+    ///
+    /// # Requires
+    ///
+    /// There is a child.
     #[inline]
     pub fn choose(&self, by: By, i: usize, visits: &mut Visits) -> Choice
         requires { 0 < length self.now }
@@ -178,13 +188,13 @@ impl Children {
     }
 }
 
-/// A child, by its index, and what stands before it.
+/// A child by its index, and the counts before it.
 #[derive(Clone, Copy, Debug)]
 pub struct Choice {
     /// The child's index.
     pub index: usize,
-    /// What the children before it count together.
+    /// The counts of the children before it.
     pub before: Counts,
-    /// What it counts itself.
+    /// Its own counts.
     pub len: Counts,
 }

@@ -1,4 +1,4 @@
-//! What a text counts, in the four measures by which a rope is indexed.
+//! The counts of a text, in the four measures by which a rope is indexed.
 
 ghost use Rattle.std.specs.Prelude.{◌≡◌, ◌+◌, ◌<◌, ◌^◌};
 ghost use Rattle.std.specs.Str.{chars};
@@ -11,7 +11,7 @@ use str_indices::{chars, utf16};
 pub enum By {
     /// Bytes of UTF-8.
     Bytes,
-    /// Characters, which are Unicode scalar values.
+    /// Characters (Unicode scalar values).
     Chars,
     /// UTF-16 code units.
     Units,
@@ -19,7 +19,7 @@ pub enum By {
     Breaks,
 }
 
-/// What a text counts in each measure: the `TextInfo` of `ropey`, with code units in the place of
+/// The counts of a text in each measure: `TextInfo` in `ropey`, with code units in place of
 /// surrogate pairs.
 #[derive(Clone, Copy, Debug, Default, PartialEq, Eq)]
 pub struct Counts {
@@ -36,7 +36,7 @@ pub struct Counts {
 impl Counts {
     ghost use Rattle.ropey_tree.specs.Counts.{counts_of, zero_counts, plus, minus, amount};
 
-    /// What the empty text counts.
+    /// Returns the counts of the empty text.
     pub const fn zero() -> Self
         ensures { result ≡ zero_counts }
     {
@@ -48,7 +48,7 @@ impl Counts {
         }
     }
 
-    /// What a text counts.
+    /// Returns the counts of a text.
     pub fn of(text: &str) -> Self
         ensures { result ≡ counts_of (chars text.now) }
     {
@@ -60,7 +60,11 @@ impl Counts {
         }
     }
 
-    /// The sums, measure by measure.
+    /// Returns the sums, measure by measure.
+    ///
+    /// # Requires
+    ///
+    /// Each sum is less than 2^64.
     #[inline]
     pub fn plus(self, other: Self) -> Self
         requires bytes { self.bytes + other.bytes < 2 ^ 64 }
@@ -77,7 +81,7 @@ impl Counts {
         }
     }
 
-    /// The differences, measure by measure, and 0 where the other is greater.
+    /// Returns the differences, measure by measure, and 0 if the other is greater.
     #[inline]
     pub fn saturating_sub(self, other: Self) -> Self
         ensures { result ≡ minus self other }
@@ -90,7 +94,7 @@ impl Counts {
         }
     }
 
-    /// The count in one measure.
+    /// Returns the count in a measure.
     #[inline]
     pub fn by(&self, by: By) -> usize
         ensures { result ≡ amount by self.now }

@@ -1,4 +1,4 @@
-//! Cutting a text into leaves.
+//! Cuts a text into leaves.
 
 ghost use Rattle.std.specs.Prelude.{◌≡◌, ◌≤◌, ◌++◌, [], length, take, IfOk, OnOk, OnErr};
 ghost use Rattle.std.specs.List.{concat};
@@ -16,12 +16,12 @@ use std::alloc::{AllocError, Global};
 use std::marker::Model;
 use std::rc::Rc;
 
-/// A text that comes in parts and is cut into leaves as it comes. Contracts see the text so far.
+/// Cuts a text that is given in parts into leaves. Contracts see the text so far.
 #[derive(Drop)]
 pub struct Cutter {
     alloc: Global,
     leaves: Vec<Rc<Node>>,
-    // What stands after the leaves.
+    // The text after the leaves.
     rest: LeafBuffer,
 }
 
@@ -40,7 +40,7 @@ impl Model for Cutter {
 }
 
 impl Cutter {
-    /// No text yet.
+    /// Returns this without text.
     pub fn new(alloc: Global) -> Self
         ensures { result ≡ [] }
     {
@@ -51,14 +51,17 @@ impl Cutter {
         }
     }
 
-    /// Where it takes its memory.
+    /// Returns the allocator.
     #[inline]
     pub fn allocator(&self) -> Global {
         self.alloc
     }
 
-    /// Appends a text. Want of memory leaves the cutter as it was; a text that doesn't fill a leaf
-    /// takes none.
+    /// Appends a text. Allocates nothing unless the text fills a leaf.
+    ///
+    /// # Errors
+    ///
+    /// Out of memory, which leaves the cutter unchanged.
     pub fn append(&mut self, text: &str) -> Result<(), AllocError>
         ensures text { OnOk result (self.new ≡ self.old ++ chars text.now) }
         ensures kept { OnErr result (self.new ≡ self.old) }
@@ -66,7 +69,7 @@ impl Cutter {
         append_leaves(self.alloc, &mut self.leaves, &mut self.rest, text)
     }
 
-    /// The cutter with a mark behind its text.
+    /// Sets a mark at the end of the text.
     pub fn marked(self) -> Marked
         ensures text { result.text ≡ self }
         ensures mark { result.mark ≡ self }
@@ -80,7 +83,11 @@ impl Cutter {
         }
     }
 
-    /// The leaves of the text. Want of memory drops the cutter.
+    /// Returns the leaves of the text.
+    ///
+    /// # Errors
+    ///
+    /// Out of memory, which drops the cutter.
     pub fn finish(self) -> Result<Vec<Rc<Node>>, AllocError>
         ensures leaves { IfOk result (λ leaves. AreNodes 0 12 (views leaves.items)) }
         ensures text { IfOk result (λ leaves. concat (all_pieces (views leaves.items)) ≡ self) }
@@ -96,14 +103,14 @@ impl Cutter {
     }
 }
 
-/// A cutter that can let go of all that came since a mark was set. Contracts see the text so far and
-/// the text up to the mark.
+/// A cutter that can drop the text after a mark. Contracts see the text so far and the text up to
+/// the mark.
 #[derive(Drop)]
 pub struct Marked {
     alloc: Global,
     leaves: Vec<Rc<Node>>,
     rest: LeafBuffer,
-    // How many leaves there were at the mark, and what stood after them.
+    // The number of leaves at the mark, and the text after them.
     mark: usize,
     rest_at_mark: LeafBuffer,
 }
@@ -128,7 +135,11 @@ impl Model for Marked {
 }
 
 impl Marked {
-    /// Appends a text. Want of memory leaves everything as it was.
+    /// Appends a text.
+    ///
+    /// # Errors
+    ///
+    /// Out of memory, which leaves this unchanged.
     pub fn append(&mut self, text: &str) -> Result<(), AllocError>
         ensures text { OnOk result (self.new.text ≡ self.old.text ++ chars text.now) }
         ensures kept { OnErr result (self.new.text ≡ self.old.text) }
@@ -137,7 +148,7 @@ impl Marked {
         append_leaves(self.alloc, &mut self.leaves, &mut self.rest, text)
     }
 
-    /// The cutter of the whole text.
+    /// Returns the cutter with the whole text.
     pub fn whole(self) -> Cutter
         ensures { result ≡ self.text }
     {
@@ -148,7 +159,7 @@ impl Marked {
         }
     }
 
-    /// The cutter as it was when the mark was set: what came since then is dropped.
+    /// Returns the cutter with the text up to the mark; drops the text after it.
     pub fn back(self) -> Cutter
         ensures { result ≡ self.mark }
     {
@@ -162,8 +173,8 @@ impl Marked {
     }
 }
 
-/// Appends a text to what stands in leaves and after them. Want of memory leaves both as they were;
-/// a text that doesn't fill a leaf takes none.
+/// Appends a text to leaves and the text after them. Allocates nothing unless the text fills a
+/// leaf. After an error both are unchanged.
 fn append_leaves(
     alloc: Global,
     leaves: &mut Vec<Rc<Node>>,
@@ -183,7 +194,7 @@ fn append_leaves(
         rest.fill(text);
         return Ok(());
     }
-    // A refusal is to leave everything as it was, so what is made lies aside until all is there.
+    // An error must leave everything unchanged, so new leaves are kept apart until all are there.
     let mut made = Vec::new(alloc);
     let mut filled = rest.copy();
     let end = filled.fill(text);
@@ -199,7 +210,7 @@ fn append_leaves(
     Ok(())
 }
 
-/// A leaf of what was gathered.
+/// Returns a leaf with the gathered text.
 fn leaf_node(alloc: Global, text: LeafBuffer) -> Result<Rc<Node>, AllocError>
     requires { 1 ≤ byte_len text }
     ensures node { IfOk result (λ node. node.value ≡ leaf_view text) }
@@ -209,7 +220,11 @@ fn leaf_node(alloc: Global, text: LeafBuffer) -> Result<Rc<Node>, AllocError>
     Ok(Rc::new(alloc, Node::from_leaf(leaf))?)
 }
 
-/// The leaves of a text, each but the last with room for less than a character.
+/// Returns the leaves of a text, each but the last with room for less than a character.
+///
+/// # Errors
+///
+/// Out of memory.
 pub fn leaves_of(alloc: Global, text: &str) -> Result<Vec<Rc<Node>>, AllocError>
     ensures leaves { IfOk result (λ leaves. AreNodes 0 12 (views leaves.items)) }
     ensures text { IfOk result (λ leaves. concat (all_pieces (views leaves.items)) ≡

@@ -1,4 +1,4 @@
-//! Edits inside one leaf: the path to it is copied, and nothing else.
+//! Edits inside one leaf, which copy only the path to it.
 
 ghost use Rattle.std.specs.Prelude.{◌≡◌, ℕ, List, [], ◌∷◌, ◌++◌, ◌+◌, ◌-◌, ◌*◌, ◌<◌, ◌≤◌, ◌^◌, length, take, drop, map, ◌&&◌, if◌then◌else◌, true, false, IfOk, IfSome, IfNone, string_bytes};
 ghost use Rattle.std.specs.List.{concat};
@@ -24,28 +24,29 @@ use crate::visits::Visits;
 use std::alloc::{AllocError, Global};
 use std::rc::Rc;
 
-/// What comes out of a leaf.
+/// The leaves that an edit makes of one.
 #[derive(Drop)]
 enum Leaves {
-    /// One leaf, and what it counts.
+    /// One leaf, and its counts.
     One(Leaf, Counts),
     /// Two, in order.
     Two(Leaf, Leaf),
 }
 
-/// What comes out of a node.
+/// The nodes that an edit makes of one.
 #[derive(Drop)]
 enum Edited {
-    /// One node, and what it counts.
+    /// One node, and its counts.
     One(Rc<Node>, Counts),
     /// Two, in order.
     Two(Rc<Node>, Rc<Node>),
 }
 
-/// The most bytes that two leaves take, wherever between two characters they are cut.
+/// The greatest number of bytes that fit into two leaves, wherever the text is cut between
+/// characters.
 const TWO_LEAVES: usize = 1_960;
 
-/// A place in about the middle of a text between two characters, but not between a CR and an LF.
+/// Returns a character boundary near the middle of a text, but not between CR and LF.
 fn middle(text: &str) -> usize
     requires long { 984 ≤ length text.now }
     requires fits { length text.now ≤ 1_960 }
@@ -58,7 +59,7 @@ fn middle(text: &str) -> usize
     fill_end(text, text.len() / 2)
 }
 
-/// Two leaves of a text of 984 bytes and more, cut in about the middle.
+/// Makes two leaves of a text of at least 984 bytes, cut near the middle.
 fn two_leaves(alloc: Global, text: &str) -> Result<(Leaf, Leaf), AllocError>
     requires long { 984 ≤ length text.now }
     requires fits { length text.now ≤ 1_960 }
@@ -73,9 +74,9 @@ fn two_leaves(alloc: Global, text: &str) -> Result<(Leaf, Leaf), AllocError>
     Ok((front, back))
 }
 
-/// What stands in a leaf before one byte index, up to another, and from that on. There is none
-/// where an index lies inside a character or past the end, and where with a text in the place of
-/// the middle part fewer than `least` bytes would be left or more than 1,960.
+/// Returns the parts of a leaf before one byte index, up to another, and from that on. `None` if an
+/// index is inside a character or past the end, or if the leaf with the text in place of the middle
+/// part would have fewer than `least` bytes or more than 1,960.
 fn parts_of<'a>(
     leaf: &'a Leaf,
     from: usize,
@@ -110,7 +111,7 @@ fn parts_of<'a>(
     Some((&old[..from], &old[from..to], &old[to..]))
 }
 
-/// A copy of three texts in one.
+/// Returns a copy of three texts in one.
 fn joined(alloc: Global, front: &str, text: &str, back: &str) -> Result<String, AllocError>
     requires { length front.now + length text.now + length back.now ≤ 1_960 }
     ensures text { IfOk result (λ whole. chars (string_bytes whole) ≡
@@ -125,8 +126,8 @@ fn joined(alloc: Global, front: &str, text: &str, back: &str) -> Result<String, 
     Ok(whole)
 }
 
-/// How many CR LF lie between two texts, by whether the first ends with CR and the second starts
-/// with LF.
+/// Returns the number of CR LF across two texts, by whether the first ends with CR and the second
+/// starts with LF.
 fn cut_between(is_cr: bool, is_lf: bool) -> usize
     ensures value { result ≡ (if is_cr && is_lf then 1 else 0) }
     ensures few { result ≤ 1 }
@@ -134,9 +135,9 @@ fn cut_between(is_cr: bool, is_lf: bool) -> usize
     if is_cr && is_lf { 1 } else { 0 }
 }
 
-/// How many CR LF lie over the ends of a text: one where it starts with LF behind a CR, and one
-/// where it ends with CR before an LF. So many breaks are counted twice where the text and both
-/// its neighbours are counted each by itself.
+/// Returns the number of CR LF across the ends of a text: one if it starts with LF after a CR, and
+/// one if it ends with CR before an LF. That many breaks are counted twice if the text and its
+/// neighbours are counted separately.
 fn seams(is_cr: bool, text: &str, is_lf: bool) -> usize
     ensures few { result ≤ 2 }
     ensures seams { (front back : List ℕ) →
@@ -150,7 +151,7 @@ fn seams(is_cr: bool, text: &str, is_lf: bool) -> usize
     cut_between(is_cr, is_lf_first(text)) + cut_between(is_cr_last(text), is_lf)
 }
 
-/// What a leaf counts with a text in the place of another one, whose counts are taken off.
+/// Returns the counts of a leaf with a text in place of another one, from its old counts.
 fn counts_replaced(counts: Counts, front: &str, gone: &str, text: &str, back: &str) -> Counts
     requires counted { counts ≡ counts_of (chars front.now ++ chars gone.now ++ chars back.now) }
     requires few { length front.now + length gone.now + length back.now ≤ 984 }
@@ -169,8 +170,8 @@ fn counts_replaced(counts: Counts, front: &str, gone: &str, text: &str, back: &s
     }
 }
 
-/// Whether a text looks to its neighbours as a leaf does: it starts with LF where the leaf does, and
-/// ends with CR where the leaf does.
+/// Returns whether a text has the ends of a leaf: both start with LF or neither does, and both end
+/// with CR or neither does.
 fn has_ends_of(text: &str, leaf: &Leaf) -> bool
     ensures starts { result ≡ true →
         starts_with_lf (chars text.now) ≡ starts_with_lf leaf.now }
@@ -181,11 +182,10 @@ fn has_ends_of(text: &str, leaf: &Leaf) -> bool
     is_lf_first(text) == leaf.is_lf_first() && is_cr_last(text) == leaf.is_cr_last()
 }
 
-/// The leaf, or two leaves, with a text in the place of what stands from one byte index up to
-/// another: two where one would have 984 bytes and more. There is none where an index lies inside
-/// a character or past the end, where fewer than `least` bytes would be left or more than 1,960,
-/// and where an end would look different to a leaf beside it: an LF that is first, or a CR that is
-/// last, would come or go.
+/// Returns the leaf, or two leaves, with a text in place of a range of bytes: two if one would have
+/// at least 984 bytes. `None` if an index is inside a character or past the end, if fewer than
+/// `least` bytes would be left or more than 1,960, or if a first LF or a last CR would appear or
+/// disappear, which the neighbouring leaves depend on.
 fn with_text_replaced(
     alloc: Global,
     leaf: &Leaf,
@@ -224,7 +224,7 @@ fn with_text_replaced(
     Ok(Some(Leaves::Two(two.0, two.1)))
 }
 
-/// The nodes that leaves are put in.
+/// Puts leaves into nodes.
 fn nodes_over(alloc: Global, leaves: Leaves, made: &mut Made) -> Result<Edited, AllocError>
     requires { AreLeavesCounted leaves }
     ensures nodes { IfOk result (λ nodes. edited_nodes nodes ≡ map leaf_view (leaves_of leaves)) }
@@ -247,7 +247,7 @@ fn nodes_over(alloc: Global, leaves: Leaves, made: &mut Made) -> Result<Edited, 
     }
 }
 
-/// The nodes over children, with what came of the one at an index in its place.
+/// Returns the nodes over children, with the edited nodes in place of the child at an index.
 fn with_child_edited(
     alloc: Global,
     height: usize,
@@ -292,7 +292,7 @@ fn with_child_edited(
     }
 }
 
-/// How many bytes a leaf keeps at least: the one that ends the text may be short.
+/// Returns the least number of bytes that a leaf keeps: the one that ends the text may be short.
 fn least_kept(least: usize, is_end: bool) -> usize
     requires { 1 ≤ least }
     ensures some { 1 ≤ result }
@@ -301,10 +301,10 @@ fn least_kept(least: usize, is_end: bool) -> usize
     if is_end { 1 } else { least }
 }
 
-/// The node, or two nodes of its height, with a text in the place of what stands from one byte
-/// index up to another: the path to the leaf is copied, and a node on it that has 25 children then
-/// becomes two. What the node counts is known, and so what comes of it needn't be counted anew. A
-/// leaf keeps so many bytes at least, unless it ends the text and the node does.
+/// Returns the node, or two nodes of its height, with a text in place of a range of bytes. Copies
+/// the path to the leaf; a node on it that gets 25 children becomes two. The node's counts are
+/// given, so nothing is recounted. A leaf keeps at least `least` bytes, unless it and the node end
+/// the text.
 fn replaced(
     alloc: Global,
     node: &Rc<Node>,
@@ -368,16 +368,28 @@ fn replaced(
     }
 }
 
-/// The tree with a text in the place of what stands from one byte index up to another, if both lie
-/// in one leaf, which is the one in which the first index lies. The path to it is copied, and all
-/// else is shared; the tree itself stays as it is. A leaf that would have 984 bytes or more becomes
-/// two of about half of it each, and so does a node above it that has 25 children then; the tree
-/// is a level higher where its root does. There is none where an index lies inside a character or
-/// the second outside that leaf, where the leaf would have fewer than `least` bytes and isn't the
-/// last one, where it would have no text or more than 1,960 bytes, and where a CR LF might come to
-/// lie over one of its ends. One node is made a level where one leaf
-/// comes out, which is 19 at most; where two do, at most two a level and a root. Without a leaf
-/// that takes the text none is made.
+/// Returns the tree with a text in place of a range of bytes, if both ends are in the leaf that
+/// contains `from`. The path to it is copied, and all else is shared; the tree itself is unchanged.
+///
+/// A leaf that would have at least 984 bytes becomes two of about half of it each, and so does a
+/// node above it that gets 25 children; the tree becomes a level higher if its root does.
+///
+/// Returns `None`, and makes no node, if an index is inside a character, if `to` is outside that
+/// leaf, if the leaf would have fewer than `least` bytes and isn't the last one, if it would have
+/// no text or more than 1,960 bytes, or if a CR LF might then span one of its ends.
+///
+/// # Requires
+///
+/// `from <= to` and `least >= 1`, and the two texts together have fewer than 2^63 bytes.
+///
+/// # Errors
+///
+/// Out of memory.
+///
+/// # Complexity
+///
+/// Makes one node for each level, 19 at most, if one leaf replaces it; if two do, at most two for
+/// each level and a root.
 pub fn replace_in_leaf(
     alloc: Global,
     node: &Rc<Node>,

@@ -1,4 +1,4 @@
-//! Why a call on a rope is refused.
+//! Why a call on a rope fails.
 
 ghost use Rattle.std.specs.Prelude.{◌≡◌};
 ghost use Rattle.ropey_tree.specs.declared.error.Error.TheVariants.{Memory};
@@ -6,40 +6,40 @@ ghost use Rattle.ropey_tree.specs.declared.error.Error.TheVariants.{Memory};
 use std::alloc::{AllocError, AllocFailed};
 use thiserror::Error;
 
-/// Why a call is refused. What it was called on is as it was.
+/// Why a call fails. What it was called on is unchanged.
 #[derive(Clone, Copy, Debug, PartialEq, Eq, Error)]
 pub enum Error {
-    /// A byte index past the text's length in bytes: the index, and the length.
+    /// A byte index past the end: the index, and the text's length in bytes.
     #[error("byte index {0} is past the {1} bytes of the text")]
     ByteIndexOutOfBounds(usize, usize),
-    /// A character index past the number of characters: the index, and the number.
+    /// A character index past the end: the index, and the number of characters.
     #[error("character index {0} is past the {1} characters of the text")]
     CharIndexOutOfBounds(usize, usize),
-    /// A line index past the number of lines: the index, and the number.
+    /// A line index past the end: the index, and the number of lines.
     #[error("line index {0} is past the {1} lines of the text")]
     LineIndexOutOfBounds(usize, usize),
-    /// A UTF-16 code unit index past the number of units: the index, and the number.
+    /// A UTF-16 code unit index past the end: the index, and the number of units.
     #[error("UTF-16 code unit index {0} is past the {1} units of the text")]
     Utf16IndexOutOfBounds(usize, usize),
-    /// A range of characters that starts above its end: the start, and the end, exclusive.
+    /// A range of characters that starts past its end: the start, and the end, exclusive.
     #[error("character range starts at {0}, above its end at {1}")]
     CharRangeInvalid(usize, usize),
-    /// A range of bytes that starts above its end: the start, and the end, exclusive.
+    /// A range of bytes that starts past its end: the start, and the end, exclusive.
     #[error("byte range starts at {0}, above its end at {1}")]
     ByteRangeInvalid(usize, usize),
-    /// A range of characters that goes past the number of characters: the start and the end,
-    /// exclusive, each none where it is open, and the number.
+    /// A range of characters that goes past the end: its start and its end, exclusive, each `None`
+    /// if it is open, and the number of characters.
     #[error("character range goes past the {2} characters of the text")]
     CharRangeOutOfBounds(Option<usize>, Option<usize>, usize),
-    /// A range of bytes that goes past the text's length in bytes: the start and the end,
-    /// exclusive, each none where it is open, and the length.
+    /// A range of bytes that goes past the end: its start and its end, exclusive, each `None` if it
+    /// is open, and the text's length in bytes.
     #[error("byte range goes past the {2} bytes of the text")]
     ByteRangeOutOfBounds(Option<usize>, Option<usize>, usize),
-    /// A range of bytes that starts or ends inside a character: the start and the end, exclusive,
-    /// each none where it is open.
+    /// A range of bytes that starts or ends inside a character: its start and its end, exclusive,
+    /// each `None` if it is open.
     #[error("byte range starts or ends inside a character")]
     ByteRangeNotCharBoundary(Option<usize>, Option<usize>),
-    /// Memory was refused.
+    /// Out of memory.
     #[error("out of memory")]
     Memory,
     /// The text would have more than `isize::MAX` bytes.

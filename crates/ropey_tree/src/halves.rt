@@ -1,5 +1,4 @@
-//! One half of a tree, before a place or behind it, where the other is not wanted: that one is not
-//! built.
+//! One half of a tree, before an offset or after it, without building the other.
 
 ghost use Rattle.std.specs.Prelude.{◌+◌, ◌*◌, ◌<◌, ◌≤◌, [], ◌∷◌, IfOk};
 ghost use Rattle.std.specs.List.{concat};
@@ -15,7 +14,7 @@ use crate::visits::Visits;
 use std::alloc::{AllocError, Global};
 use std::rc::Rc;
 
-/// What stands before a place inside a leaf, as a leaf.
+/// Returns the text of a leaf before an offset, as a leaf.
 fn leaf_before(alloc: Global, leaf: &Leaf, at: usize) -> Result<Rc<Node>, AllocError>
     requires boundary { IsBoundaryOf leaf.now at }
     requires some { 0 < at }
@@ -27,7 +26,7 @@ fn leaf_before(alloc: Global, leaf: &Leaf, at: usize) -> Result<Rc<Node>, AllocE
     Ok(node)
 }
 
-/// What stands behind a place inside a leaf, as a leaf.
+/// Returns the text of a leaf after an offset, as a leaf.
 fn leaf_behind(alloc: Global, leaf: &Leaf, at: usize) -> Result<Rc<Node>, AllocError>
     requires boundary { IsBoundaryOf leaf.now at }
     requires some { 0 < at }
@@ -39,10 +38,17 @@ fn leaf_behind(alloc: Global, leaf: &Leaf, at: usize) -> Result<Rc<Node>, AllocE
     Ok(node)
 }
 
-/// The text before a byte index that lies between two characters, or at the start or the end. The
-/// tree stays as it is; what both it and the half hold, they share. The way to the place enters at
-/// most as many nodes as the tree is high. At an end of the text it enters none, and no memory is
-/// taken.
+/// Returns the text before a byte index. The tree is unchanged, and shares with the half what both
+/// have. Enters at most as many nodes as the tree is high; at an end of the text none, without
+/// allocating.
+///
+/// # Requires
+///
+/// The index is a character boundary.
+///
+/// # Errors
+///
+/// Out of memory.
 pub fn split_front(
     alloc: Global,
     node: &Rc<Node>,
@@ -80,7 +86,8 @@ pub fn split_front(
     }
 }
 
-/// The text behind a byte index, as `split_front` has the one before it.
+/// Returns the text after a byte index, as `split_front` returns the one before it, with the same
+/// requirement and errors.
 pub fn split_back(
     alloc: Global,
     node: &Rc<Node>,

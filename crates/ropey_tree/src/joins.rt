@@ -1,4 +1,4 @@
-//! Joining two trees of any heights.
+//! Joins two trees of any heights.
 
 ghost use Rattle.std.specs.Prelude.{◌≡◌, ◌++◌, IfOk};
 ghost use Rattle.ropey_tree.specs.Cutting.{IsRopeText};
@@ -11,7 +11,7 @@ use crate::siblings::{Joined, Siblings, over_two, pack};
 use std::alloc::{AllocError, Global};
 use std::rc::Rc;
 
-/// The children of two nodes of one height, or two leaves.
+/// Joins the children of two nodes of one height, or two leaves.
 fn beside(alloc: Global, left: &Rc<Node>, right: &Rc<Node>) -> Result<Joined, AllocError>
     requires level { left.now.value.height ≡ right.now.value.height }
     requires text { IsRopeText (left.now.value.pieces ++ right.now.value.pieces) }
@@ -30,7 +30,7 @@ fn beside(alloc: Global, left: &Rc<Node>, right: &Rc<Node>) -> Result<Joined, Al
             let Parts::Inner(back) = right.parts() else {
                 unreachable!()
             };
-            // For its facts alone.
+            // For the proof only.
             let _ = (front.len(), back.len());
             let joined = pack(
                 alloc,
@@ -43,8 +43,16 @@ fn beside(alloc: Global, left: &Rc<Node>, right: &Rc<Node>) -> Result<Joined, Al
     }
 }
 
-/// One node or two, as high as the higher of two nodes, whose pieces are theirs in order. The path
-/// down the side of the higher one is copied, and all else is shared.
+/// Joins two nodes: returns one node or two of the greater height, whose leaf texts are theirs in
+/// order. Copies the path down the side of the higher one, and shares all else.
+///
+/// # Requires
+///
+/// The leaf texts of both, in order, are those of a rope.
+///
+/// # Errors
+///
+/// Out of memory.
 pub fn join(alloc: Global, left: &Rc<Node>, right: &Rc<Node>) -> Result<Joined, AllocError>
     requires { IsRopeText (left.now.value.pieces ++ right.now.value.pieces) }
     ensures { IfOk result (λ joined. AreJoined left.now.value right.now.value (nodes_of joined)) }
@@ -64,7 +72,7 @@ pub fn join(alloc: Global, left: &Rc<Node>, right: &Rc<Node>) -> Result<Joined, 
         let Parts::Inner(back) = right.parts() else {
             unreachable!()
         };
-        // For its facts alone.
+        // For the proof only.
         let _ = back.len();
         let first = join(alloc, left, back.get(0))?;
         let joined = pack(alloc, r, Siblings::Back(&first, back), &mut Made::new())?;
@@ -72,7 +80,15 @@ pub fn join(alloc: Global, left: &Rc<Node>, right: &Rc<Node>) -> Result<Joined, 
     }
 }
 
-/// One tree of the pieces of two, in order. Neither of them changes.
+/// Returns one tree of the leaf texts of two, in order. Both are unchanged.
+///
+/// # Requires
+///
+/// The leaf texts of both, in order, are those of a rope.
+///
+/// # Errors
+///
+/// Out of memory.
 pub fn concat(alloc: Global, left: &Rc<Node>, right: &Rc<Node>) -> Result<Rc<Node>, AllocError>
     requires { IsRopeText (left.now.value.pieces ++ right.now.value.pieces) }
     ensures { IfOk result (λ node. node.value.pieces ≡ left.now.value.pieces ++

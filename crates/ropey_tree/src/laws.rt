@@ -3,8 +3,8 @@
 
 ghost use Rattle.ropey_tree.specs.Laws.{CountsAreOfTheText};
 
-/// The counts of the pieces of a cutting, added up, are those of the whole text: no break is
-/// counted twice or lost, since no CR LF is cut.
+/// The sum of the counts of leaf texts is the counts of the whole text: no break is counted twice
+/// or lost, because no CR LF spans two leaves.
 pub fn counts_of_a_cutting()
     ensures { CountsAreOfTheText }
 {}

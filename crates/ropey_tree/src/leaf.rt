@@ -1,4 +1,4 @@
-//! A leaf: a piece of text of 1 to `MAX_BYTES` bytes.
+//! A leaf: a text of 1 to `MAX_BYTES` bytes.
 
 ghost use Rattle.std.specs.Prelude.{◌≡◌, ◌+◌, ◌<◌, ◌≤◌, ◌⊎◌, ◌++◌, [], length, take, drop, true, false, encode_utf8_all, string_bytes, IfOk};
 ghost use Rattle.std.specs.Str.{chars, IsCharBoundary};
@@ -13,7 +13,7 @@ use arrayvec::ArrayString;
 use std::alloc::{AllocError, Global};
 use std::marker::Model;
 
-/// A text of 1 to `MAX_BYTES` bytes: the `NodeText` of `ropey`. It takes as many bytes as it has.
+/// A text of 1 to `MAX_BYTES` bytes: `NodeText` in `ropey`. It takes as many bytes as it has.
 /// Contracts see its characters.
 #[derive(Drop)]
 pub struct Leaf {
@@ -33,7 +33,15 @@ impl Model for Leaf {
 }
 
 impl Leaf {
-    /// A leaf of a text.
+    /// Returns a leaf with a copy of a text.
+    ///
+    /// # Requires
+    ///
+    /// The text has 1 to 984 bytes.
+    ///
+    /// # Errors
+    ///
+    /// Out of memory.
     pub fn new(alloc: Global, text: &str) -> Result<Self, AllocError>
         requires not_empty { 1 ≤ length text.now }
         requires not_long { length text.now ≤ 984 }
@@ -43,7 +51,7 @@ impl Leaf {
         Ok(Leaf { text })
     }
 
-    /// A leaf of a text, which isn't copied.
+    /// Returns a leaf with a text, without copying it.
     pub(crate) fn of(text: String) -> Self
         requires not_empty { 1 ≤ length (string_bytes text) }
         requires not_long { length (string_bytes text) ≤ 984 }
@@ -52,7 +60,7 @@ impl Leaf {
         Leaf { text }
     }
 
-    /// The text.
+    /// Returns the text.
     #[inline]
     pub fn as_str(&self) -> &str
         ensures text { chars result.now ≡ self.now }
@@ -62,21 +70,21 @@ impl Leaf {
         self.text.as_str()
     }
 
-    /// What the text counts.
+    /// Returns the counts of the text.
     pub fn counts(&self) -> Counts
         ensures { result ≡ counts_of self.now }
     {
         Counts::of(self.as_str())
     }
 
-    /// Whether the first character is LF.
+    /// Returns whether the first character is LF.
     pub(crate) fn is_lf_first(&self) -> bool
         ensures { result ≡ starts_with_lf self.now }
     {
         is_lf_first(self.as_str())
     }
 
-    /// Whether the last character is CR.
+    /// Returns whether the last character is CR.
     pub(crate) fn is_cr_last(&self) -> bool
         ensures { result ≡ ends_with_cr self.now }
     {
@@ -84,8 +92,8 @@ impl Leaf {
     }
 }
 
-/// A leaf that is being filled: a text of at most `MAX_BYTES` bytes. A CR ends it only where an LF
-/// that comes next still has room. Contracts see its characters.
+/// A leaf under construction: a text of at most `MAX_BYTES` bytes. It ends with CR only if there is
+/// still room for an LF after it. Contracts see its characters.
 #[derive(Drop)]
 pub struct LeafBuffer {
     text: ArrayString<MAX_BYTES>,
@@ -105,7 +113,7 @@ impl Model for LeafBuffer {
 }
 
 impl LeafBuffer {
-    /// No text yet.
+    /// Returns the empty buffer.
     pub fn new() -> Self
         ensures { result ≡ [] }
     {
@@ -114,25 +122,25 @@ impl LeafBuffer {
         }
     }
 
-    /// Another buffer of the same text.
+    /// Returns a copy.
     pub fn copy(&self) -> Self
         ensures { result ≡ self.now }
     {
         LeafBuffer { text: self.text }
     }
 
-    /// How many more bytes there is room for.
+    /// Returns the number of bytes that are free.
     #[inline]
     pub fn room(&self) -> usize
         ensures { byte_len self.now + result ≡ 984 }
     {
-        // For its facts alone.
+        // For the proof only.
         let _ = self.text.as_str();
         self.text.remaining_capacity()
     }
 
-    /// Takes the front of a text, as much as there is room for but for a part of a character or of
-    /// a CR LF, and answers how many bytes that is.
+    /// Appends as much from the start of a text as there is room for, but no part of a character or
+    /// of a CR LF, and returns the number of bytes.
     pub fn fill(&mut self, text: &str) -> usize
         ensures within { result ≤ length text.now }
         ensures boundary { IsCharBoundary text.now result }
@@ -141,28 +149,36 @@ impl LeafBuffer {
         ensures all { byte_len self.old + length text.now < 984 → result ≡ length text.now }
         ensures full { (result ≡ length text.now) ⊎ (980 ≤ byte_len self.new) }
     {
-        // For its facts alone.
+        // For the proof only.
         let _ = self.text.as_str();
         let end = fill_end(text, self.text.remaining_capacity());
         self.text.push_str(&text[..end]);
         end
     }
 
-    /// The leaf of the text.
+    /// Returns the leaf with the text.
+    ///
+    /// # Requires
+    ///
+    /// The text isn't empty.
+    ///
+    /// # Errors
+    ///
+    /// Out of memory.
     pub fn into_leaf(self, alloc: Global) -> Result<Leaf, AllocError>
         requires { 1 ≤ byte_len self }
         ensures text { IfOk result (λ leaf. leaf ≡ self) }
         ensures piece { IfOk result (λ _. IsPiece self) }
     {
         let leaf = Leaf::new(alloc, self.text.as_str())?;
-        // For its facts alone.
+        // For the proof only.
         let _ = leaf.as_str();
         Ok(leaf)
     }
 }
 
-/// How many bytes of a text go into a room: as many as may be, but no part of a character, and no
-/// CR that would leave no room for an LF after it.
+/// Returns how many bytes of a text go into `room` bytes: as many as possible, but no part of a
+/// character, and no CR that would leave no room for an LF after it.
 pub(crate) fn fill_end(text: &str, room: usize) -> usize
     ensures within { result ≤ length text.now }
     ensures fits { result ≤ room }
@@ -184,14 +200,14 @@ pub(crate) fn fill_end(text: &str, room: usize) -> usize
     }
 }
 
-/// Whether the first character of a text is LF. An empty text has none.
+/// Returns whether the first character of a text is LF.
 pub(crate) fn is_lf_first(text: &str) -> bool
     ensures { result ≡ starts_with_lf (chars text.now) }
 {
     !text.is_empty() && text.as_bytes()[0] == b'\n'
 }
 
-/// Whether the last character of a text is CR. An empty text has none.
+/// Returns whether the last character of a text is CR.
 pub(crate) fn is_cr_last(text: &str) -> bool
     ensures { result ≡ ends_with_cr (chars text.now) }
 {

@@ -1,5 +1,5 @@
-//! The tree that a rope is made of: leaves of text under nodes of children, with counts kept beside
-//! each child, as the inner part of the Rust crate `ropey` has them.
+//! The tree of a rope: leaves of text under nodes with children, each with the counts of its text,
+//! as the inner part of the Rust crate `ropey` has them.
 #![tactic(auto)]
 
 pub mod breaks;
@@ -21,14 +21,15 @@ pub mod siblings;
 pub mod splits;
 pub mod visits;
 
-/// The most bytes of a leaf's text.
+/// The greatest number of bytes of a leaf.
 pub const MAX_BYTES: usize = 984;
 
-/// The fewest bytes of a leaf that takes none from the leaf beside it where two texts are joined.
+/// The least number of bytes of a leaf that takes no text from its neighbour when two texts are
+/// joined.
 pub const MIN_BYTES: usize = 462;
 
-/// The most children of a node.
+/// The greatest number of children of a node.
 pub const MAX_CHILDREN: usize = 24;
 
-/// The fewest children of a node that is not the root.
+/// The least number of children of a node other than the root.
 pub const MIN_CHILDREN: usize = 12;

@@ -1,4 +1,4 @@
-//! A count of the nodes that an edit makes, for contracts alone.
+//! A count of the nodes that an edit makes, for contracts only.
 
 ghost use Rattle.std.specs.Prelude.{◌≡◌, ◌+◌, IfOk};
 
@@ -8,8 +8,8 @@ use std::alloc::{AllocError, Global};
 use std::marker::Model;
 use std::rc::Rc;
 
-/// How many nodes were made. It takes no bytes when the program runs, and only making a node to
-/// share changes it.
+/// The number of nodes that were made. It has no bytes at run time, and only making a node to share
+/// changes it.
 #[derive(Drop)]
 pub struct Made {
     nodes: Counter,
@@ -24,7 +24,7 @@ impl Model for Made {
 }
 
 impl Made {
-    /// None yet.
+    /// Returns 0.
     #[inline(always)]
     pub fn new() -> Self
         ensures { result.nodes ≡ 0 }
@@ -34,7 +34,7 @@ impl Made {
         }
     }
 
-    /// A node to share, which is one more, also where memory for it is refused.
+    /// Returns a node to share and counts it, also if there is no memory for it.
     #[inline(always)]
     pub(crate) fn share(&mut self, alloc: Global, node: Node) -> Result<Rc<Node>, AllocError>
         ensures counted { self.new.nodes ≡ self.old.nodes + 1 }

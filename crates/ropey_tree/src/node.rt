@@ -1,4 +1,4 @@
-//! Nodes: leaves, and nodes of children one level below.
+//! Nodes: leaves, and nodes with children one level below.
 
 ghost use Rattle.std.specs.Prelude.{◌≡◌, ◌+◌, ◌-◌, ◌*◌, ◌<◌, ◌≤◌, [], ◌∷◌, length, true, IfSome};
 ghost use Rattle.str_indices.specs.Text.{byte_len};
@@ -12,7 +12,7 @@ use crate::leaf::Leaf;
 use crate::visits::Visits;
 use std::marker::Model;
 
-/// A text in pieces, in a tree. Contracts see the pieces, the height and the number of children.
+/// A text in a tree. Contracts see the leaf texts, the height and the number of children.
 #[cycle(node)]
 #[derive(Drop)]
 pub struct Node {
@@ -22,7 +22,7 @@ pub struct Node {
 #[cycle(node)]
 #[derive(Drop)]
 enum Body {
-    // What a node has lies elsewhere, and takes as much room as there is of it.
+    // A leaf's text is on the heap, in an allocation of its length.
     Leaf(Leaf),
     // The height, and the children.
     Inner(usize, Children),
@@ -48,18 +48,18 @@ impl Model for Node {
 }
 
 impl Node {
-    /// A leaf as a node.
+    /// Returns a leaf as a node.
     pub fn from_leaf(leaf: Leaf) -> Self
         ensures { result ≡ leaf_view leaf }
     {
-        // For its facts alone.
+        // For the proof only.
         let _ = leaf.as_str();
         Node {
             body: Body::Leaf(leaf),
         }
     }
 
-    /// A node over children that are one level below its height.
+    /// Returns a node over children that are one level below its height.
     pub(crate) fn from_children(height: usize, children: Children) -> Self
         requires { IsInner height children }
         ensures { result ≡ inner_view height children }
@@ -69,7 +69,7 @@ impl Node {
         }
     }
 
-    /// How many levels there are below: 0 for a leaf.
+    /// Returns the number of levels below: 0 for a leaf.
     #[inline]
     pub fn height(&self) -> usize
         ensures value { result ≡ self.now.height }
@@ -79,26 +79,26 @@ impl Node {
     {
         match &self.body {
             Body::Leaf(leaf) => {
-                // For its facts alone.
+                // For the proof only.
                 let _ = leaf.as_str();
                 0
             }
             Body::Inner(height, children) => {
-                // For its facts alone.
+                // For the proof only.
                 let _ = children.len();
                 *height
             }
         }
     }
 
-    /// The leaf, or the children.
+    /// Returns the leaf, or the children.
     #[inline]
     pub(crate) fn parts(&self) -> Parts<'_>
         ensures { ShowsParts self.now result }
     {
         match &self.body {
             Body::Leaf(leaf) => {
-                // For its facts alone.
+                // For the proof only.
                 let _ = leaf.as_str();
                 Parts::Leaf(leaf)
             }
@@ -106,7 +106,7 @@ impl Node {
         }
     }
 
-    /// What the text counts.
+    /// Returns the counts of the text.
     pub fn counts(&self) -> Counts
         ensures { result ≡ total self.now.pieces }
     {
@@ -117,7 +117,7 @@ impl Node {
     }
 }
 
-/// What a node is made of.
+/// The contents of a node.
 #[derive(Clone, Copy)]
 pub(crate) enum Parts<'a> {
     /// The leaf.
@@ -126,19 +126,23 @@ pub(crate) enum Parts<'a> {
     Inner(&'a Children),
 }
 
-/// A child that was entered, and what stands before it.
+/// A child that was entered, and the counts before it.
 #[derive(Clone, Copy)]
 pub struct Entered<'a> {
     /// The child.
     pub node: &'a Node,
-    /// What the children before it count together.
+    /// The counts of the children before it.
     pub before: Counts,
-    /// What it counts itself.
+    /// Its own counts.
     pub len: Counts,
 }
 
-/// The child in which place `i` of a measure lies: the first up to whose end more than `i` stand,
+/// Enters the child that contains position `i` of a measure: the first whose end is past `i`, or
 /// else the last.
+///
+/// # Requires
+///
+/// The node isn't a leaf.
 #[inline]
 pub fn enter<'a>(node: &'a Node, by: By, i: usize, visits: &mut Visits) -> Entered<'a>
     requires { 0 < node.now.height }
@@ -162,21 +166,21 @@ pub fn enter<'a>(node: &'a Node, by: By, i: usize, visits: &mut Visits) -> Enter
     }
 }
 
-/// A node on the way to a place, and what stands before it.
+/// A node on the path to a position, and the counts before it.
 #[derive(Clone, Copy)]
 pub struct OnTheWay<'a> {
     /// The node.
     pub node: &'a Node,
-    /// What the nodes of its height before it count together.
+    /// The counts of the nodes of its height before it.
     pub before: Counts,
-    /// Whether it is known that each character of its text is one byte.
+    /// Whether each character of its text is known to be one byte.
     pub is_ascii: bool,
     ghost ascii: { is_ascii ≡ true →
         (total node.now.pieces).chars ≡ (total node.now.pieces).bytes },
 }
 
-/// The node of a height in which place `i` of a measure lies: on each level above it the first up
-/// to whose end more than `i` stand, else the last.
+/// Returns the node of a height that contains position `i` of a measure: on each level above it the
+/// first whose end is past `i`, or else the last.
 fn descend_to<'a>(
     node: &'a Node,
     height: usize,
@@ -207,29 +211,29 @@ fn descend_to<'a>(
     }
 }
 
-/// A leaf that was found, and what stands before it.
+/// A leaf that was found, and the counts before it.
 #[derive(Clone, Copy)]
 pub struct Found<'a> {
     /// The leaf.
     pub leaf: &'a Leaf,
-    /// What the leaves before it count together.
+    /// The counts of the leaves before it.
     pub before: Counts,
-    /// Whether it is known that each character of its text is one byte.
+    /// Whether each character of its text is known to be one byte.
     pub is_ascii: bool,
     ghost ascii: { is_ascii ≡ true → length leaf.now ≡ byte_len leaf.now },
 }
 
-/// The leaf in which place `i` of a measure lies: the first up to whose end more than `i` stand,
-/// else the last. The path to it enters at most 18 nodes below the root, 19 with the root. What a
-/// leaf counts is known on the way, so where each character of its text is one byte, that is told;
-/// of a root that is a leaf it isn't.
+/// Returns the leaf that contains position `i` of a measure: the first whose end is past `i`, or
+/// else the last. The path enters at most 18 nodes below the root. The counts of a leaf are known
+/// on the way, so it is also returned whether each of its characters is one byte, except for a root
+/// that is a leaf.
 pub fn descend<'a>(node: &'a Node, by: By, i: usize, visits: &mut Visits) -> Found<'a>
     ensures lies { LiesIn node.now.pieces (result.leaf.now ∷ []) by i result.before }
     ensures visited { visits.new.nodes ≡ visits.old.nodes + node.now.height }
     ensures few { visits.new.nodes ≤ visits.old.nodes + 18 }
     ensures compared { visits.new.comparisons ≤ visits.old.comparisons + 5 * node.now.height }
 {
-    // For its facts alone.
+    // For the proof only.
     let _ = node.height();
     let OnTheWay {
         node: at,
@@ -247,7 +251,7 @@ pub fn descend<'a>(node: &'a Node, by: By, i: usize, visits: &mut Visits) -> Fou
     }
 }
 
-/// `descend`, for callers that count no visits.
+/// `descend` without a count of visits.
 pub fn leaf_at(node: &Node, by: By, i: usize) -> Found<'_>
     ensures { LiesIn node.now.pieces (result.leaf.now ∷ []) by i result.before }
 {
@@ -255,7 +259,7 @@ pub fn leaf_at(node: &Node, by: By, i: usize) -> Found<'_>
 }
 
 impl<'a> OnTheWay<'a> {
-    /// Whether place `i` of a measure of the whole text lies in the node.
+    /// Returns whether the node contains position `i` of a measure of the whole text.
     #[inline]
     fn has(&self, by: By, i: usize) -> bool
         ensures from { result ≡ true → amount by self.now.before ≤ i }
@@ -270,8 +274,8 @@ impl<'a> OnTheWay<'a> {
     }
 }
 
-/// The lowest node above the leaf in which place `i` of a measure lies, or a root that is a leaf:
-/// one that is in hand if the place lies there.
+/// Returns the lowest node above the leaf that contains position `i` of a measure, or a root that
+/// is a leaf. If the given node contains the position, it is returned.
 #[inline]
 fn way_near<'a>(node: &'a Node, near: Option<OnTheWay<'a>>, by: By, i: usize) -> OnTheWay<'a>
     requires { IfSome near (λ way. StandsIn node.now.pieces way.node.now.pieces way.before) }
@@ -285,15 +289,19 @@ fn way_near<'a>(node: &'a Node, near: Option<OnTheWay<'a>>, by: By, i: usize) ->
     descend_to(node, node.height().min(1), by, i, &mut Visits::new())
 }
 
-/// `leaf_at`, for callers that go from leaf to leaf: the node above the leaf that was found stays in
-/// hand, and what lies under it is found from there.
+/// `leaf_at` for callers that go from leaf to leaf: it remembers the node above the leaf, and
+/// searches from there if that contains the next position.
+///
+/// # Requires
+///
+/// The node remembered is one of this tree.
 pub fn leaf_near<'a>(node: &'a Node, near: &mut Option<OnTheWay<'a>>, by: By, i: usize) -> Found<'a>
     requires { IfSome near.old (λ way. StandsIn node.now.pieces way.node.now.pieces way.before) }
     ensures near { IfSome near.new (λ way.
         StandsIn node.now.pieces way.node.now.pieces way.before) }
     ensures lies { LiesIn node.now.pieces (result.leaf.now ∷ []) by i result.before }
 {
-    // For its facts alone.
+    // For the proof only.
     let _ = node.height();
     let way = way_near(node, *near, by, i);
     let found = descend(way.node, by, i - way.before.by(by), &mut Visits::new());

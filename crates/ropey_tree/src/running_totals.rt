@@ -1,4 +1,4 @@
-//! Running totals, and the halving that finds a place among them.
+//! Running totals, and the binary search for a position among them.
 
 ghost use Rattle.std.specs.Prelude.{◌≡◌, ◌+◌, ◌-◌, ◌<◌, ◌≤◌, ◌⊎◌, ◌↔◌, IsTrue, [], ◌∷◌, ◌++◌, length, slice_index_or, take, drop, map, All, IfOk, OnOk};
 ghost use Rattle.ropey_tree.specs.Counts.{amount, zero_counts, plus, minus, FitsWith};
@@ -8,9 +8,9 @@ use crate::visits::Visits;
 use std::alloc::{AllocError, Global};
 use std::marker::Model;
 
-/// What the first of some texts in a row count together: entry `k` is that of all up to and with
-/// the one at `k`. So a place is found by halving them, and what one text counts is a difference.
-/// `find` counts each comparison of one with a place.
+/// The counts of the first of some texts in a row: entry `k` is that of all up to and including the
+/// one at `k`. So a position is found by binary search, and the counts of one text are a
+/// difference. `find` counts its comparisons.
 #[derive(Drop)]
 pub(crate) struct RunningTotals {
     ends: Vec<Counts>,
@@ -26,7 +26,7 @@ impl Model for RunningTotals {
 }
 
 impl RunningTotals {
-    /// None yet, with room for so many.
+    /// Returns no totals, with room for `number`.
     pub(crate) fn with_capacity(alloc: Global, number: usize) -> Result<Self, AllocError>
         ensures { IfOk result (λ totals. totals ≡ []) }
     {
@@ -34,7 +34,7 @@ impl RunningTotals {
         Ok(RunningTotals { ends })
     }
 
-    /// How many there are.
+    /// Returns the number of totals.
     #[inline]
     pub(crate) fn len(&self) -> usize
         ensures { result ≡ length self.now }
@@ -42,7 +42,8 @@ impl RunningTotals {
         self.ends.len()
     }
 
-    /// What stands before the text at an index, or, at their number, what all count together.
+    /// Returns the counts before the text at an index, or of all texts if the index is their
+    /// number.
     #[inline]
     pub(crate) fn before(&self, k: usize) -> Counts
         requires { k ≤ length self.now }
@@ -56,7 +57,7 @@ impl RunningTotals {
         }
     }
 
-    /// Appends what all texts count together with one more.
+    /// Appends the counts of all texts with one more.
     pub(crate) fn push(&mut self, total: Counts) -> Result<(), AllocError>
         ensures { OnOk result (self.new ≡ self.old ++ total ∷ []) }
     {
@@ -64,8 +65,8 @@ impl RunningTotals {
         Ok(())
     }
 
-    /// What they are where another text stands in the place of the one at an index: those before
-    /// it stay, and all others are less by what that counted and more by what this one counts.
+    /// Returns the totals with another text at an index: those before it are unchanged, and all
+    /// others differ by the difference of the two texts' counts.
     pub(crate) fn with_replaced(
         &self,
         alloc: Global,
@@ -86,7 +87,7 @@ impl RunningTotals {
         Ok(RunningTotals { ends })
     }
 
-    /// Whether more than `i` stand in a measure up to the end of the text at an index, which is one
+    /// Returns whether the end of the text at an index is past `i` in a measure, which counts as a
     /// comparison.
     #[inline]
     fn is_past(&self, k: usize, by: By, i: usize, visits: &mut Visits) -> bool
@@ -99,8 +100,8 @@ impl RunningTotals {
         i < self.ends[k].by(by)
     }
 
-    /// The index of the first text up to whose end more than `i` stand in a measure, else of the
-    /// last. What is left to look through is halved by each comparison.
+    /// Returns the index of the first text whose end is past `i` in a measure, or else of the last.
+    /// Each comparison halves the range.
     #[inline]
     pub(crate) fn find(&self, by: By, i: usize, visits: &mut Visits) -> usize
         requires some { 0 < length self.now }
@@ -117,8 +118,8 @@ impl RunningTotals {
         let mut low = 0;
         let mut left = self.len() - 1;
         while left > 0 {
-            // Both halves count as equally long. So how often this turns doesn't depend on what is
-            // found, and the processor has no jump to foresee.
+            // Both halves are taken to have the same length, so the number of turns doesn't depend
+            // on the result, and no branch has to be predicted.
             let rest = left / 2;
             let half = left - rest;
             if !self.is_past(low + half - 1, by, i, visits) {

@@ -1,9 +1,8 @@
-//! Joining any two texts: leaves at the seam that fit into one become one, a short leaf there is
-//! filled from the one beside it, and no CR LF comes to lie over the seam.
+//! Joins any two texts: leaves at the seam that fit into one become one, a short leaf there is
+//! filled from its neighbour, and no CR LF is split across the seam.
 //!
-//! Edits stand on this: an insertion splits a tree at its place and appends the text between the
-//! halves; a removal splits at both its ends and appends what is left of the first to what is right
-//! of the second.
+//! Edits use this: an insertion splits a tree and appends the text between the halves; a removal
+//! splits it twice and appends the right part to the left.
 
 ghost use Rattle.std.specs.Prelude.{◌≡◌, ◌+◌, ◌<◌, ◌≤◌, ◌^◌, ◌⊎◌, ◌++◌, [], ◌∷◌, true, false, length, take, drop, IfOk, IfSome, IfNone};
 ghost use Rattle.std.specs.List.{concat};
@@ -23,8 +22,8 @@ use crate::{MAX_BYTES, MIN_BYTES, joins};
 use std::alloc::{AllocError, Global};
 use std::rc::Rc;
 
-/// A leaf over the seam of two texts. It takes the place of the end of the one's last leaf, from a
-/// byte index on, and of the start of the other's first leaf, up to a byte index.
+/// A leaf for the seam of two texts. It replaces the end of the left text's last leaf, from a byte
+/// index on, and the start of the right text's first leaf, up to a byte index.
 #[derive(Drop)]
 struct Seam {
     leaf: LeafBuffer,
@@ -32,7 +31,7 @@ struct Seam {
     to: usize,
 }
 
-/// A CR LF, which is to be a leaf.
+/// Returns CR LF as a leaf under construction.
 fn cr_lf() -> LeafBuffer
     ensures text { result ≡ 13 ∷ 10 ∷ [] }
     ensures some { 1 ≤ byte_len result }
@@ -43,7 +42,7 @@ fn cr_lf() -> LeafBuffer
 }
 
 impl Seam {
-    /// What stands from an index of the last leaf of a text up to one of the first leaf of another.
+    /// Returns the text from an index of one text's last leaf to an index of another's first leaf.
     fn over(last: &str, from: usize, first: &str, to: usize) -> Seam
         requires from { IsCharBoundary last.now from }
         requires to { IsCharBoundary first.now to }
@@ -60,9 +59,9 @@ impl Seam {
         Seam { leaf, from, to }
     }
 
-    /// The seam of the last leaf of a text and the first of another: one leaf where they fit into
-    /// it, half of their text where either is short, and else a CR LF that lies across. There is
-    /// none where they can stay as they are. What ends the whole text may be short.
+    /// Returns the seam of the last leaf of a text and the first of another: one leaf if they fit
+    /// into it, half of their text if either is short, or else a CR LF that spans both. `None` if
+    /// they can stay unchanged. A leaf that ends the whole text may be short.
     fn of(last: &Leaf, first: &Leaf, is_end: bool) -> Option<Seam>
         ensures between { IfSome result (λ seam. StandsBetween (last.now ∷ []) seam.from seam.leaf
             (first.now ∷ []) seam.to) }
@@ -97,11 +96,18 @@ impl Seam {
     }
 }
 
-/// The tree of two texts that are joined, of which neither or either may be empty. The leaves at
-/// the seam become one where they fit into it. Where they don't, and one of them has fewer than 462
-/// bytes, they share their text. Where a CR that ends the first text meets an LF that starts the
-/// second, these two come into one leaf. What the trees held before and what the new one holds,
-/// they share. Want of memory is the only refusal.
+/// Joins two texts, each possibly empty. The leaves at the seam become one if they fit. If they
+/// don't, and one of them has fewer than 462 bytes, they share their text. If a CR that ends the
+/// first text meets an LF that starts the second, both go into one leaf. The new tree shares with
+/// the old ones what they have in common.
+///
+/// # Requires
+///
+/// Both texts together have fewer than 2^63 bytes.
+///
+/// # Errors
+///
+/// Out of memory.
 pub fn append(
     alloc: Global,
     left: Option<Rc<Node>>,
@@ -121,7 +127,7 @@ pub fn append(
     }
 }
 
-/// `joins::concat`, where the front may have no text.
+/// `joins::concat` for a front that may be empty.
 fn behind(alloc: Global, front: Option<Rc<Node>>, back: Rc<Node>) -> Result<Rc<Node>, AllocError>
     requires { IsRopeText (pieces_in front ++ back.value.pieces) }
     ensures { IfOk result (λ node. node.value.pieces ≡ pieces_in front ++ back.value.pieces) }
@@ -135,15 +141,15 @@ fn behind(alloc: Global, front: Option<Rc<Node>>, back: Rc<Node>) -> Result<Rc<N
     }
 }
 
-/// `append` of two texts that aren't empty. The leaf that comes to stand at their seam is joined
-/// with what follows it in turn.
+/// `append` of two texts that aren't empty. The leaf at their seam is then joined with what follows
+/// it.
 fn append_both(alloc: Global, left: &Rc<Node>, right: &Rc<Node>) -> Result<Rc<Node>, AllocError>
     requires fits { (total left.now.value.pieces).bytes + (total right.now.value.pieces).bytes
         < 2 ^ 63 }
     ensures { IfOk result (λ tree. concat tree.value.pieces ≡ concat left.now.value.pieces ++
         concat right.now.value.pieces) }
 {
-    // For its facts alone.
+    // For the proof only.
     let _ = (left.height(), right.height());
     let end = left.counts().bytes;
     let last = leaf_at(left, By::Bytes, end).leaf;
@@ -162,7 +168,7 @@ fn append_both(alloc: Global, left: &Rc<Node>, right: &Rc<Node>) -> Result<Rc<No
         None => leaf,
         Some(rest) => append_both(alloc, &leaf, &rest)?,
     };
-    // For its facts alone.
+    // For the proof only.
     let _ = back.height();
     let tree = behind(alloc, before, back)?;
     Ok(tree)

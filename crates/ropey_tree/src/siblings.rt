@@ -23,20 +23,20 @@ pub enum Joined {
     Two(Rc<Node>, Rc<Node>),
 }
 
-/// Nodes of one height, in order, which are stored in several places.
+/// Nodes of one height, in order, which are stored in several lists.
 #[derive(Clone, Copy)]
 pub(crate) enum Siblings<'a> {
     /// The children of one node.
     One(&'a Children),
-    /// Nodes side by side.
+    /// Sibling nodes.
     Nodes(&'a [Rc<Node>]),
     /// The children of two nodes.
     Both(&'a Children, &'a Children),
-    /// All children but the last, and then what stands in its place.
+    /// All children but the last, and then its replacement.
     Front(&'a Children, &'a Joined),
-    /// What stands in the place of the first child, and then all others.
+    /// The replacement of the first child, and then all others.
     Back(&'a Joined, &'a Children),
-    /// All children, but for what stands in the place of the one at an index.
+    /// All children, with the one at an index replaced.
     Within(&'a Children, usize, &'a Joined),
 }
 
@@ -66,7 +66,7 @@ impl Joined {
 }
 
 impl Siblings<'_> {
-    /// How many there are.
+    /// Returns the number of nodes.
     pub(crate) fn len(&self) -> usize
         requires { IsFilled self.now }
         ensures { result ≡ length (siblings_of self.now) }
@@ -81,7 +81,7 @@ impl Siblings<'_> {
         }
     }
 
-    /// The one at an index.
+    /// Returns the node at an index.
     fn get(&self, k: usize) -> &Rc<Node>
         requires filled { IsFilled self.now }
         requires within { k < length (siblings_of self.now) }
@@ -126,7 +126,7 @@ impl Siblings<'_> {
         }
     }
 
-    /// What the one at an index counts.
+    /// Returns the counts of the node at an index.
     fn count(&self, k: usize) -> Counts
         requires filled { IsFilled self.now }
         requires within { k < length (siblings_of self.now) }
@@ -172,7 +172,7 @@ impl Siblings<'_> {
         }
     }
 
-    /// Copies of those from one index up to another.
+    /// Returns copies of the nodes in a range of indices.
     pub(crate) fn gather(
         &self,
         alloc: Global,
@@ -196,7 +196,7 @@ impl Siblings<'_> {
     }
 }
 
-/// A node over children, which is one that is made.
+/// Makes a node over children.
 pub(crate) fn over(
     alloc: Global,
     height: usize,
@@ -213,7 +213,7 @@ pub(crate) fn over(
     Ok(node)
 }
 
-/// A node over two nodes of one height, which is one that is made.
+/// Makes a node over two nodes of one height.
 pub(crate) fn over_two(
     alloc: Global,
     height: usize,
@@ -235,7 +235,7 @@ pub(crate) fn over_two(
     Ok(node)
 }
 
-/// One node over up to 24, or two nodes over its halves: these are made.
+/// Makes one node over up to 24 nodes, or two nodes over their halves.
 pub(crate) fn pack(
     alloc: Global,
     height: usize,

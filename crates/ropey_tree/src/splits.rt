@@ -1,4 +1,4 @@
-//! Splitting a tree between two characters.
+//! Splits a tree between two characters.
 
 ghost use Rattle.std.specs.Prelude.{◌≡◌, ◌+◌, ◌*◌, ◌≤◌, ◌++◌, IfOk, take, length};
 ghost use Rattle.std.specs.List.{concat};
@@ -17,16 +17,16 @@ use crate::visits::Visits;
 use std::alloc::{AllocError, Global};
 use std::rc::Rc;
 
-/// What is left and right of a place. A side with no text has no tree.
+/// The texts before and after an offset. A side without text has no tree.
 #[derive(Drop)]
 pub struct Halves {
-    /// What stands before the place.
+    /// The text before the offset.
     pub left: Option<Rc<Node>>,
-    /// What stands after it.
+    /// The text after it.
     pub right: Option<Rc<Node>>,
 }
 
-/// The halves of a leaf.
+/// Returns the halves of a leaf.
 fn split_leaf(alloc: Global, node: &Rc<Node>, leaf: &Leaf, at: usize) -> Result<Halves, AllocError>
     requires leaf { node.now.value ≡ leaf_view leaf.now }
     requires boundary { IsBoundaryOf leaf.now at }
@@ -58,7 +58,7 @@ fn split_leaf(alloc: Global, node: &Rc<Node>, leaf: &Leaf, at: usize) -> Result<
     })
 }
 
-/// A tree over the children from one index up to another.
+/// Returns a tree over the children in a range of indices.
 pub(crate) fn tree_over(
     alloc: Global,
     height: usize,
@@ -72,7 +72,7 @@ pub(crate) fn tree_over(
     ensures { IfOk result (λ tree. all_pieces (take from children.now) ++ pieces_in tree ≡
         all_pieces (take to children.now)) }
 {
-    // For its facts alone.
+    // For the proof only.
     let _ = children.len();
     if from == to {
         return Ok(None);
@@ -86,7 +86,7 @@ pub(crate) fn tree_over(
     Ok(Some(node))
 }
 
-/// `joins::concat`, where either side may have no text.
+/// `joins::concat` for sides that may be empty, with the same requirement and errors.
 pub fn concat(
     alloc: Global,
     left: Option<Rc<Node>>,
@@ -105,10 +105,17 @@ pub fn concat(
     }
 }
 
-/// The texts before and after a byte index that lies between two characters, or at the start or the
-/// end. Between CR and LF the halves count one break more than the whole. The tree stays as it is;
-/// what both it and a half hold, they share. The way to the place enters as many nodes as the tree
-/// is high, whether or not memory is refused then.
+/// Returns the texts before and after a byte index. Between CR and LF the halves have one break
+/// more than the whole. The tree is unchanged, and shares with the halves what they have in common.
+/// Enters as many nodes as the tree is high, also if there is no memory then.
+///
+/// # Requires
+///
+/// The index is a character boundary.
+///
+/// # Errors
+///
+/// Out of memory.
 pub fn split(
     alloc: Global,
     node: &Rc<Node>,
@@ -143,8 +150,8 @@ pub fn split(
     }
 }
 
-/// `split`, for callers that count no visits. At an end of the text nothing is split, and no memory
-/// is taken.
+/// `split` without a count of visits, with the same requirement and errors. At an end of the text
+/// nothing is split or allocated.
 pub fn halves_at(alloc: Global, node: &Rc<Node>, at: usize) -> Result<Halves, AllocError>
     requires { IsBoundaryOf (concat node.now.value.pieces) at }
     ensures { IfOk result (λ halves. IsSplit node.now.value.pieces at (pieces_in halves.left)

@@ -1,12 +1,12 @@
-//! A count of what a way down a tree does, for contracts alone.
+//! A count of the work of descending a tree, for contracts only.
 
 ghost use Rattle.std.specs.Prelude.{◌≡◌, ◌+◌};
 
 use counters::Counter;
 use std::marker::Model;
 
-/// How many nodes were entered, and how many running totals were compared with a place to choose
-/// them. It takes no bytes when the program runs; only choosing a child to enter changes it.
+/// The number of nodes that were entered, and of running totals that were compared to choose them.
+/// It has no bytes at run time; only choosing a child to enter changes it.
 #[derive(Drop)]
 pub struct Visits {
     nodes: Counter,
@@ -22,7 +22,7 @@ impl Model for Visits {
 }
 
 impl Visits {
-    /// None yet.
+    /// Returns zeros.
     #[inline(always)]
     pub fn new() -> Self
         ensures nodes { result.nodes ≡ 0 }
@@ -34,7 +34,7 @@ impl Visits {
         }
     }
 
-    /// One node more.
+    /// Counts one more node.
     #[inline(always)]
     pub(crate) fn enter(&mut self)
         ensures nodes { self.new.nodes ≡ self.old.nodes + 1 }
@@ -43,7 +43,7 @@ impl Visits {
         self.nodes.add();
     }
 
-    /// One comparison more.
+    /// Counts one more comparison.
     #[inline(always)]
     pub(crate) fn compare(&mut self)
         ensures nodes { self.new.nodes ≡ self.old.nodes }

@@ -1,11 +1,11 @@
--- What is known of the breaks of a rope: they are of a scheme in which CR LF is one break.
+-- The breaks of a rope are those of a scheme in which CR LF is one break.
 use Rattle.std.proofs.Common.{length}
 use Rattle.str_indices.specs.Text.{breaks, break_ends, char_ends, units, NoCrLfBetween}
 use Rattle.str_indices.specs.Laws.{LosesBreakInCrLf, JoinsEnds, ComesBack, AnyTexts, EndsAddUp, PlacesAddUp, EndsAreBoundaries, EndsBehind, NoMoreThanBytes, RisesWithPlace, RisesWithIndex}
 use Rattle.str_indices.proofs.TextLaws.{breaks_of_joined_texts-any, break_ends_of_joined_texts, counts_are_at_most_bytes-units, counts_are_at_most_bytes-lines, from_byte_idx_is_monotone-chars, from_byte_idx_is_monotone-lines, to_byte_idx_is_monotone-lines, to_byte_idx_is_a_boundary-lines, conversion_there_and_back-lines, ends_of_a_part-chars, ends_of_a_part-lines, places_of_a_part-lines, ends_behind_a_boundary-lines}
 use Rattle.ropey_tree.specs.Breaks.{is_break}
 
--- how they add up over joined texts, and that no measure is above the bytes
+-- how they add up over joined texts, and that no measure exceeds the bytes
 pub record BreaksOfParts : Type 0 where
   pub joined : LosesBreakInCrLf is_break
   pub whole : EndsAddUp NoCrLfBetween (breaks is_break) (break_ends is_break)

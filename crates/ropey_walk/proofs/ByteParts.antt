@@ -1,4 +1,4 @@
--- The bytes of a part of a text, from a byte index on, up to another.
+-- The bytes of a part of a text, from a byte index up to another.
 use Rattle.std.proofs.Common.{◌≡◌, ℕ, ◌+◌, ◌≤◌, true, List, ◌++◌, length, take, drop, refl, ap, sym, ◌∙◌, length-take-le}
 use Rattle.std.specs.Prelude.{encode_utf8_all}
 use Rattle.std.specs.Str.{all_scalars, chars, IsUtf8, IsCharBoundary}
@@ -14,7 +14,7 @@ use Rattle.ropey_walk.proofs.Counting.{take-parts}
 use Rattle.ropey_walk.proofs.Placing.{whole_chars}
 use Rattle.ropey_walk.proofs.Edges.{IsFront, place_is, taken, chars_to}
 
--- up to a place between two characters they are those of the characters before it
+-- up to a character boundary they are those of the characters before it
 pub record IsSpelledTo (text : List ℕ) (place : ℕ) : Type 0 where
   pub bytes : encode_utf8_all (take (char_of_byte text place) text) ≡ take place (encode_utf8_all text)
   pub len : length (take place (encode_utf8_all text)) ≡ place
@@ -43,7 +43,7 @@ spelled_at law text place scalars boundary =
     let chars_are : take (char_of_byte text place) text ≡ front = ap (λ n. take n text) count ∙ ap (take (length front)) whole ∙ take_at front back (length front) refl in
     record { bytes = ap encode_utf8_all chars_are ∙ front_is; len = size }
 
--- and between two such places those between the characters
+-- and between two boundaries those of the characters between
 pub spelled_between : (text : List ℕ) (from to : ℕ) → char_of_byte text from ≤ char_of_byte text to → IsSpelledTo text from → IsSpelledTo text to
     → encode_utf8_all (between (char_of_byte text from) (char_of_byte text to) text) ≡ between from to (encode_utf8_all text)
 spelled_between text from to order first last =

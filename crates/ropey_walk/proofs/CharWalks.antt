@@ -74,7 +74,7 @@ char_unpassed text chunk k at to character h boundary reads =
     }
 
 -- ---- the chunk at a character
--- the place before character k in the chunk in which character i lies
+-- the position before character k in the chunk that contains character i
 pub record HoldsChar (text : List ℕ) (i k : ℕ) (chunk : List ℕ) (at : ℕ) : Type 0 where
   pub place : IsCharPlace text k chunk at
   pub ahead : i ≡ k → k < length text → at < length chunk
@@ -133,7 +133,7 @@ char_held pieces i k bytes start utf8 h text low high most =
       behind = λ later. omega (arith, later, starts, not_past, placed, count, length-le-encodes first);
     }
 
--- ---- where a character was read
+-- ---- after a character was read
 pub boundary_behind : (chunk rest bytes : List ℕ) (at : ℕ) → IsUtf8 rest → drop at chunk ≡ bytes ++ rest → IsCharBoundary chunk (length chunk - length rest)
 boundary_behind chunk rest bytes at utf8 reads =
     let front = take at chunk ++ bytes in

@@ -1,4 +1,4 @@
--- Parts of a text that lie in one of its pieces.
+-- Parts of a text inside one of its chunks.
 use Rattle.std.proofs.Common.{◌≡◌, ℕ, ◌+◌, ◌-◌, ◌^◌, ◌<◌, ◌≤◌, inl, inr, true, List, [], ◌∷◌, ◌++◌, length, take, drop, refl, ap, arith, sym, ◌∙◌, subst, append-nil, append_assoc, length-append, length-take}
 use Rattle.std.specs.List.{concat}
 use Rattle.std.specs.Str.{chars, IsUtf8, all_scalars, is_utf8}
@@ -27,7 +27,7 @@ use Rattle.ropey_walk.proofs.Reaching.{IsPart, IsSeam, IsCutAt, seam_between, mi
 use Rattle.ropey_walk.proofs.Shows.{piece_by_itself, amount-nothing}
 use Rattle.ropey_walk.proofs.Slices.{standing-part, between-between}
 
--- ---- a text in at most one piece
+-- ---- a text of at most one chunk
 pub text_of_piece : (chunk : List ℕ) → text_of (lone_piece chunk) ≡ chunk
 text_of_piece [] = refl
 text_of_piece (c ∷ cs) = append-nil (c ∷ cs)
@@ -47,7 +47,7 @@ light_is_text slice text is =
     let short : byte_len (chars text.now) ≤ 984 = omega (arith, ap length (encodes-chars text.now utf8), slice.short, ap (λ s. length (light_bytes s)) is) in
     subst IsRopeText (ap source_pieces (sym is)) (light_text (chars text.now) (scalars-chars text.now utf8) short)
 
--- nothing is told by an empty chunk
+-- an empty chunk says nothing
 pub nothing_of : (pieces : List (List ℕ)) → IsChunkOf pieces [] zero_counts
 nothing_of pieces = record { before = []; after = pieces; parts = refl; start_is = refl }
 
@@ -111,7 +111,7 @@ chunk_fits pieces text chunk first shown =
       ap (λ c. c.bytes) shown.start_is,
     )
 
--- ---- a part that lies in one of several pieces
+-- ---- a part inside one of several chunks
 module _ (law : BreaksOfParts) (pieces : List (List ℕ)) (text : IsRopeText pieces) (chunk : List ℕ) (first : Counts) (shown : IsChunkOf pieces chunk first)
     (start len : Counts) (part : IsPart (text_of pieces) start len) (some : 0 < len.chars) (low : first.bytes ≤ start.bytes) (high : start.bytes + len.bytes ≤ first.bytes + byte_len chunk) where
   abbrev t : List ℕ
@@ -207,7 +207,7 @@ module _ (law : BreaksOfParts) (pieces : List (List ℕ)) (text : IsRopeText pie
       ∙ ap (λ c. plus c (standing (between (length l) (length m) t) k)) (front.stands ∙ sym shown.start_is) ∙ ap (λ s. plus first (standing s k)) chunk_is in
       ap (λ c. minus c first) whole ∙ minus-plus first (standing chunk k)
 
-  -- the part as one of the piece
+  -- the part as one of the chunk
   pub in_piece : IsPart (text_of (lone_piece chunk)) (minus start first) len
   in_piece =
       let chars_are : (minus start first).chars ≡ k = ap (λ c. c.chars) starts_are in
@@ -241,7 +241,7 @@ module _ (law : BreaksOfParts) (pieces : List (List ℕ)) (text : IsRopeText pie
       ap (λ i. clip i (i + n) (lone_piece chunk)) chars_are ∙ ap (clip k (k + n)) (one_piece ∙ sym one)
       ∙ clip-clip k (k + n) (length l) (length m) pieces (omega (arith, inside, long)) ∙ ap (λ i. clip i (length l + (k + n)) pieces) sum ∙ ap (λ i. clip start.chars i pieces) end
 
-  -- a piece is a text by itself
+  -- a chunk is a text by itself
   cut_alone : IsCutting (chunk ∷ [])
   cut_alone = cut-left (chunk ∷ []) shown.after (cut-right shown.before (chunk ∷ shown.after) (subst IsCutting parts text.cut))
 

@@ -1,4 +1,4 @@
--- Going over the pieces of a text, both ways.
+-- Iterating over the chunks of a text in both directions.
 use Rattle.std.proofs.Common.{◌≡◌, ℕ, suc, ◌+◌, ◌-◌, ◌<◌, ◌≤◌, ◌≢◌, ◌⊎◌, inl, inr, List, [], ◌∷◌, ◌++◌, length, refl, ap, arith, sym, ◌∙◌, subst, append_assoc, length-append}
 use Rattle.std.specs.Prelude.{if◌then◌else◌, encode_utf8_all}
 use Rattle.std.specs.Str.{IsUtf8, chars}
@@ -21,7 +21,7 @@ use Rattle.ropey_walk.proofs.Cuts.{byte_len-append, first_piece, rest_cut, whole
 use Rattle.ropey_walk.proofs.Shows.{amount-nothing}
 use Rattle.ropey_walk.proofs.TwoWay.{Crosses, crosses, ahead_of}
 
--- ---- places by bytes
+-- ---- positions by bytes
 past_piece : (n : ℕ) (p : List ℕ) (ps : List (List ℕ)) → 1 ≤ n → pieces_before n (p ∷ ps) ≡ suc (pieces_before (n - byte_len p) ps)
 past_piece n p ps h = ap (λ b. if b then 0 else suc (pieces_before (n - byte_len p) ps)) (ne_eqb n 0 (λ e. omega (arith, e, h)))
 
@@ -29,7 +29,7 @@ none_before : (ps : List (List ℕ)) → pieces_before 0 ps ≡ 0
 none_before [] = refl
 none_before (p ∷ ps) = refl
 
--- pieces that are no empty ones are counted by their bytes
+-- chunks that aren't empty are counted by their bytes
 pub pieces_of_front : (front rest : List (List ℕ)) → IsCutting (front ++ rest) → pieces_before (byte_len (text_of front)) (front ++ rest) ≡ length front
 pieces_of_front [] rest cut = none_before rest
 pieces_of_front (f ∷ front) rest cut =
@@ -43,7 +43,7 @@ pub front_counted : (pieces front rest : List (List ℕ)) (byte : ℕ) → IsCut
 front_counted pieces front rest byte cut parts place =
     ap (λ n. pieces_before n pieces) place ∙ ap (λ ps. pieces_before (byte_len (text_of front)) ps) parts ∙ pieces_of_front front rest (subst IsCutting parts cut)
 
--- ---- of two ways to part pieces, those are equal of which the one's front ends inside the other's first piece
+-- ---- two divisions of the chunks are equal if the one cuts inside the first chunk of the other
 same_front : (front rest before : List (List ℕ)) (chunk : List ℕ) (after : List (List ℕ)) → IsCutting (front ++ rest) → front ++ rest ≡ before ++ chunk ∷ after
     → byte_len (concat before) ≤ byte_len (concat front) → byte_len (concat front) < byte_len (concat before) + byte_len chunk → front ≡ before
 same_front [] rest [] chunk after cut e low high = refl
@@ -62,7 +62,7 @@ same_front (f ∷ front) rest (b ∷ before) chunk after cut e low high =
     let below = same_front front rest before chunk after (rest_cut f (front ++ rest) cut) rests (omega arith) (omega arith) in
     cc
 
--- the same where the front ends behind that first piece's start, and no further than at its end
+-- the same if the start ends after the start of that first chunk, and not after its end
 same_end : (front rest before : List (List ℕ)) (chunk : List ℕ) (after : List (List ℕ)) → IsCutting (front ++ rest) → front ++ rest ≡ before ++ chunk ∷ after
     → byte_len (concat before) < byte_len (concat front) → byte_len (concat front) ≤ byte_len (concat before) + byte_len chunk → front ≡ before ++ chunk ∷ []
 same_end [] rest before chunk after cut e low high = absurd (omega (arith, low))
@@ -82,7 +82,7 @@ same_end (f ∷ front) rest (b ∷ before) chunk after cut e low high =
     let below = same_end front rest before chunk after (rest_cut f (front ++ rest) cut) rests (omega arith) (omega arith) in
     cc
 
--- a chunk of a text that is not empty is one of its pieces
+-- a chunk of a text that isn't empty is one of its chunks
 pub piece_shown : (pieces : List (List ℕ)) (chunk : List ℕ) (before after : List (List ℕ)) → pieces ≡ before ++ lone_piece chunk ++ after → (chunk ≡ [] → pieces ≡ []) → 0 < byte_len (concat pieces) → pieces ≡ before ++ chunk ∷ after
 piece_shown pieces [] before after parts some there = absurd (omega (arith, there, ap (λ ps. byte_len (concat ps)) (some refl)))
 piece_shown pieces (c ∷ cs) before after parts some there = parts ∙ append_assoc before ((c ∷ cs) ∷ []) after
@@ -90,7 +90,7 @@ piece_shown pieces (c ∷ cs) before after parts some there = parts ∙ append_a
 bytes_of_parts : (pieces front rest : List (List ℕ)) → pieces ≡ front ++ rest → byte_len (text_of pieces) ≡ byte_len (text_of front) + byte_len (text_of rest)
 bytes_of_parts pieces front rest parts = ap (λ ps. byte_len (text_of ps)) parts ∙ ap byte_len (concat-append front rest) ∙ byte_len-append (concat front) (concat rest)
 
--- ---- over one chunk, from the byte where it starts to the one where it ends
+-- ---- over one chunk, from its first byte to its end
 pub record CrossesChunk (pieces : List (List ℕ)) (start end : ℕ) (chunk : List ℕ) : Type 0 where
   pub starts : IsBetweenPieces pieces start
   pub ends : IsBetweenPieces pieces end
@@ -113,7 +113,7 @@ crosses_chunk pieces before chunk after start end cut parts place len =
       within = omega (arith, place_after, bytes_of_parts pieces through after parts_after);
     }
 
--- where the chunk that a place lies in ends
+-- the end of the chunk that contains a position
 ends_behind : (pieces before : List (List ℕ)) (chunk : List ℕ) (after : List (List ℕ)) (i : ℕ) → pieces ≡ before ++ chunk ∷ after → i < byte_len (text_of pieces)
     → (i < byte_len (text_of before ++ chunk)) ⊎ (after ≡ []) → i < byte_len (text_of before) + byte_len chunk
 ends_behind pieces before chunk after i parts inside (inl p) = omega (arith, p, byte_len-append (text_of before) chunk)
@@ -122,7 +122,7 @@ ends_behind pieces before chunk after i parts inside (inr e) =
     let none : byte_len (text_of after) ≡ 0 = ap (λ ps. byte_len (text_of ps)) e in
     omega (arith, inside, none, ap byte_len whole, byte_len-append (text_of before) (chunk ++ text_of after), byte_len-append chunk (text_of after))
 
--- the chunk at a place where one starts is the next one
+-- the chunk at a position where one starts is the next one
 pub next_chunk : (pieces : List (List ℕ)) (byte end : ℕ) (chunk : List ℕ) (start : Counts) → IsBetweenPieces pieces byte → IsCutting pieces → byte ≢ byte_len (text_of pieces)
     → StandsAt pieces Bytes byte chunk start → end ≡ byte + byte_len chunk → CrossesChunk pieces byte end chunk
 next_chunk pieces byte end chunk start h cut apart stands len =
@@ -132,7 +132,7 @@ next_chunk pieces byte end chunk start h cut apart stands len =
     let same = same_front h.front h.rest stands.before chunk stands.after (subst IsCutting h.parts cut) (sym h.parts ∙ parts) (omega (arith, h.place, stands.not_past)) (omega (arith, h.place, high)) in
     crosses_chunk pieces stands.before chunk stands.after byte end cut parts (h.place ∙ ap (λ ps. byte_len (text_of ps)) same) len
 
--- the chunk at the byte before such a place is the one before it
+-- the chunk at the byte before such a position is the one before it
 pub chunk_before : (pieces : List (List ℕ)) (byte : ℕ) (chunk : List ℕ) (start : Counts) → IsBetweenPieces pieces byte → IsCutting pieces → byte ≢ 0
     → StandsAt pieces Bytes (byte - 1) chunk start → CrossesChunk pieces start.bytes byte chunk
 chunk_before pieces byte chunk start h cut some stands =
@@ -155,7 +155,7 @@ none_ahead pieces byte h cut e =
     no_piece [] cut low = refl
     no_piece (p ∷ ps) cut low = absurd (omega (arith, low, (first_piece p ps cut).not_empty, byte_len-append p (concat ps)))
 
--- ---- the chunks from a place on
+-- ---- the chunks from an index on
 some_piece : (pieces before : List (List ℕ)) (chunk : List ℕ) (after : List (List ℕ)) (by : By) (i : ℕ) → pieces ≡ before ++ lone_piece chunk ++ after → (chunk ≡ [] → pieces ≡ []) → i < amount by (counts_of (text_of pieces))
     → pieces ≡ before ++ chunk ∷ after
 some_piece pieces before [] after by i parts some more = absurd (omega (arith, more, ap (λ ps. amount by (counts_of (text_of ps))) (some refl), amount-nothing by))
@@ -220,7 +220,7 @@ none_before_first pieces = ap (λ n. before_item n pieces) (none_before pieces)
 pub parts_whole : (pieces : List (List ℕ)) → IsCutting pieces → CutsNoCrLf pieces
 parts_whole pieces cut front rest e = whole_seams front rest (subst IsCutting e cut)
 
--- ---- what a loop over the chunks writes: what is written and what is ahead are the text
+-- ---- the loop over the chunks: what is written and what is ahead are the text
 pub written : (bytes chunk : List ℕ) (ahead after : List (List ℕ)) (text : List ℕ) → bytes ++ encode_utf8_all (text_of ahead) ≡ text → ahead ≡ chars chunk ∷ after → IsUtf8 chunk
     → (bytes ++ chunk) ++ encode_utf8_all (text_of after) ≡ text
 written bytes chunk ahead after text sofar e utf8 =

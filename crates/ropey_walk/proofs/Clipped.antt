@@ -1,4 +1,4 @@
--- A clip of a cutting is one.
+-- A clip of the chunks of a rope has the chunks of a rope.
 use Rattle.std.proofs.Common.{◌≡◌, ℕ, zero, suc, ◌+◌, ◌-◌, ◌<◌, ◌≤◌, inl, inr, true, false, ◌&&◌, List, [], ◌∷◌, ◌++◌, length, take, drop, refl, ap, arith, sym, ◌∙◌, subst, length-append, length-take, length-drop}
 use Rattle.std.specs.List.{concat}
 use Rattle.std.specs.Str.{all_scalars}
@@ -27,7 +27,7 @@ scalars-take n t h = (scalars-append (take n t) (drop n t) (ap all_scalars (take
 pub scalars-drop : (n : ℕ) (t : List ℕ) → all_scalars t ≡ true → all_scalars (drop n t) ≡ true
 scalars-drop n t h = (scalars-append (take n t) (drop n t) (ap all_scalars (take-append-drop n t) ∙ h)).1
 
--- a piece is as long in characters as in bytes where it is empty
+-- a chunk that isn't empty in bytes isn't empty in characters
 pub some_chars : (p : List ℕ) → 1 ≤ byte_len p → 0 < length p
 some_chars [] h = absurd (omega (arith, h))
 some_chars (c ∷ cs) h = omega arith

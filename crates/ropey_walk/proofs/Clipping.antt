@@ -1,4 +1,4 @@
--- Clips of pieces: their text, and how they go over a piece.
+-- Clips of chunks: their text, and how they continue over a chunk.
 use Rattle.std.proofs.Common.{◌≡◌, ℕ, zero, suc, ◌+◌, ◌-◌, ◌<◌, ◌≤◌, inl, inr, List, [], ◌∷◌, ◌++◌, length, take, drop, refl, ap, arith, sym, ◌∙◌, length-append, length-take, length-drop}
 use Rattle.std.specs.Prelude.{if◌then◌else◌}
 use Rattle.std.specs.List.{concat}
@@ -21,7 +21,7 @@ take-past (suc n) (c ∷ s) t h =
     let same : suc n - suc (length s) ≡ n - length s = omega arith in
     ap (λ l. c ∷ l) below ∙ ap (λ k. c ∷ (s ++ take k t)) (sym same)
 
--- ---- one piece
+-- ---- one chunk
 pub from-here : (a : ℕ) (p : List ℕ) (ps : List (List ℕ)) → a < length p → pieces_from_char a (p ∷ ps) ≡ drop a p ∷ ps
 from-here a p ps h = ap (λ b. if b then drop a p ∷ ps else pieces_from_char (a - length p) ps) (lt-ltb a (length p) h)
 
@@ -61,7 +61,7 @@ text-to (suc e) (p ∷ ps) =
 pub text-clip : (a e : ℕ) (ps : List (List ℕ)) → text_of (clip a e ps) ≡ between a e (text_of ps)
 text-clip a e ps = text-from a (pieces_to_char e ps) ∙ ap (drop a) (text-to e ps)
 
--- ---- pieces before and behind a place
+-- ---- chunks before and after an index
 pub from-before : (a : ℕ) (front rest : List (List ℕ)) → a < length (concat front) → pieces_from_char a (front ++ rest) ≡ pieces_from_char a front ++ rest
 from-before a [] rest h = absurd (omega (arith, h))
 from-before a (p ∷ front) rest h = elim (cases_lt a (length p)) [
@@ -91,7 +91,7 @@ to-behind e (p ∷ front) rest h =
 pub from-all : (a : ℕ) (ps : List (List ℕ)) → length (concat ps) ≤ a → pieces_from_char a ps ≡ []
 from-all a ps h = ap (pieces_from_char a) (sym (append-nil ps)) ∙ from-behind a ps [] h
 
--- the clip around a piece into which it reaches
+-- the clip around a chunk that it reaches into
 pub clip-around : (a e : ℕ) (left : List (List ℕ)) (leaf : List ℕ) (right : List (List ℕ)) → length (concat left) < e → a < e → a < length (concat left) + length leaf
     → clip a e (left ++ leaf ∷ right) ≡ pieces_from_char a left ++ drop (a - length (concat left)) (take (e - length (concat left)) leaf) ∷ pieces_to_char (e - length (concat left) - length leaf) right
 clip-around a e left leaf right low some high =
@@ -201,6 +201,6 @@ pub clip-clip : (k m a e : ℕ) (ps : List (List ℕ)) → a + m ≤ e → clip 
 clip-clip k m a e ps h =
     ap (pieces_from_char k) (to-from m a (pieces_to_char e ps)) ∙ from-from k a (pieces_to_char (a + m) (pieces_to_char e ps)) ∙ ap (pieces_from_char (a + k)) (to-to (a + m) e ps h)
 
--- a clip of nothing has no piece
+-- a clip of nothing has no chunk
 pub clip-nothing : (k : ℕ) (ps : List (List ℕ)) → clip k k ps ≡ []
 clip-nothing k ps = from-all k (pieces_to_char k ps) (omega (arith, ap length (text-to k ps), length-take k (concat ps)))

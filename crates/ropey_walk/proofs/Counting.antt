@@ -1,4 +1,4 @@
--- What parts of a text count.
+-- The counts of parts of a text.
 use Rattle.std.proofs.Common.{◌≡◌, ℕ, ◌+◌, ◌-◌, ◌<◌, ◌≤◌, inl, inr, Bool, true, false, true≢false, cond, ◌&&◌, List, [], ◌∷◌, ◌++◌, length, take, drop, refl, ap, arith, sym, ◌∙◌, subst, length-append, length-drop, length-take-le}
 use Rattle.std.proofs.lemmas.Bool.{cases_Bool, and_parts, eqb-true}
 use Rattle.std.proofs.lemmas.List.{append-nil, append_assoc, take-append-drop, take-take}
@@ -29,7 +29,7 @@ ends-append (c ∷ []) [] h = absurd (omega (arith, h))
 ends-append (c ∷ []) (d ∷ t) h = refl
 ends-append (c ∷ d ∷ s) t h = ends-append (d ∷ s) t h
 
--- no part of a text ends in a CR LF that the text does not end in
+-- no part of a text ends in a CR LF in which the text doesn't end
 pub back_whole : (k : ℕ) (s t : List ℕ) → NoCrLfBetween s t → NoCrLfBetween (drop k s) t
 back_whole k s t h = last (drop k s) refl
   where
@@ -65,7 +65,7 @@ module _ (law : BreaksOfParts) where
       nothing true = refl
       nothing false = refl
 
-  -- the breaks of a front by itself: those that end in it, and its CR where an LF comes next
+  -- the breaks of a text's start by itself: those that end in it, and its CR if an LF is next
   pub front_breaks : (f b : List ℕ) → line_of_byte (f ++ b) (byte_len f) + cond (cuts_cr_lf f b) 1 0 ≡ line_breaks f
   front_breaks f b =
       let sum = byte_len-append f b in
@@ -79,14 +79,14 @@ module _ (law : BreaksOfParts) where
         law.joined f b,
       )
 
-  -- and so those of a part
+  -- and those of a part
   pub part_breaks : (f p b : List ℕ) → line_of_byte (f ++ (p ++ b)) (byte_len (f ++ p)) + cond (cuts_cr_lf p b) 1 0 ≡ line_of_byte (f ++ (p ++ b)) (byte_len f) + line_breaks p
   part_breaks f p b =
       let sum = byte_len-append f p in
       let inside : byte_len (f ++ p) - byte_len f ≡ byte_len p = omega (arith, sum) in
       omega (arith, law.behind f (p ++ b) (byte_len (f ++ p)) (omega (arith, sum)), ap (λ n. line_of_byte (p ++ b) n) inside, front_breaks p b)
 
-  -- before the end of a front, what follows it changes nothing
+  -- before the end of a text's start, what follows it changes nothing
   pub inner_breaks : (p b : List ℕ) (k : ℕ) → k < length p → line_of_byte (p ++ b) (byte_len (take k p)) ≡ line_of_byte p (byte_len (take k p))
   inner_breaks p b k h =
       let f = take k p in
@@ -104,7 +104,7 @@ module _ (law : BreaksOfParts) where
         ap (λ t. line_of_byte t (byte_len f)) whole,
       )
 
-  -- ---- what stands before a place, and what a part counts
+  -- ---- the counts before an index, and those of a part
   pub standing-front : (t : List ℕ) (m : ℕ) → m ≤ length t → NoCrLfBetween (take m t) (drop m t) → standing t m ≡ counts_of (take m t)
   standing-front t m l seam =
       let whole : take m t ++ drop m t ≡ t = take-append-drop m t in
@@ -148,7 +148,7 @@ module _ (law : BreaksOfParts) where
       let lf : c ≡ 10 = eqb-true c 10 h in
       subst (λ (d : ℕ). 1 ≤ line_breaks (d ∷ cs)) (sym lf) (omega arith)
 
-  -- a front counts no more than the whole
+  -- the start of a text has no more than the whole
   pub amount-front : (by : By) (f b : List ℕ) → amount by (counts_of f) ≤ amount by (counts_of (f ++ b))
   amount-front Bytes f b = omega (arith, byte_len-append f b)
   amount-front Chars f b = omega (arith, length-append f b)
@@ -158,7 +158,7 @@ module _ (law : BreaksOfParts) where
     | inr whole ↦ omega (arith, law.joined f b, ap (λ c. cond {A = ℕ} c 1 0) whole)
   ]
 
-  -- what ends at a place that is no later
+  -- what ends at an index that is no later
   pub amount-standing : (by : By) (t : List ℕ) (m a : ℕ) → m ≤ a → amount by (standing t m) ≤ amount by (standing t a)
   amount-standing by t m a h = up by
     where

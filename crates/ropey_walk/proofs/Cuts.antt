@@ -1,4 +1,4 @@
--- Cuttings, and the texts that their parts make.
+-- Rows of chunks, and the texts of their parts.
 use Rattle.std.proofs.Common.{◌≡◌, ℕ, ◌+◌, ◌^◌, ◌<◌, ◌≤◌, Bool, true, false, ◌&&◌, List, [], ◌∷◌, ◌++◌, length, refl, ap, arith, sym, ◌∙◌, length-append}
 use Rattle.std.specs.List.{concat}
 use Rattle.std.proofs.lemmas.List.{append-nil}
@@ -50,7 +50,7 @@ nothing_after s = none (ends_with_cr s)
     none true = refl
     none false = refl
 
--- no CR LF is cut between two parts of a cutting
+-- no CR LF spans two parts of a row of chunks
 pub whole_seams : NoCuttingCutsCrLf
 whole_seams [] rest h = refl
 whole_seams (p ∷ []) [] h = nothing_after (concat (p ∷ []))
@@ -62,7 +62,7 @@ whole_seams (p ∷ q ∷ front) rest h =
     ap (λ b. b && starts_with_lf (concat rest)) (ends-append p (concat (q ∷ front)) (some_bytes q front (cut-left (q ∷ front) rest h.2)))
     ∙ whole_seams (q ∷ front) rest h.2
 
--- what the pieces have in bytes is what their text has
+-- the bytes of chunks are those of their text
 pub bytes-concat : (ps : List (List ℕ)) → (total ps).bytes ≡ byte_len (concat ps)
 bytes-concat [] = refl
 bytes-concat (p ∷ ps) = sum_by-cons byte_len p ps ∙ ap (λ n. byte_len p + n) (bytes-concat ps) ∙ sym (byte_len-append p (concat ps))

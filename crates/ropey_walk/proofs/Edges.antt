@@ -1,4 +1,4 @@
--- Places between two characters, where parts of a text start and end.
+-- Character boundaries, at which parts of a text start and end.
 use Rattle.std.proofs.Common.{◌≡◌, ℕ, ◌+◌, ◌-◌, ◌^◌, ◌<◌, ◌≤◌, Bool, true, false, cond, ◌&&◌, List, [], ◌∷◌, ◌++◌, length, get_or, take, drop, refl, ap, arith, sym, ◌∙◌, subst, append_assoc, length-append, length-take-le, take-append-drop}
 use Rattle.std.specs.Prelude.{encode_utf8_all}
 use Rattle.std.specs.List.{concat}
@@ -27,7 +27,7 @@ use Rattle.ropey_walk.proofs.Clipped.{scalars-append}
 use Rattle.ropey_walk.proofs.Reading.{place_of_front}
 use Rattle.ropey_walk.proofs.Reaching.{amount-below}
 
--- ---- a text up to a place between two characters of a chunk
+-- ---- a text up to a boundary of a chunk
 pub record IsFront (text : List ℕ) (start : Counts) (at : ℕ) (front : List ℕ) : Type 0 where
   pub before : List ℕ
   pub after : List ℕ
@@ -116,7 +116,7 @@ end_is_boundary ends boundaries bytes utf8 k =
     subst (λ (n : ℕ). IsCharBoundary bytes (end_place (ends chunk) k n)) (sym len)
     (subst (λ (bs : List ℕ). IsCharBoundary bs (end_place (ends chunk) k (byte_len chunk))) (encodes-chars bytes utf8) (boundaries chunk k (scalars-chars bytes utf8)))
 
--- between two characters of the text is between two of the chunk
+-- a boundary of the text is one of the chunk
 pub boundary_in : (text bytes : List ℕ) (start : Counts) (at place : ℕ) → IsUtf8 bytes → IsPlaceIn text (chars bytes) start at → start.bytes + at ≡ place → IsCharBoundary (encode_utf8_all text) place → IsCharBoundary bytes at
 boundary_in text bytes start at place utf8 h e boundary =
     let before = encode_utf8_all h.before in
@@ -137,7 +137,7 @@ boundary_in text bytes start at place utf8 h e boundary =
           omega (arith, leads, there),
     )
 
--- the texts of a cutting are of scalar values
+-- the texts of chunks are scalar values
 scalars-both : (s t : List ℕ) → all_scalars s ≡ true → all_scalars t ≡ true → all_scalars (s ++ t) ≡ true
 scalars-both [] t h k = k
 scalars-both (c ∷ cs) t h k =
@@ -148,7 +148,7 @@ pub cutting-scalars : (ps : List (List ℕ)) → IsCutting ps → all_scalars (c
 cutting-scalars [] h = refl
 cutting-scalars (p ∷ ps) h = scalars-both p (concat ps) (first_piece p ps h).scalars (cutting-scalars ps (rest_cut p ps h))
 
--- and between two of the chunk is between two of the text
+-- and a boundary of the chunk is one of the text
 pub boundary_out : (text bytes : List ℕ) (start : Counts) (at place : ℕ) → IsUtf8 bytes → IsPlaceIn text (chars bytes) start at → start.bytes + at ≡ place → all_scalars text ≡ true → IsCharBoundary bytes at
     → IsCharBoundary (encode_utf8_all text) place
 boundary_out text bytes start at place utf8 h e scalars boundary =
@@ -160,7 +160,7 @@ boundary_out text bytes start at place utf8 h e scalars boundary =
     let there : byte_len upto ≡ place = sym (place_is text start at front f) ∙ e in
     subst (IsCharBoundary (encode_utf8_all text)) there (IsCharBoundary-at_seam (encode_utf8_all text) (encode_utf8_all upto) (encode_utf8_all f.after) spelled (f.after, (rest, refl)))
 
--- a character's place leads back to it
+-- a character's index is recovered from its byte index
 pub char_there_and_back : (text : List ℕ) (k : ℕ) → k ≤ length text → char_of_byte text (byte_of_char text k) ≡ k
 char_there_and_back text k inside =
     let front = take k text in
@@ -170,7 +170,7 @@ char_there_and_back text k inside =
     let place : byte_of_char text k ≡ byte_len front = ap (λ t. byte_of_char t k) whole ∙ ap (byte_of_char (front ++ back)) (sym size) ∙ place_of_front front back in
     ap (char_of_byte text) place ∙ ap (λ t. char_of_byte t (byte_len front)) whole ∙ whole_chars ends_of_a_part-chars front back ∙ size
 
--- what the text up to a place counts
+-- the counts of the text up to an index
 pub record IsCounted (text : List ℕ) (place : ℕ) (sum : Counts) : Type 0 where
   pub chars_is : sum.chars ≡ char_of_byte text place
   pub within : sum.chars ≤ length text
@@ -188,13 +188,13 @@ counted_front law chars_law text start at front h part part_is sum sum_is =
       counted = all ∙ ap counts_of (sym (ap (λ n. take n text) size ∙ taken text start at front h));
     }
 
--- ---- what a part counts
+-- ---- the counts of a part
 starts_same : (f p r : List ℕ) → 1 ≤ length p → cuts_cr_lf f (p ++ r) ≡ cuts_cr_lf f p
 starts_same f [] r some = absurd (omega (arith, some))
 starts_same f (c ∷ cs) r some = refl
 
 module _ (law : BreaksOfParts) where
-  -- what the text up to the part's end counts by itself, less what stands before the part
+  -- those of the text up to the part's end by itself, minus those before the part
   pub part_counts : (t : List ℕ) (a e : ℕ) → a < e → e ≤ length t → minus (counts_of (take e t)) (standing t a) ≡ counts_of (between a e t)
   part_counts t a e some inside =
       let f = take a t in

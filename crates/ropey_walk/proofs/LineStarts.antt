@@ -1,4 +1,4 @@
--- Where the lines of a text start.
+-- The starts of the lines of a text.
 use Rattle.std.proofs.Common.{◌≡◌, ℕ, zero, suc, ◌+◌, ◌==◌, min, Bool, true, false, true≢false, cond, not, ◌&&◌, inl, inr, List, [], ◌∷◌, ◌++◌, length, get_or, take, drop, refl, ap, arith, sym, ◌∙◌, subst, length-append, replicate}
 use Rattle.std.proofs.Math.Utf8.{encode}
 use Rattle.std.specs.Prelude.{encode_utf8_all}
@@ -13,11 +13,11 @@ use Rattle.ropey_walk.proofs.BreakLaws.{LineStarts}
 use Rattle.ropey_walk.proofs.Counting.{front_breaks}
 use Rattle.ropey_walk.proofs.Placing.{whole_chars}
 
--- ---- no CR LF is cut where a break ends
+-- ---- no CR LF spans the end of a break
 abbrev ends_at : ℕ → List ℕ → List ℕ
 ends_at at text = ends_from (λ c rest. cond (ends_break is_break c rest) 1 0) at text
 
--- a place in a text that starts at another, between two parts; nothing follows an empty front
+-- an index in a text that starts at another, between two parts; nothing follows an empty start
 record IsSeam (at place : ℕ) (text : List ℕ) : Type 0 where
   front : List ℕ
   back : List ℕ
@@ -87,7 +87,7 @@ seam_from at (c ∷ cs) k =
           subst (λ (n : ℕ). IsSeam at n (c ∷ cs)) (sym same) (seam_later at (get_or ends k (next + byte_len cs)) c cs (seam_from next cs k))
     ]
 
--- a text falls into two where a line starts
+-- a text is divided where a line starts
 record FallsAt (text : List ℕ) (place : ℕ) : Type 0 where
   front : List ℕ
   back : List ℕ

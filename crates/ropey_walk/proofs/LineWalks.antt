@@ -1,4 +1,4 @@
--- Going over the lines of a text, both ways.
+-- Iterating over the lines of a text in both directions.
 use Rattle.std.proofs.Common.{◌≡◌, ℕ, suc, ◌+◌, ◌-◌, ◌^◌, ◌<◌, ◌≤◌, inl, true, List, ◌∷◌, ◌++◌, length, get_or, take, drop, map, refl, ap, arith, sym, ◌∙◌, subst, append_assoc, length-append, length-take-le, length-drop}
 use Rattle.std.proofs.Math.Seq.{get_or-append_seam}
 use Rattle.std.specs.Str.{chars, IsUtf8, IsCharBoundary}
@@ -27,7 +27,7 @@ use Rattle.ropey_walk.proofs.LineStarts.{IsCutAtLine, cut_at_line}
 same_length : (bytes : List ℕ) → IsUtf8 bytes → byte_len (chars bytes) ≡ length bytes
 same_length bytes utf8 = ap length (encodes-chars bytes utf8)
 
--- ---- the place where a line starts, in a chunk
+-- ---- the position of a line's start, in a chunk
 module _ (law : LineStarts) (text : List ℕ) (from : LinePlace) (h : IsLinePlace text from) where
   abbrev k : ℕ
   k = from.line_idx
@@ -74,7 +74,7 @@ module _ (law : LineStarts) (text : List ℕ) (from : LinePlace) (h : IsLinePlac
   counted : before ≡ counts_of front
   counted = h.counted ∙ ap counts_of there.taken
 
-  -- no CR LF is cut behind the chunk
+  -- no CR LF spans the chunk's end
   whole_behind : NoCrLfBetween rest h.place.after
   whole_behind =
       let n = length front in
@@ -85,7 +85,7 @@ module _ (law : LineStarts) (text : List ℕ) (from : LinePlace) (h : IsLinePlac
   chunk_is : byte_len (chars chunk) ≡ length chunk
   chunk_is = same_length chunk h.utf8
 
-  -- what a line's start is for the slice from there
+  -- a line's start, for the slice from there on
   pub chars_are : before.chars ≡ char_of_line text k
   chars_are = ap (λ c. c.chars) counted ∙ sym there.char_is
 
@@ -105,7 +105,7 @@ module _ (law : LineStarts) (text : List ℕ) (from : LinePlace) (h : IsLinePlac
   lines_fit = omega (arith, amount-below law.breaks_are Breaks text, h.place.fits)
 
   -- ---- characters of one byte
-  -- in a chunk of such characters each part has them
+  -- each part of a chunk of such characters has only these
   one_byte : (a b c : List ℕ) → from.place.is_ascii ≡ true → chars chunk ≡ a ++ (b ++ c) → length b ≡ byte_len b
   one_byte a b c is whole =
       omega (
@@ -130,7 +130,7 @@ module _ (law : LineStarts) (text : List ℕ) (from : LinePlace) (h : IsLinePlac
       let whole = cut ∙ ap (λ r. chars (take at chunk) ++ r) (chars_cut (drop at chunk) end utf8 first.ends) in
       one_byte (chars (take at chunk)) line (chars (drop end (drop at chunk))) is whole ∙ same_length (take end (drop at chunk)) (IsUtf8-take (drop at chunk) end utf8 first.ends)
 
-  -- ---- over the line, where the chunk has a break behind the place
+  -- ---- over the line, if the chunk has a break after the position
   module _ (start' end : ℕ) (first : IsFirstBreak is_break (drop at chunk) start' end) (inside : k < line_breaks text + 1)
       (chars_in units_in : ℕ) (chars_is : chars_in ≡ length (chars (take end (drop at chunk)))) (units_is : units_in ≡ units (chars (take end (drop at chunk)))) where
     abbrev line : List ℕ
@@ -161,7 +161,7 @@ module _ (law : LineStarts) (text : List ℕ) (from : LinePlace) (h : IsLinePlac
     breaks_before : line_breaks front ≡ k
     breaks_before = omega (arith, there.breaks_are, inside)
 
-    -- the ends of breaks behind the first one of the rest
+    -- the ends of breaks after the first one of the rest
     abbrev others : List ℕ
     others = map (λ p. byte_len front + p) (map (λ p. end + p) (break_ends is_break later) ++ map (λ p. byte_len rest + p) (break_ends is_break h.place.after))
 
@@ -224,7 +224,7 @@ module _ (law : LineStarts) (text : List ℕ) (from : LinePlace) (h : IsLinePlac
           h.place.fits,
         )
 
-  -- ---- back over the line, where that starts behind the chunk's start
+  -- ---- back over the line, if that starts after the chunk's start
   module _ (i to : ℕ) (next : i + 1 ≡ k) (inside : k ≤ line_breaks text + 1) (some : start.breaks < i) (to_is : to ≡ end_place (break_ends is_break (chars chunk)) (i - start.breaks) (length chunk)) where
     starts_back : start.bytes + to ≡ byte_of_line text i
     starts_back =

@@ -1,4 +1,5 @@
--- Texts of which each character is one byte: in them an index of a character or of a code unit is that of a byte.
+-- Texts whose characters are all one byte: in them the index of a character or of a code unit is
+-- that of a byte.
 use Rattle.std.proofs.Common.{◌≡◌, ℕ, zero, suc, ◌-◌, ◌≤◌, ◌⊎◌, inl, inr, Bool, ◌||◌, ◌==◌, true, false, List, [], ◌∷◌, ◌++◌, length, get_or, take, drop, min, replicate, refl, ap, arith, sym, ◌∙◌, subst, length-take-le, length-drop, length-append}
 use Rattle.std.specs.Prelude.{if◌then◌else◌, nat_le}
 use Rattle.std.specs.List.{concat}
@@ -22,7 +23,7 @@ use Rattle.ropey_walk.proofs.CharWalks.{chars_cut}
 abbrev pub IsOneByte : List ℕ → Type 0
 IsOneByte t = length t ≡ byte_len t
 
--- a front and a back of such a text are such texts
+-- the start and the end of such a text are such texts
 pub front-bytes : (t : List ℕ) (k : ℕ) → IsOneByte t → k ≤ length t → byte_len (take k t) ≡ k
 front-bytes t k one within =
     omega (
@@ -66,7 +67,7 @@ front-one-byte bytes at utf8 boundary one =
     let front = ap length (encodes-chars (take at bytes) (IsUtf8-take bytes at utf8 boundary)) in
     middle-bytes [] (chars (take at bytes)) (chars (drop at bytes)) (subst IsOneByte (chars_cut bytes at utf8 boundary) all) ∙ front
 
--- what is known of a text by its counts
+-- what the counts of a text determine
 pub known-bytes : (t : List ℕ) (len : Counts) → (len.chars == len.bytes) ≡ true → len ≡ counts_of t → IsOneByte t
 known-bytes t len e is =
     let same : len.chars ≡ len.bytes = grind (arith, nat_tests) in
@@ -77,7 +78,7 @@ pub either : (a b : Bool) → (a || b) ≡ true → (a ≡ true) ⊎ (b ≡ true
 either true b e = inl refl
 either false b e = inr e
 
--- ---- places
+-- ---- positions
 same : (front t : List ℕ) (k : ℕ) → front ≡ take k t → front ++ [] ++ drop k t ≡ t
 same front t k e = ap (λ s. s ++ drop k t) (append-nil front ∙ e) ∙ take-append-drop k t
 

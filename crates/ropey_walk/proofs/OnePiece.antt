@@ -1,4 +1,4 @@
--- Texts in at most one piece.
+-- Texts of at most one chunk.
 use Rattle.std.proofs.Common.{◌≡◌, ℕ, ◌<◌, ◌≤◌, List, [], ◌∷◌, ◌++◌, length, refl, ap, arith, sym, ◌∙◌, subst}
 use Rattle.std.specs.List.{concat}
 use Rattle.std.proofs.lemmas.List.{append-nil, append_assoc}
@@ -10,7 +10,7 @@ use Rattle.ropey_walk.specs.Chunks.{text_of, lone_piece}
 use Rattle.ropey_walk.specs.Standing.{StandsAt}
 use Rattle.ropey_walk.proofs.Cuts.{byte_len-append, first_piece, rest_cut}
 
--- the first chunk is the text where there is no other, and else is shorter
+-- the first chunk is the text if there is no other, and else is shorter
 pub record OneOrMore (pieces : List (List ℕ)) (chunk : List ℕ) : Type 0 where
   pub all : length pieces ≤ 1 → chunk ≡ text_of pieces
   pub some : 1 < length pieces → byte_len chunk < byte_len (text_of pieces)

@@ -1,4 +1,4 @@
--- Bytes that are left of a part of a text and of the chunks ahead.
+-- The bytes that are left of a part of a text and of the chunks ahead.
 use Rattle.std.proofs.Common.{◌≡◌, ℕ, suc, ◌+◌, ◌-◌, ◌<◌, ◌≤◌, List, [], ◌∷◌, ◌++◌, ◌⊎◌, inl, inr, ◌==◌, length, take, drop, refl, sym, ap, ◌∙◌, subst, arith, append_assoc, length-append, length-drop, length-take-le, take-append-drop, min, Bool, true, false, true≢false, not}
 use Rattle.std.proofs.lemmas.Bool.{eqb-true}
 use Rattle.std.proofs.lemmas.Bool.Decides.{nat_tests, eqb_tells}
@@ -14,11 +14,11 @@ use Rattle.ropey_walk.specs.Chunks.{text_of, IsRopeText}
 use Rattle.ropey_walk.proofs.Cuts.{first_piece}
 use Rattle.ropey_walk.proofs.ChunkWalks.{written}
 
--- the bytes of a chunk and of those behind it
+-- the bytes of a chunk and of those after it
 pub next_bytes : (chunk : List ℕ) (ahead after : List (List ℕ)) → ahead ≡ chars chunk ∷ after → IsUtf8 chunk → chunk ++ encode_utf8_all (text_of after) ≡ encode_utf8_all (text_of ahead)
 next_bytes chunk ahead after e utf8 = written [] chunk ahead after (encode_utf8_all (text_of ahead)) refl e utf8
 
--- behind a whole part stand the chunks ahead
+-- after a whole part come the chunks ahead
 pub behind_part : (part chunk : List ℕ) (len : ℕ) (ahead after : List (List ℕ)) → len ≤ length part → length part ≤ len → ahead ≡ chars chunk ∷ after → IsUtf8 chunk
     → chunk ++ encode_utf8_all (text_of after) ≡ drop len (part ++ encode_utf8_all (text_of ahead))
 behind_part part chunk len ahead after within whole e utf8 =
@@ -37,7 +37,7 @@ then_assoc Less p q = refl
 then_assoc Equal p q = refl
 then_assoc Greater p q = refl
 
--- the order of lists by fronts of the same length, and then by the rests
+-- the order of lists by starts of the same length, and then by the rests
 pub by_fronts : (xs ys us vs : List ℕ) → length xs ≡ length ys → slice_cmp nat_cmp (xs ++ us) (ys ++ vs) ≡ ordering_then (slice_cmp nat_cmp xs ys) (slice_cmp nat_cmp us vs)
 by_fronts [] [] us vs e = refl
 by_fronts [] (y ∷ ys) us vs e = absurd (omega (arith, e))
@@ -51,7 +51,7 @@ decides Equal p differs = absurd (differs refl)
 decides Greater p differs = refl
 
 -- ---- the order of two texts by their next parts
--- the bytes behind a place in a part, which is the front of what is left
+-- the bytes after an index in a part, which is the start of what is left
 pub fronts_left : (part : List ℕ) (len : ℕ) (rest left : List ℕ) → len ≤ length part → left ≡ drop len (part ++ rest) → part ++ rest ≡ take len part ++ left
 fronts_left part len rest left within e =
     sym (ap (λ xs. xs ++ rest) (take-append-drop len part)) ∙ append_assoc (take len part) (drop len part) rest
@@ -61,7 +61,7 @@ module _ (part part' : List ℕ) (len : ℕ) (rest rest' : List ℕ) (within : l
   as_long : length (take len part) ≡ length (take len part')
   as_long = length-take-le len part within ∙ sym (length-take-le len part' within')
 
-  -- parts that are the same leave the order to what is behind them
+  -- after equal parts the order is that of the rests
   pub same_parts : (left left' : List ℕ) → left ≡ drop len (part ++ rest) → left' ≡ drop len (part' ++ rest') → slice_cmp nat_cmp (take len part) (take len part') ≡ Equal
       → slice_cmp nat_cmp (part ++ rest) (part' ++ rest') ≡ slice_cmp nat_cmp left left'
   same_parts left left' e e' same =
@@ -85,7 +85,7 @@ less_than_some n = grind (arith, nat_tests)
 more_than_none : (n : ℕ) → Greater ≡ nat_cmp (suc n) 0
 more_than_none n = grind (arith, nat_tests)
 
--- where one has nothing left
+-- one has nothing left
 pub ended : (part part' : List ℕ) (ahead ahead' : List (List ℕ)) → (part ≡ []) ⊎ (part' ≡ []) → (part ≡ [] → ahead ≡ []) → (part' ≡ [] → ahead' ≡ [])
     → slice_cmp nat_cmp (part ++ encode_utf8_all (text_of ahead)) (part' ++ encode_utf8_all (text_of ahead')) ≡ nat_cmp (length part) (length part')
 ended [] [] ahead ahead' one some some' = λ i. slice_cmp nat_cmp (encode_utf8_all (text_of (some refl i))) (encode_utf8_all (text_of (some' refl i)))
@@ -95,7 +95,7 @@ ended (x ∷ xs) (y ∷ ys) ahead ahead' (inl e) some some' = absurd (omega (ari
 ended (x ∷ xs) (y ∷ ys) ahead ahead' (inr e) some some' = absurd (omega (arith, ap length e))
 
 -- ---- a text and bytes
--- a text is that of bytes where it has those bytes
+-- a text is that of bytes if it has those bytes
 pub same_text : (text bytes : List ℕ) → IsUtf8 bytes → encode_utf8_all text ≡ bytes → text ≡ chars bytes
 same_text text bytes utf8 e = chars_from_encodes text bytes utf8 e
 
@@ -106,7 +106,7 @@ pub no_items : (xs : List ℕ) → length xs ≤ 0 → xs ≡ []
 no_items [] h = refl
 no_items (x ∷ xs) h = absurd (omega (arith, h))
 
--- a chunk that is next fits into what is left of bytes that are as many as the text's
+-- the next chunk fits into what is left of bytes that are as many as the text's
 pub as_long_left : (done rest text chunk : List ℕ) (ahead after : List (List ℕ)) (bytes : List ℕ) → done ++ rest ≡ text → done ++ encode_utf8_all (text_of ahead) ≡ bytes → ahead ≡ chars chunk ∷ after → IsUtf8 chunk
     → length bytes ≡ length text → length chunk ≤ length rest
 as_long_left done rest text chunk ahead after bytes e f next utf8 len =
@@ -117,7 +117,7 @@ as_long_left done rest text chunk ahead after bytes e f next utf8 len =
     let n = ap length (next_bytes chunk ahead after next utf8) in
     omega (arith, a, b, n, len, length-append done rest, length-append done all, length-append chunk tail)
 
--- texts that begin the same, and then with other parts of the same length, differ
+-- texts that start equally, and then with different parts of the same length, differ
 pub other_front : (done front behind text chunk : List ℕ) (ahead after : List (List ℕ)) (bytes : List ℕ) → done ++ (front ++ behind) ≡ text → done ++ encode_utf8_all (text_of ahead) ≡ bytes → ahead ≡ chars chunk ∷ after → IsUtf8 chunk
     → length front ≡ length chunk → bytes ≡ text → front ≡ chunk
 other_front done front behind text chunk ahead after bytes e f next utf8 len same =
@@ -126,14 +126,14 @@ other_front done front behind text chunk ahead after bytes e f next utf8 len sam
     let fronts : chunk ++ tail ≡ front ++ behind = next_bytes chunk ahead after next utf8 ∙ rests in
     sym (take_at front behind (length chunk) len) ∙ ap (take (length chunk)) (sym fronts) ∙ take_at chunk tail (length chunk) refl
 
--- texts of the same length that were gone through are the same
+-- texts of the same length that were compared to their ends are equal
 pub all_the_same : (done rest text : List ℕ) (ahead : List (List ℕ)) (bytes : List ℕ) → done ++ rest ≡ text → done ++ encode_utf8_all (text_of ahead) ≡ bytes → ahead ≡ [] → length bytes ≡ length text → bytes ≡ text
 all_the_same done rest text ahead bytes e f none len =
     let whole : done ≡ bytes = sym (append-nil done) ∙ ap (λ ps. done ++ encode_utf8_all (text_of ps)) (sym none) ∙ f in
     let empty : rest ≡ [] = no_items rest (omega (arith, ap length e, ap length whole, len, length-append done rest)) in
     sym whole ∙ sym (append-nil done) ∙ ap (λ r. done ++ r) (sym empty) ∙ e
 
--- ---- answers of tests
+-- ---- results of tests
 pub not_no : (b : Bool) → false ≡ not b → b ≡ true
 not_no true h = refl
 not_no false h = absurd (true≢false (sym h))
@@ -150,7 +150,7 @@ le_or_less : (n m : ℕ) → (n ≤ m) ⊎ (m < n)
 le_or_less n m = elim (eqb_tells (n - m) 0) [ inl h ↦ inl (omega (arith, h.1)) | inr h ↦ inr (omega (arith, h.1)) ]
 
 -- ---- blocks
--- bytes taken from a place on, up to 256, are a block, and the rest is what stands behind it
+-- bytes from an index on, up to 256, are a block, and the rest is what follows
 pub record IsBlock (bytes block rest : List ℕ) (at next : ℕ) : Type 0 where
   pub block_is : block ≡ take 256 (drop at bytes)
   pub rest_is : rest ≡ drop next bytes

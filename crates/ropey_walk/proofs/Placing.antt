@@ -1,4 +1,4 @@
--- Places in a chunk as places in the whole text.
+-- Positions in a chunk as positions in the whole text.
 use Rattle.std.proofs.Common.{◌≡◌, ℕ, zero, suc, ◌+◌, ◌-◌, ◌^◌, ◌<◌, ◌≤◌, ◌⊎◌, inl, inr, Bool, true, false, ◌&&◌, List, [], ◌∷◌, ◌++◌, length, get_or, refl, ap, arith, sym, ◌∙◌, subst}
 use Rattle.std.specs.List.{concat}
 use Rattle.std.specs.Str.{IsUtf8, chars}
@@ -21,7 +21,7 @@ piece_text : (chunk : List ℕ) → concat (lone_piece chunk) ≡ chunk
 piece_text [] = refl
 piece_text (c ∷ cs) = append-nil (c ∷ cs)
 
--- the text before a chunk, with it, and as a whole
+-- the text before a chunk, with it, and the whole
 pub record IsPart (text chunk before after : List ℕ) : Type 0 where
   pub parts : text ≡ before ++ chunk ++ after
   pub whole_before : NoCrLfBetween before chunk
@@ -42,7 +42,7 @@ is_part pieces before after chunk parts text =
       sums = ap byte_len whole ∙ omega (arith, byte_len-append (text_of before ++ chunk) (text_of after), byte_len-append (text_of before) chunk);
     }
 
--- a place in a chunk, which is a place in the text
+-- a position in a chunk as one in the text
 pub record IsPlaced (text chunk : List ℕ) (start : Counts) (at place : ℕ) : Type 0 where
   pub stands : IsPlaceIn text chunk start at
   pub place_is : start.bytes + at ≡ place
@@ -67,8 +67,8 @@ byte_placed pieces i chunk start h text within =
     ] in
     placed (text_of pieces) chunk (text_of h.before) (text_of h.after) start (i - start.bytes) i part h.start_is inside (omega (arith, starts, h.not_past))
 
--- ---- where an end lies
--- a text of no characters, and one of no bytes
+-- ---- where an end is
+-- a text without characters, and one without bytes
 nothing : (text : List ℕ) → length text ≤ 0 → text ≡ []
 nothing [] h = refl
 nothing (c ∷ cs) h = absurd (omega (arith, h))
@@ -163,7 +163,7 @@ module _ (pieces : List (List ℕ)) (bytes : List ℕ) (start : Counts) (utf8 : 
       placed (text_of pieces) chunk before (text_of h.after) start at (byte_of_line (text_of pieces) (suc j)) part h.start_is inside
       (ap (λ n. byte_len before + n) at_is ∙ reached ∙ ap (λ t. byte_of_line t (suc j)) (sym part.parts))
 
--- ---- what stands before a place
+-- ---- the counts before a position
 nothing_follows : (text : List ℕ) → NoCrLfBetween text []
 nothing_follows text = none (ends_with_cr text)
   where
@@ -171,7 +171,7 @@ nothing_follows text = none (ends_with_cr text)
     none true = refl
     none false = refl
 
--- up to its end a text counts what it counts
+-- up to its end a text has its counts
 whole_count : (may_meet : List ℕ → List ℕ → Type 0) (count : List ℕ → ℕ) (ends : List ℕ → List ℕ) → EndsAddUp may_meet count ends → ((text : List ℕ) → may_meet text []) → ends_up_to 0 (ends []) ≡ 0
     → (text : List ℕ) → ends_up_to (byte_len text) (ends text) ≡ count text
 whole_count may_meet count ends law meets none text =
@@ -182,7 +182,7 @@ whole_count may_meet count ends law meets none text =
     ap (λ t. ends_up_to d (ends t)) (sym whole) ∙ law text [] [] d (meets text) (meets (text ++ [])) (omega arith) long
     ∙ ap (λ n. count text + ends_up_to n (ends [])) same ∙ omega (arith, none)
 
--- and so does the front of a text, for characters and code units
+-- and so has the start of a text, for characters and code units
 pub whole_front : (count : List ℕ → ℕ) (ends : List ℕ → List ℕ) → EndsAddUp AnyTexts count ends → ends_up_to 0 (ends []) ≡ 0 → (front back : List ℕ) → ends_up_to (byte_len front) (ends (front ++ back)) ≡ count front
 whole_front count ends law none front back =
     let d = byte_len front in
@@ -194,7 +194,7 @@ whole_front count ends law none front back =
 pub whole_chars : EndsAddUp AnyTexts length char_ends → (front back : List ℕ) → ends_up_to (byte_len front) (char_ends (front ++ back)) ≡ length front
 whole_chars law = whole_front length char_ends law refl
 
--- a count of what ends up to a place, and that it fits
+-- a count of what ends up to a position, and that it fits
 pub record Tells (result count : ℕ) : Type 0 where
   pub is : result ≡ count
   pub fits : result < 2 ^ 64
@@ -233,7 +233,7 @@ pub byte_fits : (text chunk : List ℕ) (start : Counts) (at : ℕ) → IsPlaceI
 byte_fits text chunk start at h =
     omega (arith, h.fits, h.within, ap (λ c. c.bytes) h.start_is, ap byte_len h.parts, byte_len-append (h.before ++ chunk) h.after, byte_len-append h.before chunk)
 
--- no more breaks stand before the chunk of a line than before the line
+-- there are no more breaks before the chunk of a line than before the line
 pub line_low : (pieces : List (List ℕ)) (chunk : List ℕ) (start : Counts) (l : ℕ) → (l ≡ 0 → StandsAt pieces Bytes 0 chunk start) → (0 < l → StandsAt pieces Breaks (l - 1) chunk start) → start.breaks ≤ l
 line_low pieces chunk start zero first later =
     let h = first refl in

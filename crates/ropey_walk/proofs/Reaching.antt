@@ -1,4 +1,4 @@
--- The leaf into which a part of a text reaches, and what of it lies in the part.
+-- The leaf that a part of a text reaches into, and what of it is in the part.
 use Rattle.std.proofs.Common.{◌≡◌, ℕ, ◌+◌, ◌-◌, ◌^◌, ◌<◌, ◌≤◌, ◌⊎◌, inl, inr, Bool, true, false, ◌&&◌, List, [], ◌∷◌, ◌++◌, length, take, drop, min, refl, ap, arith, sym, ◌∙◌, subst, length-append, length-take, length-drop, length-take-le}
 use Rattle.std.specs.Prelude.{encode_utf8_all}
 use Rattle.std.specs.List.{concat}
@@ -28,7 +28,7 @@ use Rattle.ropey_walk.proofs.Clipping.{drop-past, take-past, text-from, clip-aro
 use Rattle.ropey_walk.proofs.Clipped.{some_chars, clip-all, scalars-take, scalars-drop}
 use Rattle.ropey_walk.proofs.Counting.{back_whole, take-parts, whole-parts, length-between, front_breaks, standing-front, standing-plus, amount-plus, amount-front, amount-standing}
 
--- ---- a part of a text: what stands before it and what it counts
+-- ---- a part of a text: the counts before it and its own
 pub record IsPart (t : List ℕ) (start len : Counts) : Type 0 where
   pub within : start.chars + len.chars ≤ length t
   pub starts : start ≡ standing t start.chars
@@ -55,7 +55,7 @@ whole_clip pieces start len e h text =
     let end : start.chars + len.chars ≡ length (text_of pieces) = omega (arith, first, ap (λ c. c.chars) h) in
     ap (λ n. clip n (start.chars + len.chars) pieces) first ∙ ap (λ n. clip 0 n pieces) end ∙ clip-all pieces text.cut
 
--- ---- no measure is above the bytes
+-- ---- no measure exceeds the bytes
 pub amount-below : BreaksOfParts → (by : By) (t : List ℕ) → amount by (counts_of t) ≤ byte_len t
 amount-below law Bytes t = omega arith
 amount-below law Chars t = length-le-encodes t
@@ -90,7 +90,7 @@ nothing_next s r e = subst (NoCrLfBetween s) (sym e) (none (ends_with_cr s))
     none true = refl
     none false = refl
 
--- ---- a place between two pieces
+-- ---- a seam: an index between two chunks
 pub record IsSeam (t front : List ℕ) : Type 0 where
   pub within : length front ≤ length t
   pub taken : take (length front) t ≡ front
@@ -131,7 +131,7 @@ end-bytes t start len h =
       ap (λ c. c.bytes) h.counted,
     )
 
--- ---- the leaf in which a place of a part lies
+-- ---- the leaf that contains a position of a part
 module _ (law : BreaksOfParts) (counted : CountsAreOfTheText) (pieces : List (List ℕ)) (text : IsRopeText pieces) (start len : Counts) (part : IsPart (text_of pieces) start len) (some : 0 < len.chars) where
   abbrev t : List ℕ
   t = text_of pieces
@@ -170,14 +170,14 @@ module _ (law : BreaksOfParts) (counted : CountsAreOfTheText) (pieces : List (Li
         ];
       }
 
-  -- what stands between the part's start and a seam behind it
+  -- the counts between the part's start and a later seam
   from_start : (by : By) (f : List ℕ) → IsSeam t f → start.chars ≤ length f → amount by (counts_of f) ≡ amount by start + amount by (counts_of (between start.chars (length f) t))
   from_start by f seam behind =
       let a = start.chars in
       let step = standing-plus law t a (length f) behind seam.within (back_whole a (take (length f) t) (drop (length f) t) seam.whole) in
       ap (amount by) (sym seam.stands ∙ step ∙ ap (λ c. plus c (counts_of (between a (length f) t))) (sym part.starts)) ∙ amount-plus law by start (counts_of (between a (length f) t))
 
-  -- what stands up to a seam before the part's start
+  -- the counts up to a seam before the part's start
   up_to_start : (by : By) (f : List ℕ) → IsSeam t f → length f ≤ start.chars → amount by (counts_of f) ≤ amount by start
   up_to_start by f seam before = omega (arith, ap (amount by) seam.stands, ap (amount by) part.starts, amount-standing law by t (length f) start.chars before)
 
@@ -279,7 +279,7 @@ module _ (law : BreaksOfParts) (counted : CountsAreOfTheText) (pieces : List (Li
         ];
       }
 
--- ---- what of the leaf lies in the part
+-- ---- what of the leaf is in the part
 pub minus-plus : (c d : Counts) → minus (plus c d) c ≡ d
 minus-plus c d =
     let b : c.bytes + d.bytes - c.bytes ≡ d.bytes = omega arith in
@@ -313,7 +313,7 @@ drop-parts n f r = elim (cases_lt n (length f)) [
   | inr past ↦ drop-past n f r past ∙ ap (λ b. b ++ drop (n - length f) r) (sym (drop_of_length-le f past))
 ]
 
--- a text cut at two of its characters, as bytes
+-- a text cut at two character boundaries, as bytes
 pub record IsCutAt (bytes : List ℕ) (from to : ℕ) (cut : List ℕ) : Type 0 where
   pub order : from ≤ to
   pub within : to ≤ length bytes
@@ -382,7 +382,7 @@ module _ (law : BreaksOfParts) (pieces : List (List ℕ)) (text : IsRopeText pie
       let parts : pieces ≡ (r.left ++ leaf ∷ []) ++ r.right = r.parts ∙ sym (append_assoc r.left (leaf ∷ []) r.right) in
       subst (IsSeam whole) joined (seam_between law (r.left ++ leaf ∷ []) r.right whole (ap concat parts) (subst IsCutting parts text.cut))
 
-  -- from the part's start to a seam behind it
+  -- from the part's start to a later seam
   from_part : (f : List ℕ) → IsSeam whole f → a ≤ length f → counts_of f ≡ plus start (counts_of (drop a f))
   from_part f seam behind =
       sym seam.stands ∙ standing-plus law whole a (length f) behind seam.within (back_whole a (take (length f) whole) (drop (length f) whole) seam.whole)

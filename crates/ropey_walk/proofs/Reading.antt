@@ -46,7 +46,7 @@ byte_read pieces i bytes start utf8 h text inside =
     }
 
 -- ---- a character
--- so many characters end where they end
+-- that many characters end where they end
 pub place_of_front : (front back : List ℕ) → end_place (char_ends (front ++ back)) (length front) (byte_len (front ++ back)) ≡ byte_len front
 place_of_front front back =
     let d = byte_len front in
@@ -56,7 +56,7 @@ place_of_front front back =
     let low = place_there_and_back-chars (front ++ back) d in
     omega (arith, high, low, ap (λ n. end_place (char_ends (front ++ back)) n (byte_len (front ++ back))) counted)
 
--- the bytes from a place on begin with a character
+-- the bytes from an index on start with a character
 pub record IsCharAt (bytes : List ℕ) (at character : ℕ) : Type 0 where
   pub boundary : IsCharBoundary bytes at
   pub rest : List ℕ
@@ -100,7 +100,7 @@ char_read pieces k bytes start utf8 h text inside =
       reads = rest ∙ ap encode_utf8_all (drop-cons chunk j 0 within) ∙ ap (λ c. encode_utf8 c ++ encode_utf8_all (drop (suc j) chunk)) same;
     }
 
--- where a character comes, some byte does
+-- if a character follows, so does a byte
 pub no_char_left : (bytes rest : List ℕ) (character : ℕ) → bytes ≡ encode_utf8 character ++ rest → length bytes ≡ 0 → ⊥
 no_char_left bytes rest character e none =
     absurd (omega (arith, none, ap length e, length-append (encode_utf8 character) rest, length-encode character, (len_utf8_bounds character).0))

@@ -1,4 +1,4 @@
--- The pieces of a text that is not empty, and what an empty one shows.
+-- The chunks of a text that isn't empty, and that of an empty one.
 use Rattle.std.proofs.Common.{◌≡◌, ℕ, ◌≤◌, inr, List, [], ◌∷◌, refl, arith}
 use Rattle.str_indices.specs.Text.{byte_len}
 use Rattle.ropey_tree.specs.declared.counts.By.{By}
@@ -11,7 +11,7 @@ pub piece_by_itself : (leaf : List ℕ) → 1 ≤ byte_len leaf → lone_piece l
 piece_by_itself [] some = absurd (omega arith)
 piece_by_itself (c ∷ cs) some = refl
 
--- an empty text shows an empty chunk
+-- an empty text has an empty chunk
 pub amount-nothing : (by : By) → amount by (counts_of []) ≡ 0
 amount-nothing Bytes = refl
 amount-nothing Chars = refl

@@ -22,7 +22,7 @@ use Rattle.ropey_walk.proofs.Reaching.{IsPart, start-fits, bytes-part}
 pub part_of : (slice : RopeSlice) (pieces : List (List ℕ)) → source_pieces slice.source ≡ pieces → IsPart (text_of pieces) slice.start slice.len
 part_of slice pieces e = subst (λ (ps : List (List ℕ)). IsPart (text_of ps) slice.start slice.len) e (record { within = slice.within; starts = slice.starts; counted = slice.counted })
 
--- a slice of no characters has no pieces
+-- a slice without characters has no chunks
 pub nothing_in : (slice : RopeSlice) → slice.len.chars ≡ 0 → slice_pieces slice ≡ []
 nothing_in slice e =
     let same : slice.start.chars + slice.len.chars ≡ slice.start.chars = omega (arith, e) in

@@ -1,4 +1,4 @@
--- A place between the items of a list.
+-- A position between the items of a list.
 use Rattle.std.proofs.Common.{◌≡◌, ℕ, suc, ◌+◌, List, [], ◌∷◌, ◌++◌, ◌-◌, ◌<◌, ◌≤◌, length, take, drop, map, get_or, ap, arith, sym, ◌∙◌, length-append, length-drop, append_assoc, take-append-drop, length-take-le}
 use Rattle.std.proofs.Math.Seq.{drop-cons}
 use Rattle.std.specs.Prelude.{reverse, Bool, true, false}
@@ -13,7 +13,7 @@ ahead_of items front rest n parts e = ap (λ xs. drop n xs) parts ∙ drop_at fr
 pub behind_of : {A : Type 0} → (items front rest : List A) (n : ℕ) → items ≡ front ++ rest → n ≡ length front → (before_item n items).behind ≡ reverse front
 behind_of items front rest n parts e = ap (λ xs. reverse (take n xs)) parts ∙ ap reverse (take_at front rest n (sym e))
 
--- from a place to the one behind the next item
+-- from a position to the one after the next item
 pub record Crosses {A : Type 0} (item : A) (old new : TwoWay A) : Type 0 where
   pub ahead : old.ahead ≡ item ∷ new.ahead
   pub behind : new.behind ≡ item ∷ old.behind
@@ -76,7 +76,7 @@ crosses_mapped item_of count n m within next =
 pub none_ahead : {A : Type 0} → (items : List A) (n : ℕ) → n ≡ length items → (before_item n items).ahead ≡ []
 none_ahead items n e = ahead_of items items [] n (sym (append-nil items)) e
 
--- ---- how many there are
+-- ---- the number of items
 pub ahead_count : {A : Type 0} → (items : List A) (n : ℕ) → length (before_item n items).ahead ≡ length items - n
 ahead_count items n = length-drop n items
 

@@ -9,16 +9,19 @@ use Rattle.ropey_tree.specs.NodeView.{NodeView}
 use Rattle.ropey_walk.specs.Chunks.{text_of}
 use Rattle.ropey_walk.specs.Conversions.{line_of_byte}
 
--- the pieces of a tree, or none
+-- the chunks of a tree, or none
 abbrev pub pieces_under : Option (Bor NodeView) → List (List ℕ)
 pieces_under None = []
 pieces_under (Some node) = node.now.pieces
 
--- What stands before a character of a text. The break that ends behind the character isn't counted yet: between CR and LF that is the whole CR LF.
+-- The counts before a character of a text. A break that ends after the character isn't counted yet:
+-- between CR and LF that is the CR LF.
 abbrev pub standing : List ℕ → ℕ → Counts
 standing text char = record { bytes = byte_len (take char text); chars = char; units = units (take char text); breaks = line_of_byte text (byte_len (take char text)) }
 
--- The leaf of a text in pieces into which a part of the text reaches, and what stands before it: the first up to whose end more than place i of a measure stands, counted from the part's start, else the one in which the part ends.
+-- The leaf that a part of a text reaches into and that contains position i of a measure of the
+-- part, and the counts before it: the first whose end is past i, or the last that the part reaches
+-- into.
 pub record ReachesLeaf (pieces : List (List ℕ)) (start len : Counts) (by : By) (i : ℕ) (leaf : List ℕ) (before : Counts) : Type 0 where
   pub left : List (List ℕ)
   pub right : List (List ℕ)

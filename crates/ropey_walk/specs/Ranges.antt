@@ -15,30 +15,30 @@ use Rattle.ropey_walk.specs.Clips.{clip}
 use Rattle.ropey_walk.specs.Conversions.{char_of_byte}
 
 -- ---- ends
--- the index behind another, held at the greatest `usize`
+-- the index after another, at most the greatest `usize`
 abbrev pub end_behind : ℕ → ℕ
 end_behind last = min (last + 1) (2 ^ 64 - 1)
 
--- the index behind the last of `first..=last`, which is spent once it was iterated to its end
+-- the index after the last of `first..=last`, which is empty once it was iterated to its end
 abbrev pub end_of_inclusive : ℕ → ℕ → Bool → ℕ
 end_of_inclusive first last is_spent =
     if nat_le first last && is_spent then last else end_behind last
 
--- where a range starts and ends in a text of a length
+-- the start and the end of a range in a text of this length
 abbrev pub start_of : Ends → ℕ
 start_of ends = unwrap_or ends.start 0
 
 abbrev pub end_of : Ends → ℕ → ℕ
 end_of ends len = unwrap_or ends.end len
 
--- both ends are given, and the start lies above the end
+-- both ends are given, and the start is past the end
 abbrev pub IsBackwards : Option ℕ → Option ℕ → Type 0
 IsBackwards None end = ⊥
 IsBackwards (Some start) None = ⊥
 IsBackwards (Some start) (Some end) = end < start
 
 -- ---- ranges of a text
--- the pieces of a text, clipped to a range of its characters, and to one of its bytes
+-- the chunks of a text, clipped to a range of its characters, and to one of its bytes
 abbrev pub chars_in : Ends → List (List ℕ) → List (List ℕ)
 chars_in ends pieces = clip (start_of ends) (end_of ends (length (text_of pieces))) pieces
 
@@ -52,13 +52,13 @@ pub record IsRangeIn (len : ℕ) (ends : Ends) : Type 0 where
   pub order : start_of ends ≤ end_of ends len
   pub within : end_of ends len ≤ len
 
--- a range of a text's bytes, which cuts no character
+-- a range of a text's bytes that starts and ends at character boundaries
 pub record IsByteRangeIn (text : List ℕ) (ends : Ends) : Type 0 where
   pub range : IsRangeIn (byte_len text) ends
   pub starts : IsCharBoundary (encode_utf8_all text) (start_of ends)
   pub stops : IsCharBoundary (encode_utf8_all text) (end_of ends (byte_len text))
 
--- ---- why one is refused: backwards, else past the length, else inside a character
+-- ---- why one is refused: its start is past its end, or it is out of bounds or splits a character
 abbrev pub GoesPast : ℕ → Ends → Type 0
 GoesPast len ends =
     (¬ (IsBackwards ends.start ends.end)) × ((len < start_of ends) ⊎ (len < end_of ends len))

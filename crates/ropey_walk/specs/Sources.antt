@@ -5,7 +5,7 @@ use Rattle.ropey_walk.specs.declared.slice.Source.{Source}
 use Rattle.ropey_walk.specs.declared.slice.Source.TheVariants.{Full, Light}
 use Rattle.ropey_walk.specs.Chunks.{lone_piece}
 
--- the pieces of a tree, or those of a text in one chunk
+-- the chunks of a tree, or that of a text in one chunk
 abbrev pub source_pieces : Source → List (List ℕ)
 source_pieces (Full node) = node.now.pieces
 source_pieces (Light text) = lone_piece (chars text.now)

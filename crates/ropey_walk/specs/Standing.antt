@@ -1,4 +1,4 @@
--- A chunk inside a text that is cut into pieces, with what stands before it in all four measures.
+-- A chunk of a text, with the counts before it in all four measures.
 use Rattle.std.specs.Prelude.{◌≡◌, ℕ, ◌^◌, ◌<◌, ◌≤◌, ◌⊎◌, List, [], ◌++◌}
 use Rattle.str_indices.specs.Text.{byte_len, NoCrLfBetween}
 use Rattle.ropey_tree.specs.declared.counts.Counts.{Counts}
@@ -6,7 +6,7 @@ use Rattle.ropey_tree.specs.declared.counts.By.{By}
 use Rattle.ropey_tree.specs.Counts.{counts_of, amount}
 use Rattle.ropey_walk.specs.Chunks.{text_of, lone_piece}
 
--- the chunk in which place i of a measure lies, as `ShowsChunk` has it
+-- the chunk that contains position i of a measure, as in `ShowsChunk`
 pub record StandsAt (pieces : List (List ℕ)) (by : By) (i : ℕ) (chunk : List ℕ) (start : Counts) : Type 0 where
   pub before : List (List ℕ)
   pub after : List (List ℕ)
@@ -16,7 +16,7 @@ pub record StandsAt (pieces : List (List ℕ)) (by : By) (i : ℕ) (chunk : List
   pub not_past : amount by (counts_of (text_of before)) ≤ i
   pub passed : (i < amount by (counts_of (text_of before ++ chunk))) ⊎ (after ≡ [])
 
--- a chunk of a text, cut through no CR LF, with what stands before it, and a place in it
+-- a chunk of a text, with no CR LF across its ends, the counts before it, and a position in it
 pub record IsPlaceIn (text chunk : List ℕ) (start : Counts) (at : ℕ) : Type 0 where
   pub before : List ℕ
   pub after : List ℕ
@@ -27,7 +27,8 @@ pub record IsPlaceIn (text chunk : List ℕ) (start : Counts) (at : ℕ) : Type 
   pub within : at ≤ byte_len chunk
   pub fits : byte_len text < 2 ^ 63
 
--- a chunk of a text that is cut into pieces, with what stands before it; an empty one is none of the pieces, and nothing is told of it
+-- a chunk of a text in chunks, with the counts before it; an empty one is none of these, and says
+-- nothing
 pub record IsChunkOf (pieces : List (List ℕ)) (chunk : List ℕ) (start : Counts) : Type 0 where
   pub before : List (List ℕ)
   pub after : List (List ℕ)

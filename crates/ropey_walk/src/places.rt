@@ -1,4 +1,4 @@
-//! Places in a rope: a chunk, and a byte index in it.
+//! Positions in a rope: a chunk, and a byte index in it.
 
 ghost use Rattle.std.specs.Prelude.{◌≡◌, ◌+◌, ◌-◌, ◌<◌, ◌≤◌, ◌↔◌, length, take, true, IsTrue, encode_utf8_all};
 ghost use Rattle.std.specs.Str.{chars, IsUtf8, IsCharBoundary};
@@ -15,26 +15,26 @@ use crate::slice::{Chunk, RopeSlice};
 use ropey_tree::breaks;
 use ropey_tree::counts::{By, Counts};
 
-/// A byte index in a chunk, with what stands before the chunk.
+/// A byte index in a chunk, and the counts before the chunk.
 #[derive(Clone, Copy)]
 pub(crate) struct Place<'a> {
     pub(crate) text: &'a str,
     pub(crate) start: Counts,
     pub(crate) at: usize,
-    // Whether it is known that each character of the chunk is one byte.
+    // Whether each character of the chunk is known to be one byte.
     pub(crate) is_ascii: bool,
     ghost ascii: { is_ascii ≡ true → length (chars text.now) ≡ length text.now },
 }
 
 impl<'a> Place<'a> {
-    /// It lies between two characters, or at an end of its chunk.
+    /// Returns whether it is a character boundary.
     pub(crate) fn is_boundary(&self) -> bool
         ensures { IsTrue result ↔ IsCharBoundary self.now.text.now self.now.at }
     {
         self.text.is_char_boundary(self.at)
     }
 
-    /// The chunk in which it lies.
+    /// Returns the chunk.
     #[inline]
     pub(crate) fn chunk(&self) -> Chunk<'a>
         ensures text { result.text ≡ self.now.text }
@@ -51,7 +51,7 @@ impl<'a> Place<'a> {
 impl<'a> RopeSlice<'a> {
     ghost use Rattle.ropey_walk.specs.Slices.{slice_pieces, slice_text};
 
-    /// The place of a byte.
+    /// Returns the position of a byte.
     pub(crate) fn place_of_byte(&self, byte_idx: usize) -> Place<'a>
         requires { byte_idx ≤ byte_len (slice_text self.now) }
         ensures stands { IsPlaceIn (slice_text self.now) (chars result.text.now) result.start
@@ -71,7 +71,7 @@ impl<'a> RopeSlice<'a> {
         }
     }
 
-    /// The place where a character starts, or the text's end.
+    /// Returns the position of a character's start, or the text's end.
     pub(crate) fn place_of_char(&self, char_idx: usize) -> Place<'a>
         ensures stands { IsPlaceIn (slice_text self.now) (chars result.text.now) result.start
             result.at }
@@ -90,7 +90,8 @@ impl<'a> RopeSlice<'a> {
         }
     }
 
-    /// The place where the character starts that holds a code unit, or the text's end.
+    /// Returns the position of the start of the character that contains a code unit, or the text's
+    /// end.
     pub(crate) fn place_of_unit(&self, utf16_cu_idx: usize) -> Place<'a>
         ensures stands { IsPlaceIn (slice_text self.now) (chars result.text.now) result.start
             result.at }
@@ -106,7 +107,8 @@ impl<'a> RopeSlice<'a> {
         }
     }
 
-    /// The first chunk by whose end so many line breaks have ended, else the last.
+    /// Returns the first chunk by whose end `line_break_idx` line breaks have ended, or else the
+    /// last.
     pub(crate) fn chunk_of_break(&self, line_break_idx: usize) -> Chunk<'a>
         ensures first { line_break_idx ≡ 0 →
             StandsAt (slice_pieces self.now) By.Bytes 0 (chars result.text.now) result.start }
@@ -123,7 +125,7 @@ impl<'a> RopeSlice<'a> {
         }
     }
 
-    /// The place where a line starts, or the text's end.
+    /// Returns the position of a line's start, or the text's end.
     pub(crate) fn place_of_line(&self, line_idx: usize) -> Place<'a>
         ensures stands { IsPlaceIn (slice_text self.now) (chars result.text.now) result.start
             result.at }
@@ -142,7 +144,7 @@ impl<'a> RopeSlice<'a> {
         }
     }
 
-    /// The byte index of a place.
+    /// Returns the byte index of a position.
     pub(crate) fn byte_of(&self, place: &Place<'_>) -> usize
         requires { IsPlaceIn (slice_text self.now) (chars place.now.text.now) place.now.start
             place.now.at }
@@ -151,7 +153,7 @@ impl<'a> RopeSlice<'a> {
         place.start.bytes + place.at
     }
 
-    /// The character in which a place lies.
+    /// Returns the index of the character that contains a position.
     pub(crate) fn char_of(&self, place: &Place<'_>) -> usize
         requires { IsPlaceIn (slice_text self.now) (chars place.now.text.now) place.now.start
             place.now.at }
@@ -161,7 +163,7 @@ impl<'a> RopeSlice<'a> {
         place.start.chars + char_of_byte(place.text, place.is_ascii, place.at)
     }
 
-    /// The code units of the characters that end at or before a place.
+    /// Returns the number of code units of the characters that end at or before a position.
     pub(crate) fn unit_of(&self, place: &Place<'_>) -> usize
         requires { IsPlaceIn (slice_text self.now) (chars place.now.text.now) place.now.start
             place.now.at }
@@ -171,7 +173,7 @@ impl<'a> RopeSlice<'a> {
         place.start.units + unit_of_byte(place.text, place.is_ascii, place.at)
     }
 
-    /// The line in which a place lies.
+    /// Returns the index of the line that contains a position.
     pub(crate) fn line_of(&self, place: &Place<'_>) -> usize
         requires { IsPlaceIn (slice_text self.now) (chars place.now.text.now) place.now.start
             place.now.at }
@@ -181,7 +183,7 @@ impl<'a> RopeSlice<'a> {
         place.start.breaks + breaks::from_byte_idx(place.text, place.at)
     }
 
-    /// What stands before a place between two characters.
+    /// Returns the counts before a position at a character boundary.
     pub(crate) fn standing_at(&self, place: &Place<'_>) -> Counts
         requires place { IsPlaceIn (slice_text self.now) (chars place.now.text.now) place.now.start
             place.now.at }
@@ -199,8 +201,8 @@ impl<'a> RopeSlice<'a> {
         }
     }
 
-    /// What the text up to a place between two characters counts by itself: of a CR LF that the
-    /// place cuts, the CR is a break.
+    /// Returns the counts of the text up to a position at a character boundary: if the position is
+    /// inside a CR LF, its CR counts as a break.
     pub(crate) fn counted_to(&self, place: &Place<'_>) -> Counts
         requires place { IsPlaceIn (slice_text self.now) (chars place.now.text.now) place.now.start
             place.now.at }

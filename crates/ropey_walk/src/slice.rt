@@ -13,17 +13,17 @@ ghost use Rattle.ropey_walk.specs.Sources.{source_pieces, light_bytes};
 use ropey_tree::counts::{By, Counts};
 use ropey_tree::node::{Found, Node, OnTheWay, leaf_at, leaf_near};
 
-/// A part of a rope, which acts as a text of its own: an index counts from its start, and a line
-/// break is what its own text has for one. A slice that starts at the LF of a CR LF has that LF as
-/// a break, and one that ends between them has the CR.
+/// A part of a rope that acts as a text of its own: indices count from its start, and its line
+/// breaks are those of its own text. A slice that starts at the LF of a CR LF has that LF as a
+/// break, and one that ends between them has the CR.
 ///
-/// It takes no memory. Contracts see the pieces into which its rope is cut, clipped to it.
+/// It allocates nothing. Contracts see the chunks of its rope, clipped to it.
 #[derive(Clone, Copy)]
 pub struct RopeSlice<'a> {
     source: Source<'a>,
-    // What stands before it in its source.
+    // The counts before it in its source.
     start: Counts,
-    // What it counts itself.
+    // Its own counts.
     len: Counts,
     ghost within: { start.chars + len.chars ≤ length (text_of (source_pieces source)) },
     ghost starts: { start ≡ standing (text_of (source_pieces source)) start.chars },
@@ -39,18 +39,18 @@ pub struct RopeSlice<'a> {
 enum Source<'a> {
     /// The text of a tree.
     Full(&'a Node),
-    /// A text in one chunk, or none. What lies in it isn't looked up in a tree.
+    /// A text in one chunk, or none, in which nothing is looked up.
     Light(&'a str),
 }
 
-/// A chunk, with what stands before it.
+/// A chunk, and the counts before it.
 #[derive(Clone, Copy)]
 pub struct Chunk<'a> {
     /// Its text.
     pub text: &'a str,
-    /// What stands before it.
+    /// The counts before it.
     pub start: Counts,
-    /// Whether it is known that each of its characters is one byte.
+    /// Whether each of its characters is known to be one byte.
     pub is_ascii: bool,
     ghost ascii: { is_ascii ≡ true → length (chars text.now) ≡ length text.now },
 }
@@ -60,7 +60,7 @@ impl<'a> Chunk<'a> {
     ghost use Rattle.std.specs.Str.{IsUtf8};
     ghost use Rattle.ropey_tree.specs.Counts.{zero_counts};
 
-    /// The chunk of an empty text.
+    /// Returns the chunk of an empty text.
     pub(crate) fn nothing() -> Self
         ensures text { chars result.text.now ≡ [] }
         ensures start { result.start ≡ zero_counts }
@@ -73,7 +73,7 @@ impl<'a> Chunk<'a> {
         }
     }
 
-    /// This one, or another where it is empty.
+    /// Returns this chunk, or the other one if it is empty.
     pub(crate) fn or(self, other: Self) -> Self
         ensures { (result ≡ self.entry) ⊎ (result ≡ other.entry) }
     {
@@ -82,7 +82,7 @@ impl<'a> Chunk<'a> {
 }
 
 impl<'a> Source<'a> {
-    /// A tree, or the empty text.
+    /// Returns a tree, or the empty text.
     fn new(node: Option<&'a Node>) -> Self
         ensures pieces { source_pieces result ≡ pieces_under node.entry }
         ensures bytes { light_bytes result ≡ [] }
@@ -94,7 +94,7 @@ impl<'a> Source<'a> {
     }
 }
 
-/// What the text of a tree counts, or the empty text.
+/// Returns the counts of a tree's text, or of the empty text.
 fn counts_under(node: Option<&Node>) -> Counts
     ensures counts { result ≡ counts_of (text_of (pieces_under node.entry)) }
     ensures cut { IsRopeText (pieces_under node.entry) }
@@ -102,7 +102,7 @@ fn counts_under(node: Option<&Node>) -> Counts
     match node {
         None => Counts::zero(),
         Some(node) => {
-            // For its facts alone.
+            // For the proof only.
             let _ = node.height();
             node.counts()
         }
@@ -120,7 +120,7 @@ impl<'a> RopeSlice<'a> {
     ghost use Rattle.ropey_walk.specs.Standing.{StandsAt, IsChunkOf};
     ghost use Rattle.ropey_walk.specs.Slices.{slice_pieces, slice_text, IsNear};
 
-    /// The whole text of a tree, or the empty text. `O(1)`.
+    /// Returns the whole text of a tree, or the empty text. `O(1)`.
     #[doc(hidden)]
     pub fn new(node: Option<&'a Node>) -> Self
         ensures { slice_pieces result ≡ pieces_under node.entry }
@@ -128,7 +128,11 @@ impl<'a> RopeSlice<'a> {
         RopeSlice::with_counts(node, counts_under(node))
     }
 
-    /// `new` where it is known what the text counts, which isn't counted then. `O(1)`.
+    /// `new` with known counts, which aren't looked up then. `O(1)`.
+    ///
+    /// # Requires
+    ///
+    /// The leaf texts are those of a rope, and `len` has their counts.
     #[doc(hidden)]
     pub fn with_counts(node: Option<&'a Node>, len: Counts) -> Self
         requires cut { IsRopeText (pieces_under node) }
@@ -142,9 +146,8 @@ impl<'a> RopeSlice<'a> {
         }
     }
 
-    /// The part of a slice that starts where `start` stands before it, and counts `len`, where it
-    /// has some character and lies in a chunk of the slice: it is a part of that chunk then. None
-    /// where it doesn't lie there.
+    /// Returns the part of a slice with these counts before it and of its text as a part of a chunk
+    /// of the slice, if it isn't empty and is inside that chunk.
     #[inline]
     fn part_of_chunk(&self, chunk: &Chunk<'a>, start: Counts, len: Counts) -> Option<Self>
         requires some { 0 < len.chars }
@@ -158,7 +161,7 @@ impl<'a> RopeSlice<'a> {
         ensures { IfSome result (λ part. slice_pieces part ≡
             clip start.chars (start.chars + len.chars) (slice_pieces self.now)) }
     {
-        // A law, and the slice's facts, for the proof alone.
+        // For the proof only.
         let _ = self.len_bytes();
         let end = start.bytes + len.bytes;
         if start.bytes < chunk.start.bytes || end > chunk.start.bytes + chunk.text.len() {
@@ -171,8 +174,8 @@ impl<'a> RopeSlice<'a> {
         })
     }
 
-    /// The part of a slice that starts where `start` stands before it, and counts `len`. Where it
-    /// lies in the chunk, it is a part of that alone. `O(1)`.
+    /// Returns the part of a slice with these counts before it and of its text. If it is inside the
+    /// chunk, it is a part of the chunk alone. `O(1)`.
     pub(crate) fn part(&self, chunk: &Chunk<'a>, start: Counts, len: Counts) -> Self
         requires within { start.chars + len.chars ≤ length (slice_text self.now) }
         requires starts { start ≡ standing (slice_text self.now) start.chars }
@@ -197,7 +200,7 @@ impl<'a> RopeSlice<'a> {
         }
     }
 
-    /// What the text counts. `O(1)`.
+    /// Returns the counts of the text. `O(1)`.
     pub(crate) fn counts(&self) -> Counts
         ensures counts { result ≡ counts_of (slice_text self.now) }
         ensures fits { result.bytes < 2 ^ 63 }
@@ -205,7 +208,7 @@ impl<'a> RopeSlice<'a> {
         self.len
     }
 
-    /// How many bytes of UTF-8 the text has. `O(1)`.
+    /// Returns the length of the text in bytes. `O(1)`.
     pub fn len_bytes(&self) -> usize
         ensures bytes { result ≡ byte_len (slice_text self.now) }
         ensures fits { result < 2 ^ 63 }
@@ -214,42 +217,43 @@ impl<'a> RopeSlice<'a> {
         match self.source {
             Source::Light(_) => self.counts().bytes,
             Source::Full(node) => {
-                // For its facts alone.
+                // For the proof only.
                 let _ = node.height();
                 self.counts().bytes
             }
         }
     }
 
-    /// How many characters, Unicode scalar values, the text has. `O(1)`.
+    /// Returns the number of characters (Unicode scalar values). `O(1)`.
     pub fn len_chars(&self) -> usize
         ensures { result ≡ length (slice_text self.now) }
     {
         self.counts().chars
     }
 
-    /// How many UTF-16 code units the text takes. `O(1)`.
+    /// Returns the number of UTF-16 code units. `O(1)`.
     pub fn len_utf16_cu(&self) -> usize
         ensures { result ≡ units (slice_text self.now) }
     {
         self.counts().units
     }
 
-    /// How many lines the text has: one more than line breaks, CR LF as one. `O(1)`.
+    /// Returns the number of lines: one more than the line breaks, with CR LF as one. `O(1)`.
     pub fn len_lines(&self) -> usize
         ensures { result ≡ line_breaks (slice_text self.now) + 1 }
     {
         self.counts().breaks + 1
     }
 
-    /// The leaf of the rope in which place `i` of a measure of the slice lies, or at which it ends.
+    /// Returns the leaf of the rope that contains position `i` of a measure of the slice, or in
+    /// which the slice ends.
     fn leaf(&self, node: &'a Node, by: By, i: usize) -> Found<'a>
         requires some { 0 < self.now.len.chars }
         requires under { source_pieces self.now.source ≡ node.now.pieces }
         ensures { ReachesLeaf node.now.pieces self.now.start self.now.len by i result.leaf.now
             result.before }
     {
-        // Laws, and the node's facts, for the proof alone.
+        // For the proof only.
         let _ = node.height();
         if i < self.len.by(by) {
             leaf_at(node, by, self.start.by(by) + i)
@@ -258,7 +262,7 @@ impl<'a> RopeSlice<'a> {
         }
     }
 
-    /// `leaf` of a byte, for callers that go from chunk to chunk: they keep a node in hand.
+    /// `leaf` of a byte, for callers that go from chunk to chunk and remember a node.
     fn leaf_near(
         &self,
         node: &'a Node,
@@ -272,7 +276,7 @@ impl<'a> RopeSlice<'a> {
         ensures reached { ReachesLeaf node.now.pieces self.now.start self.now.len By.Bytes byte_idx
             result.leaf.now result.before }
     {
-        // Laws, and the node's facts, for the proof alone.
+        // For the proof only.
         let _ = node.height();
         if byte_idx < self.len.bytes {
             leaf_near(node, near, By::Bytes, self.start.bytes + byte_idx)
@@ -281,7 +285,8 @@ impl<'a> RopeSlice<'a> {
         }
     }
 
-    /// What lies in the slice of the leaf in which place `i` of a measure lies, or at which it ends.
+    /// Returns the part inside the slice of the leaf that contains position `i` of a measure, or in
+    /// which the slice ends.
     fn clipped(&self, node: &'a Node, found: &Found<'a>, by: By, i: usize) -> Chunk<'a>
         requires some { 0 < self.now.len.chars }
         requires under { source_pieces self.now.source ≡ node.now.pieces }
@@ -291,7 +296,7 @@ impl<'a> RopeSlice<'a> {
         ensures cut { IsRopeText (slice_pieces self.now) }
         ensures utf8 { IsUtf8 result.text.now }
     {
-        // A law, and the node's facts, for the proof alone.
+        // For the proof only.
         let _ = node.height();
         let text = found.leaf.as_str();
         let start = self.start.bytes.saturating_sub(found.before.bytes);
@@ -299,12 +304,12 @@ impl<'a> RopeSlice<'a> {
         Chunk {
             text: &text[start..end],
             start: found.before.saturating_sub(self.start),
-            // A slice of characters of one byte has no others in any chunk.
+            // If all characters of a slice are one byte, so are those of its chunks.
             is_ascii: found.is_ascii | (self.len.chars == self.len.bytes),
         }
     }
 
-    /// The text of a slice of a text in one chunk, where it has some character.
+    /// Returns the text of a slice of a text in one chunk, if it isn't empty.
     #[inline]
     fn only(&self, text: &'a str) -> Chunk<'a>
         requires some { 0 < self.now.len.chars }
@@ -320,8 +325,8 @@ impl<'a> RopeSlice<'a> {
         }
     }
 
-    /// The chunk in which place `i` of a measure lies, or the last. An empty text shows an empty
-    /// one. `O(log n)`.
+    /// Returns the chunk that contains position `i` of a measure, or the last one; for an empty
+    /// text an empty one. `O(log n)`.
     pub fn chunk(&self, by: By, i: usize) -> Chunk<'a>
         ensures stands { StandsAt (slice_pieces self.now) by i (chars result.text.now) result.start }
         ensures cut { IsRopeText (slice_pieces self.now) }
@@ -336,8 +341,8 @@ impl<'a> RopeSlice<'a> {
         }
     }
 
-    /// `chunk` of a byte, for callers that go from chunk to chunk: where the next one lies under
-    /// the node that they have in hand, that is as far as it goes. Mostly `O(1)`.
+    /// `chunk` of a byte, for callers that go from chunk to chunk: if the node that they remember
+    /// contains the next chunk, the search starts there. Mostly `O(1)`.
     pub(crate) fn chunk_near(&self, near: &mut Option<OnTheWay<'a>>, byte_idx: usize) -> Chunk<'a>
         requires { IsNear self.now near.old }
         ensures near { IsNear self.now near.new }

@@ -57,7 +57,7 @@ impl<'a> RopeSlice<'a> {
         self.part(chunk, start, end.saturating_sub(start))
     }
 
-    /// Returns the part between two places at character boundaries.
+    /// Returns the part between two positions at character boundaries.
     fn between_places(&self, from: &Place<'a>, to: &Place<'_>) -> Self
         requires from { IsPlaceIn (slice_text self.now) (chars from.now.text.now) from.now.start
             from.now.at }

@@ -1,4 +1,4 @@
--- What a step below answers, as an answer of an engine.
+-- The result of a step below, as a result of an engine.
 use Rattle.std.proofs.Common.{◌≡◌, ℕ, zero, suc, ◌≤◌, Bool, true, false, length, Option, Some, None, refl, sym, ap, subst, ◌∙◌, arith}
 use Rattle.unicode.specs.Perl.{is_word_char}
 use Rattle.rx_util.specs.declared.search.MatchKind.TheVariants.{All}

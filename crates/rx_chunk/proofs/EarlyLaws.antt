@@ -1,4 +1,4 @@
--- What a search tells that may stop at the first end of a match.
+-- The result of a search that may stop at the first match end.
 use Rattle.std.proofs.Common.{◌≡◌, ℕ, ◌*◌, ◌≤◌, Bool, true, false, length, Option, Some, None, is_some, option_map, refl, sym, ap, subst, ◌∙◌, arith}
 use Rattle.std.specs.Option.{ForSome}
 use Rattle.std.proofs.lemmas.Option.{none-some}
@@ -33,7 +33,7 @@ whether_found finding s found (out, finds, is) =
     let same : is_some found ≡ is_some out = ap is_some is ∙ some_match out in
     (out, finds, (λ e. sym same ∙ e, λ e. same ∙ e))
 
--- there is a match where one is found in a part
+-- there is a match if there is one in a part
 whether_in_part : (e : Engine) (s : Search) (i : ℕ) (t : Outcome Notes) (is_there : Bool) → i ≤ s.end → Finds e.program (up_to_place s i) (Some t) → is_there ≡ true → TellsWhether (EngineFinds e) s is_there
 whether_in_part e s i t is_there within finds there =
     let whole = cut_spans_tell is_in is_word_char (character_program e.program) s i t within finds in
@@ -51,7 +51,7 @@ tells_slots true e s i (Some k) slots is = record { whether = whether_in_part e 
 
 -- ---- a search for the leftmost match
 
--- what it tells as it stops at the first end of a match
+-- its result if it stops at the first match end
 pub whether_first : (p : ByteProgram) (s : Search) (i : ℕ) (pattern : Option ℕ) (slots : Slots) → steps.IsAnswerAt true p s i pattern slots → TellsWhether (Finds p) s (is_some pattern)
 whether_first p s i None slots is = tells_whether false refl (as_answer is)
 whether_first p s i (Some k) slots is =
@@ -62,7 +62,7 @@ pub first_end : (p : ByteProgram) (s : Search) (i : ℕ) (pattern : Option ℕ) 
 first_end p s i None slots some is = absurd (cc some)
 first_end p s i (Some k) slots some is = is.0
 
--- ---- an answer is one of all of the span or of a part of it
+-- ---- a result is one of all of the span or of a part of it
 
 pub record IsAnswerInPart (finding : Finding) (s : Search) (pattern : Option ℕ) (slots : Slots) : Type 0 where
   pub end : ℕ
@@ -74,7 +74,7 @@ in_part false e s i pattern slots is = record { end = s.end; within = omega arit
 in_part true e s i None slots is = record { end = s.end; within = omega arith; answer = is }
 in_part true e s i (Some k) slots is = record { end = i; within = is.0.in_span; answer = is.1 }
 
--- ---- the match by its places
+-- ---- the match from its offsets
 
 pub nothing_at : (earliest : Bool) (e : Engine) (s : Search) (i : ℕ) (pattern : Option ℕ) (slots : Slots) → pattern ≡ None → IsAnswerAt earliest e s i pattern slots → IsFoundAt earliest e s i None
 nothing_at false e s i pattern slots none is = none_found is none
@@ -91,7 +91,7 @@ match_at true e s i (Some j) k slots None notes room some told is =
 match_at true e s i (Some j) k slots (Some m) notes room some told is =
     (is.0, noted_found (EngineFinds e) (up_to_place s i) k slots (Some m) (is_noted e (up_to_place s i) (Some j) slots k notes room is.1 some) told)
 
--- its places are in order
+-- its offsets are in order
 pub match_in_order : (earliest : Bool) (e : Engine) (s : Search) (i : ℕ) (pattern : Option ℕ) (k : ℕ) (slots : Slots) → NotesPlaces e → 2 * length e.groups ≤ length slots → pattern ≡ Some k
     → IsAnswerAt earliest e s i pattern slots → ForSome (whole_span k slots) (λ (x : Span). x.start ≤ x.end)
 match_in_order earliest e s i pattern k slots notes room some is =
@@ -115,13 +115,13 @@ ends_in_span e s i found within is = λ a some.
     let ends = all_end (EngineFinds e) None (up_to_place s i) found (inside_of e) (found_first (EngineFinds e) (up_to_place s i) found is) a some in
     record { on = ends.on; further = ends.further; in_span = omega (arith, ends.in_span, within); in_content = ends.in_content }
 
--- so does what is found at a place
+-- so does what is found at an offset
 pub found_inside : (earliest : Bool) (e : Engine) (s : Search) (i : ℕ) (found : Option Found) → IsFoundAt earliest e s i found → ForSome found (λ a. EndsAhead None s a.span.end)
 found_inside false e s i found is = ends_in_span e s s.end found (omega arith) is
 found_inside true e s i None is = λ a some. absurd (cc some)
 found_inside true e s i (Some m) is = ends_in_span e s i (Some m) is.0.in_span is.1
 
--- what captures tell of the whole match, where they are those of the engine and have its room slots
+-- the whole match in captures, if they are those of the engine and have its slots
 pub record AreFoundAt (earliest : Bool) (e : Engine) (s : Search) (caps : Captured) : Type 0 where
   pub tells : TellsMatch earliest (EngineFinds e) s (match_found caps)
   pub ordered : ForSome (group_span caps 0) (λ (x : Span). x.start ≤ x.end)

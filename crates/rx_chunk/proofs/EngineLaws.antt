@@ -1,4 +1,4 @@
--- What searches with an engine answer.
+-- The results of searches with an engine.
 use Rattle.std.proofs.Common.{◌≡◌, ℕ, Bool, ◌++◌, length, take, drop, Result, Ok, Err, IfOk, OnOk, Option, Some, None, is_some, option_map, refl, sym, ap, ◌∙◌}
 use Rattle.std.proofs.Math.Seq.{take-append_seam}
 use Rattle.std.proofs.lemmas.Option.{none-some}
@@ -47,14 +47,14 @@ none_found answer is =
     let none : answer.found ≡ None = none_out answer.found (sym answer.pattern_is ∙ is) in
     (answer.found, answer.finds, sym (ap (option_map match_of) none))
 
--- where nothing is found no slot holds a place
+-- if nothing is found, all slots are empty
 pub none_slots : (finding : Finding) (s : Search) (pattern : Option ℕ) (slots : Slots) → IsAnswer finding s pattern slots → pattern ≡ None → slots ≡ no_slots (length slots)
 none_slots finding s pattern slots answer is =
     answer.slots_are ∙ ap (λ o. answer_slots (length slots) o) (none_out answer.found (sym answer.pattern_is ∙ is))
 
 -- ---- slots that were lent
 
--- where all slots were lent, what was left behind the reference is what they are then
+-- if all slots were borrowed, their new values are those after the borrow
 pub lent_slots : (caps : Captured) (slots : Slots) → length slots ≡ length caps.slots → (with_slots caps slots).slots ≡ slots
 lent_slots caps slots len =
     ap (λ n. take n (slots ++ drop (length slots) caps.slots)) (sym len) ∙ take-append_seam slots (drop (length slots) caps.slots)

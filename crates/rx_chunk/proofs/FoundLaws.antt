@@ -1,4 +1,4 @@
--- The match that a search finds, by the places that its walk noted.
+-- The match that a search finds, from the offsets that its walk noted.
 use Rattle.std.proofs.Common.{◌≡◌, ℕ, zero, suc, ◌+◌, ◌*◌, ◌<◌, ◌≤◌, true, cond, [], ◌∷◌, length, Option, Some, None, option_map, unwrap_or, refl, sym, ap, ap₂, subst, ◌∙◌, arith}
 use Rattle.std.specs.Prelude.{◌==◌}
 use Rattle.std.specs.Option.{ForSome, option_and_then}
@@ -35,11 +35,11 @@ some_out (Some t) k is = (t, refl, ap (λ o. unwrap_or o 0) is)
 abbrev pub span_of : Outcome Notes → Span
 span_of t = record { start = start_of t; end = end_of t }
 
--- what an engine finds has noted its places, and is of one of its patterns
+-- a find of an engine has noted its offsets, and is of one of its patterns
 abbrev pub NotesPlaces : Engine → Type 0
 NotesPlaces e = (s : Search) (t : Outcome Notes) → EngineFinds e s (Some t) → HasNotedOwn (start_of t) t × (t.pattern < length e.groups)
 
--- so has a match of which the whole match is noted
+-- so has a match whose whole match is noted
 pub whole_noted : (a : PatternMatch) → HasNotedOwn a.start (noted_whole a)
 whole_noted a = record {
   start = ap₂ (λ b c. cond b (Some a.end) (cond c (Some a.start) None)) (ne_eqb (2 * a.pattern) (2 * a.pattern + 1) (λ e. omega (arith, e))) (same_place (2 * a.pattern));
@@ -82,20 +82,20 @@ module _ (e : Engine) (of_trees : IsEngine e) where
 pub notes_places : (e : Engine) → IsEngine e → NotesPlaces e
 notes_places e of_trees s t finds = kind_notes e of_trees e.match_kind s t finds
 
--- a place that a walk noted, in its slot
+-- an offset that a walk noted, in its slot
 pub slot_told : (first len k : ℕ) (n : Notes) → k < len → place_in (slots_from first len n) k ≡ slot_of n (first + k)
 slot_told first zero k n lt = absurd (omega (arith, lt))
 slot_told first (suc len) zero n lt = let same : first ≡ first + 0 = omega arith in ap (slot_of n) same
 slot_told first (suc len) (suc k) n lt = let same : suc first + k ≡ first + suc k = omega arith in slot_told (suc first) len k n (omega (arith, lt)) ∙ ap (slot_of n) same
 
--- what is found, and that its places stand in the slots of its pattern's group 0
+-- a find, and that its offsets are in the slots of its pattern's group 0
 pub record IsNoted (finding : Finding) (s : Search) (k : ℕ) (slots : Slots) : Type 0 where
   pub outcome : Outcome Notes
   pub finds : finding s (Some outcome)
   pub pattern : outcome.pattern ≡ k
   pub span : whole_span k slots ≡ Some (span_of outcome)
 
--- these slots of what has noted its places
+-- these slots of a match that has noted its offsets
 pub two_places : (t : Outcome Notes) (n : ℕ) (slots : Slots) → 2 * t.pattern + 1 < n → slots ≡ answer_slots n (Some t) → HasNotedOwn (start_of t) t
     → (start_noted t.pattern slots ≡ Some (start_of t)) × (end_noted t.pattern slots ≡ Some (end_of t))
 two_places t n slots room are noted =
@@ -138,7 +138,7 @@ noted_found finding s k slots result noted is =
 
 -- ---- the same in captures
 
--- there are groups of a pattern that is one of so many
+-- a pattern has groups
 groups_there : (groups : GroupNames) (k : ℕ) → k < length groups → 0 < group_len groups k
 groups_there [] k lt = absurd (omega (arith, lt))
 groups_there (names ∷ groups) zero lt = omega arith
@@ -149,7 +149,7 @@ group_zero : (groups : GroupNames) (k : ℕ) (slots : Slots) → k < length grou
 group_zero groups k slots known =
     ap (λ b. option_and_then (λ slot. span_between (place_in slots slot) (place_in slots (slot + 1))) (cond b (Some (2 * k)) None)) (lt-ltb 0 (group_len groups k) (groups_there groups k known))
 
--- what captures of the engine tell of the whole match, and all that they have noted, where a search was answered in them
+-- the whole match in captures of the engine, after a search wrote its result into them
 pub record AreNoted (finding : Finding) (s : Search) (caps : Captured) : Type 0 where
   pub out : Option (Outcome Notes)
   pub finds : finding s out
@@ -157,7 +157,7 @@ pub record AreNoted (finding : Finding) (s : Search) (caps : Captured) : Type 0 
   pub match_is : match_found caps ≡ option_map match_of out
   pub ordered : ForSome (group_span caps 0) (λ (x : Span). x.start ≤ x.end)
 
--- captures have noted a match, or nothing, and tell it
+-- captures have a match, or nothing, and return it
 pub record IsCaptured (caps : Captured) (out : Option (Outcome Notes)) : Type 0 where
   pub noted : caps ≡ captured_by caps.groups (length caps.slots) out
   pub match_is : match_found caps ≡ option_map match_of out

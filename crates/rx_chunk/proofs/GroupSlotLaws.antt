@@ -15,9 +15,9 @@ use Rattle.rx_engine.proofs.GroupLaws.{group_count}
 use Rattle.rx_chunk.specs.Owned.{GroupsHaveTheirSlots, NotesItsGroups, StandsAmong}
 use Rattle.rx_chunk.proofs.PartNoteLaws.{notes_of_part}
 
--- ---- where the code of a pattern stands
+-- ---- where the code of a pattern is
 
--- with so many slots before those of its groups
+-- with `slots` slots before those of its groups
 record HasCode (nodes : Code) (groups : GroupNames) (slots p k q : ℕ) (tree : Tree) : Type 0 where
   own : ℕ
   counted : own ≡ slots + 2 * further_groups (take k groups)
@@ -57,7 +57,7 @@ code_stands nodes (own ∷ trees) (names ∷ groups) slots p at are stands (suc 
 
 -- ---- the slots of its groups
 
--- where its slots are counted so, each group has those that are told of it
+-- if its slots are counted like this, each group has those that it is given
 noted : (nodes : Code) (trees : List Tree) (groups : GroupNames) (slots k q : ℕ) (tree : Tree) → length groups ≡ length trees → k < length trees → slots ≡ 2 * length trees - 2 + 2 * further_groups (take k groups)
     → StandsAmong nodes q (pattern_code slots k tree q) → NotesItsGroups nodes groups k q tree
 noted nodes trees groups slots k q tree count known counted stands = record {

@@ -1,4 +1,4 @@
--- What comes one after the other.
+-- Matches in sequence.
 use Rattle.std.proofs.Common.{◌≡◌, ℕ, ◌+◌, ◌-◌, ◌≤◌, ◌<◌, Bool, true, false, List, length, Option, Some, None, option_map, Result, Ok, refl, sym, ap, ap₂, subst, ◌∙◌, arith}
 use Rattle.std.specs.Prelude.{◌==◌}
 use Rattle.std.proofs.lemmas.Option.{same_Some}
@@ -23,7 +23,7 @@ use Rattle.rx_chunk.specs.Iterating.{MatchesLeft, ComesNext, IsFoundNext, Starts
 
 -- ---- what is found next
 
--- a match is found in the span and in the content
+-- a match may start in the span and in the haystack
 pub record MayStart (s : Search) : Type 0 where
   pub in_span : s.start ≤ s.end
   pub in_content : s.start ≤ length s.content
@@ -58,7 +58,7 @@ ends_by finding last s a (Some t) law finds is =
 pub found_ends : (finding : Finding) (last : Option ℕ) (s : Search) (a : Found) → InsideLaw finding → IsFoundNext finding s last (Some a) → EndsAhead last s a.span.end
 found_ends finding last s a law is = ends_by finding last s a is.0 law is.1 is.2
 
--- what is found is what comes next where there was no match yet
+-- without a match before, what is found is the next match
 first_is : (finding : Finding) (s : Search) (out : Option (Outcome Notes)) → finding s out → ComesNext finding s None out
 first_is finding s None finds = nothing finds
 first_is finding s (Some t) finds = at_once finds (λ empty. absurd (cc empty.1))
@@ -87,22 +87,22 @@ search_by utf8_empty content asked = record {
   utf8_empty = utf8_empty;
 }
 
--- an input of which the same is asked from another place on
+-- an input with the same settings from another offset on
 pub moved_search : (utf8_empty : Bool) (i j : InputState) (start : ℕ) → StartsFrom i j start → search_of utf8_empty j ≡ from_place_on (search_of utf8_empty i) start
 moved_search utf8_empty i j start starts = ap₂ (search_by utf8_empty) starts.same.content starts.asked
 
--- where the same is asked, the span starts where it did
+-- with the same settings, the span starts where it did
 pub same_start : (i j : InputState) → IsSameContent i.cursor j.cursor → j.asked ≡ i.asked → (start : ℕ) × StartsFrom i j start
 same_start i j same asked = (i.asked.span.start, record { same = same; asked = asked })
 
--- the search from one place on, and then from another, is the one from there on
+-- the search from one offset on, and then from another, is the one from there on
 pub moved_on : (i j k : InputState) (start end : ℕ) → StartsFrom i j start → StartsFrom j k end → StartsFrom i k end
 moved_on i j k start end one other = record {
   same = record { content = other.same.content ∙ one.same.content; is_sized = other.same.is_sized ∙ one.same.is_sized };
   asked = other.asked ∙ ap (λ (asked : Asked). record asked { span = record asked.span { start = end } }) one.asked;
 }
 
--- the span was made to start at a place
+-- the start of the span was set
 pub set_to : (i j : InputState) (start : ℕ) → HasSpan i j (record i.asked.span { start = start }) → StartsFrom i j start
 set_to i j start has = record { same = has.same; asked = has.asked_is }
 
@@ -150,7 +150,7 @@ fewer_left m n end goes_on ends left =
     (subst (λ b. items_at_most false b (length m.search.content - end) < size (matches_left m)) (sym (same_place end))
     (fewer_by m.is_over (is_last_end m.last_end m.search.start) m.search end goes_on ends.on ends.further ends.in_content))
 
--- some are left where it goes on
+-- some are left unless it has ended
 some_by : (is_over stands : Bool) (ahead : ℕ) → is_over ≡ false → 0 < items_at_most is_over stands ahead
 some_by true stands ahead e = absurd (cc e)
 some_by false true ahead e = omega arith

@@ -1,4 +1,5 @@
--- What is found of each kind: it is one, it lies inside, and a part of a span that is cut tells of it.
+-- What is found for each match kind: it is one thing, it is inside, and in a span that is cut it
+-- shows that there is a match.
 use Rattle.std.proofs.Common.{◌≡◌, ℕ, ◌≤◌, Bool, Option, Some, None, option_map, refl, sym, ap, subst, ◌∙◌}
 use Rattle.std.specs.Prelude.{◌↔◌, IsTrue, IsSome}
 use Rattle.std.proofs.lemmas.Option.{same_Some}
@@ -21,11 +22,11 @@ use Rattle.rx_walks.proofs.UniqueLaws.{program_find_unique, program_find_all_uni
 use Rattle.rx_program.specs.Programs.{ByteProgram, character_program}
 use Rattle.rx_chunk.specs.Engines.{Engine, EngineFinds, Finds, FindsAmongAll, FindsOfKind, TellsWhether, noted_whole}
 
--- what is found lies inside
+-- finds are inside
 abbrev pub InsideLaw : Finding → Type 0
 InsideLaw finding = (s : Search) (t : Outcome Notes) → finding s (Some t) → MayBeFound s (start_of t) (end_of t)
 
--- what is found in a span that is cut tells that something is found in the whole one
+-- if something is found in a span that is cut, something is found in the whole one
 abbrev pub CutLaw : Finding → Type 0
 CutLaw finding = (s : Search) (i : ℕ) (t : Outcome Notes) → i ≤ s.end → finding (up_to_place s i) (Some t) → (whole : Outcome Notes) × finding s (Some whole)
 
@@ -36,7 +37,7 @@ OneLaw finding = (s : Search) (out out' : Option (Outcome Notes)) → finding s 
 abbrev pub ExistLaw : Finding → Type 0
 ExistLaw finding = (s : Search) → (out : Option (Outcome Notes)) × finding s out
 
--- ---- where all matches are wanted
+-- ---- all matches
 
 module _ (p : ByteProgram) where
   abbrev FirstOf : Search → Option (Outcome Notes) → Type 0
@@ -72,7 +73,7 @@ module _ (p : ByteProgram) where
       let best = program_find_all_exists is_in is_word_char (character_program p) s in
       (option_map noted_whole best.0, record { found = best.0; finds = best.1; out_is = refl })
 
-  -- where the leftmost match is, some are
+  -- if there is a leftmost match, there is one among all
   all_there : (s : Search) (t : Outcome Notes) → FirstOf s (Some t) → (whole : Outcome Notes) × FindsAmongAll p s (Some whole)
   all_there s t finds = let best = program_find_all_exists is_in is_word_char (character_program p) s in by best.0 best.1
     where

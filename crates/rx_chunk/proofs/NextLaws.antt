@@ -1,4 +1,4 @@
--- What comes next, by the places that it noted.
+-- The next match, from the offsets that it noted.
 use Rattle.std.proofs.Common.{◌≡◌, ℕ, ◌+◌, ◌*◌, ◌<◌, ◌≤◌, length, Option, Some, None, option_map, refl, sym, ap, ap₂, subst, ◌∙◌, arith}
 use Rattle.std.specs.Option.{ForSome}
 use Rattle.std.proofs.lemmas.Option.{none-some, same_Some}
@@ -20,7 +20,7 @@ use Rattle.rx_chunk.proofs.FoundLaws.{IsCaptured, NotesPlaces, captured, capture
 use Rattle.rx_chunk.proofs.KindLaws.{InsideLaw, inside_of}
 use Rattle.rx_chunk.proofs.IterLaws.{MayStart, all_end}
 
--- ---- what the searches answer is what comes next
+-- ---- the results of the searches are the next match
 
 module _ (finding : Finding) (s : Search) (last : Option ℕ) where
   none_next : (slots : Slots) (out : Option (Outcome Notes)) → finding s out → None ≡ pattern_in out → slots ≡ answer_slots (length slots) out → IsNextAnswer finding s last None slots
@@ -36,11 +36,11 @@ starts_by finding s k (Some t) law finds is =
     let at = law s t finds in
     record { in_span = omega (arith, at.inside.2, at.inside.3); in_content = omega (arith, at.inside.2, at.inside.4) }
 
--- a search that answers a match may start one byte further on
+-- a search with a match may start one byte later
 pub answer_starts : (finding : Finding) (s : Search) (pattern : Option ℕ) (k : ℕ) (slots : Slots) → InsideLaw finding → pattern ≡ Some k → IsAnswer finding s pattern slots → MayStart s
 answer_starts finding s pattern k slots law some answer = starts_by finding s k answer.found law answer.finds (sym some ∙ answer.pattern_is)
 
--- the places of a match of this pattern, in its slots
+-- the offsets of a match of this pattern, in its slots
 abbrev AreAt : Outcome Notes → ℕ → Slots → Type 0
 AreAt t k slots = (start_noted k slots ≡ Some (start_of t)) × (end_noted k slots ≡ Some (end_of t))
 
@@ -89,7 +89,7 @@ module _ (e : Engine) (notes : NotesPlaces e) where
 
     -- ---- its match
 
-    -- where it was found, it noted its places, in order
+    -- if it was found, it noted its offsets, in order
     comes_noted : {out : Option (Outcome Notes)} (t : Outcome Notes) → ComesNext (EngineFinds e) s last out → out ≡ Some t → HasNotedOwn (start_of t) t × (t.pattern < length e.groups)
     comes_noted t (nothing finds) is = absurd (cc is)
     comes_noted t (at_once {t = a} finds not) is = notes s t (subst (λ o. EngineFinds e s o) is finds)

@@ -1,4 +1,4 @@
--- The lists of matches of engines: there is one, its members rise, and an iterator gives them in order.
+-- The lists of matches of engines: there is one, and an iterator gives its matches in order.
 use Rattle.std.proofs.Common.{◌≡◌, ℕ, ◌≤◌, true, false, List, [], ◌∷◌, ◌++◌, map, length, Option, Some, None, Result, Ok, Err, append_assoc, refl, sym, ap, ap₂, subst, ◌∙◌, arith}
 use Rattle.std.specs.List.{last_or}
 use Rattle.std.specs.Iterator.{Yields}
@@ -80,9 +80,9 @@ finds_of e = record {
 same-some : {A : Type 0} (a b : A) → Some a ≡ Some b → a ≡ b
 same-some a b e = cc
 
--- ---- what comes next behind the last match
+-- ---- the match after the last one
 
--- what is left behind it
+-- what is left after it
 abbrev pub left_behind : Search → Option (Outcome Notes) → MatchesLeft
 left_behind s None = matches_from s
 left_behind s (Some t) = record { search = from_place_on s (end_of t); last_end = Some (end_of t); is_over = false }
@@ -143,7 +143,7 @@ module _ (e : Engine) (s : Search) where
 
   module _ {A F : Type 0} (item_of : Outcome Notes → A) (left : F → MatchesLeft) (gives : F → Option (Result A MatchError) → F → Type 0) (Searches : F → Type 0)
       (steps : (m n : F) (item : Option (Result A MatchError)) → Searches m → gives m item n → Searches n × GivesMatch (EngineFinds e) item_of (left m) item (left n)) where
-    -- what one has given from a state on in which it had given the matches before, and what it has left then
+    -- what it has given from a state before which it gave the first matches, and what it has left
     record HasGiven (ms : List (Outcome Notes)) (items : List A) (n : F) : Type 0 where
       more : List (Outcome Notes)
       searches : Searches n

@@ -30,7 +30,7 @@ noting slot r = note slot r
 
 -- ---- which slots the nodes of a tree note
 
--- what a node notes goes to slots of which P holds
+-- what a node notes goes to slots with property P
 abbrev Keeps : (ℕ → Type 0) → ANode → Type 0
 Keeps P (match k) = Unit {0}
 Keeps P (pass rs) = Unit {0}
@@ -123,7 +123,7 @@ module _ (slots high : ℕ) where
 
 -- ---- those of a pattern
 
--- the slots of pattern p with so many further groups, which begin behind these slots
+-- the slots of pattern p with `len` further groups, which start after these slots
 abbrev pub IsOwn : ℕ → ℕ → ℕ → ℕ → Type 0
 IsOwn slots p len slot = (slot ≡ 2 * p) ⊎ (slot ≡ 2 * p + 1) ⊎ ((slots + 2 ≤ slot) × (slot < slots + 2 + 2 * len))
 
@@ -152,7 +152,7 @@ first_owner p r n others below = let e : nat_lt r n ≡ true = grind (arith, nat
 other_owner : (p r n : ℕ) (others : Option ℕ) → n ≤ r → cond (nat_lt r n) (Some p) others ≡ others
 other_owner p r n others past = let e : nat_lt r n ≡ false = grind (arith, nat_tests) in ap (λ b. cond b (Some p) others) e
 
--- what the node at this place keeps
+-- what the node at this index keeps
 kept_there : (P : ℕ → Type 0) (nodes : Code) (d slot r : ℕ) → All (Keeps P) nodes → slice_get nodes d ≡ Some (noting slot r) → P slot
 kept_there P [] d slot r all got = absurd (cc got)
 kept_there P (node ∷ nodes) zero slot r all got = subst (Keeps P) (same_Some node (noting slot r) got) (All-head (Keeps P) node nodes all)

@@ -1,4 +1,4 @@
--- The slots of a match of which the whole match alone is noted.
+-- The slots of a match with only the whole match noted.
 use Rattle.std.proofs.Common.{◌≡◌, ℕ, zero, suc, ◌+◌, ◌*◌, ◌<◌, ◌≤◌, ◌^◌, [], ◌∷◌, cond, replicate, set, Option, Some, None, SomeIff, refl, sym, ap, ap₂, ◌∙◌, arith}
 use Rattle.std.proofs.lemmas.Bool.{ne_eqb}
 use Rattle.rx_walks.specs.Programs.{slot_of}
@@ -12,7 +12,7 @@ module _ (a : PatternMatch) where
   abbrev SlotsOf : ℕ → ℕ → Slots
   SlotsOf first n = slots_from first n (noted_whole a).notes
 
-  -- no other slot holds a place
+  -- all other slots are empty
   pub no_other : (slot : ℕ) → (slot ≡ 2 * a.pattern → ⊥) → (slot ≡ 2 * a.pattern + 1 → ⊥) → slot_of (noted_whole a).notes slot ≡ None
   no_other slot first second =
       ap₂ (λ b c. cond b (Some a.end) (cond c (Some a.start) None)) (ne_eqb slot (2 * a.pattern + 1) second) (ne_eqb slot (2 * a.pattern) first)
@@ -33,7 +33,7 @@ module _ (a : PatternMatch) where
   end_there : (slot : ℕ) → slot ≡ 2 * a.pattern + 1 → slot_of (noted_whole a).notes slot ≡ Some a.end
   end_there slot is = ap (slot_of (noted_whole a).notes) is ∙ (whole_noted a).end
 
-  -- there is room for the start alone
+  -- there is room only for the start
   start_set : (j first n : ℕ) (x : Option ℕ) → first + j ≡ 2 * a.pattern → n ≡ suc j → x ≡ Some a.start → set (replicate n None) j x ≡ SlotsOf first n
   start_set j first zero x at room start = absurd (omega (arith, room))
   start_set zero first (suc zero) x at room start = ap (λ y. y ∷ []) (start ∙ sym (start_there first (omega (arith, at))))
@@ -65,7 +65,7 @@ module _ (a : PatternMatch) where
         let next : 2 * a.pattern + 1 ≡ suc (2 * a.pattern) = omega arith in
         ap₂ (λ xs k. set (set xs (2 * a.pattern) x) k y) none next ∙ both_set (2 * a.pattern) 0 n x y (omega arith) (omega (arith, room)) start end
 
--- a place that fits a slot
+-- an offset that fits a slot
 pub some_given : (o : Option ℕ) (place : ℕ) → place < 2 ^ 63 → SomeIff o (place + 1 < 2 ^ 64) place → o ≡ Some place
 some_given None place low given = absurd (given (omega (arith, low)))
 some_given (Some x) place low given = ap Some given.1

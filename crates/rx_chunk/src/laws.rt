@@ -15,9 +15,9 @@ pub fn slots_of_other_patterns_hold_none()
 {}
 
 /// The slots that `GroupInfo` gives for a pattern's groups are those that the pattern's part of the
-/// program writes: the whole match in those of group 0, each other group in its own two. The
-/// code of a part of the pattern writes the slots of the groups in that part alone, however often
-/// it is laid out.
+/// program writes: the whole match in those of group 0, each other group in its own two. The code
+/// of a part of the pattern writes only the slots of the groups in that part, however often it is
+/// repeated.
 pub fn groups_have_their_slots()
     ensures { GroupsHaveTheirSlots }
 {}

@@ -317,7 +317,8 @@ impl Model for Cache {
 }
 
 impl Cache {
-    /// Returns a cache for searches with an engine, as [`PikeVM::create_cache`] does.
+    /// Returns a cache for searches with an engine, as [`PikeVM::create_cache`] does. The only
+    /// error is `Memory`.
     pub fn new(alloc: Global, vm: &PikeVM) -> Result<Cache, MatchError>
         ensures made { IfOk result (λ cache. IsCacheOf vm.now.program cache) }
         ensures refused { IfErr result (λ error. error ≡ MatchError.Memory) }
@@ -422,7 +423,7 @@ fn seek<C: Cursor>(
     ensures bound { length input.old.cursor.content < 2 ^ 63 }
     ensures refused { IfErr result (λ error. error ≡ MatchError.Memory) }
 {
-    let _at = input.position(); // tells how long the content may be
+    let _at = input.position(); // for the proof: how long the haystack may be
     match vm.match_kind() {
         MatchKind::LeftmostFirst => seek_first(vm, cache, input, earliest, slots),
         MatchKind::All => seek_all(vm, cache, input, earliest, slots),
@@ -449,7 +450,7 @@ fn seek_first<C: Cursor>(
     ensures bound { length input.old.cursor.content < 2 ^ 63 }
     ensures refused { IfErr result (λ error. error ≡ MatchError.Memory) }
 {
-    let _at = input.position(); // tells how long the content may be
+    let _at = input.position(); // for the proof: how long the haystack may be
     let utf8_empty = vm.utf8_empty();
     search::search_slots(vm.program(), cache, input, utf8_empty, earliest, slots)
 }

@@ -1,4 +1,4 @@
--- What stands before where an input stands.
+-- The bytes before an input's position.
 use Rattle.std.proofs.Common.{◌≡◌, ℕ, ◌+◌, ◌-◌, ◌<◌, ◌≤◌, min, List, length, take, drop, get_or, Some, slice_get, sym, ap, ◌∙◌, arith}
 use Rattle.std.proofs.lemmas.List.{length-take, length-drop}
 use Rattle.std.proofs.lemmas.Option.{get_or_from_slice_get, slice_get-get_or, slice_get_within}
@@ -9,16 +9,16 @@ use Rattle.rx_walks.specs.ProgramFinds.{lowest}
 use Rattle.rx_dfa.specs.Back.{StandBefore}
 use Rattle.rx_dfa.proofs.InputLaws.{get_dropped, get_taken, in_piece, shown_is}
 
--- so many bytes of a piece, up to one
+-- the last `few` bytes of a chunk before `end`
 abbrev pub part_of : List ℕ → ℕ → ℕ → List ℕ
 part_of piece end few = take (end - (end - few)) (drop (end - few) piece)
 
--- these bytes of a piece, which ends with the one before a place, turned round
+-- these are bytes of a chunk that ends at an offset, in reverse order
 pub record IsTurned (piece bytes : List ℕ) (n end few : ℕ) : Type 0 where
   pub len : n ≡ min (length (take (end - (end - few)) (drop (end - few) piece))) 64
   pub each : (k : ℕ) → k < n → get_or bytes k 0 ≡ get_or (take (end - (end - few)) (drop (end - few) piece)) (length (take (end - (end - few)) (drop (end - few) piece)) - 1 - k) 0
 
--- the piece that is shown holds the byte before a place
+-- the current chunk has the byte before an offset
 pub record ShowsBefore (s : Search) (i : ℕ) (c : CursorState) (piece : List ℕ) (pos end few : ℕ) : Type 0 where
   pub content : c.content ≡ s.content
   pub piece_is : piece ≡ piece_of c

@@ -1,4 +1,4 @@
--- A search back, place after place.
+-- A backward search, offset by offset.
 use Rattle.std.proofs.Common.{inl, inr, ◌≡◌, ℕ, suc, ◌+◌, ◌-◌, ◌<◌, ◌≤◌, ◌==◌, Bool, true, false, not, ◌&&◌, cond, List, [], ◌∷◌, ◌++◌, length, take, Option, Some, None, Result, Ok, Err, option_map, slice_get, refl, sym, ap, ap₂, subst, ◌∙◌, arith}
 use Rattle.std.specs.Prelude.{IfErr, IfSome, IsTrue}
 use Rattle.std.proofs.lemmas.Bool.{le-ltb, lt-ltb}
@@ -54,7 +54,7 @@ use Rattle.rx_dfa.proofs.PassLaws.{byte_in_class, quits_alike}
 use Rattle.rx_dfa.proofs.SearchLaws.{seen_is}
 use Rattle.rx_dfa.proofs.StepLaws.{step_alike}
 
--- ---- the looks of a place, from its other side
+-- ---- the assertions of a position, with its sides swapped
 
 same_turned : (a b : Bool) → is_same a b ≡ is_same b a
 same_turned true true = refl
@@ -98,7 +98,7 @@ looks_here p asked s i x are behind told l asks =
 
 -- ---- one step
 
--- what a step of a program turned round is
+-- a step of a reverse program as a backward step
 pub as_back : (p : Directed) (asked : AskedLooks) (x y : AutomatonState) (ahead : Ahead) → p.is_back ≡ true → ahead.may_begin ≡ true → (step : IsStep p asked x ahead y)
     → IsNextListBack p.bytes (record { at = 0; byte = ahead.read; looks = turned_looks (looks_of p.bytes.line_terminator x.behind ahead.seen) }) (nodes_at x) (nodes_of step.next) y.ended
 as_back p asked x y ahead way may step =
@@ -106,7 +106,7 @@ as_back p asked x y ahead way may step =
     subst (λ b. IsList b p.bytes (record { at = 0; byte = ahead.read; looks = looks_by b (looks_of p.bytes.line_terminator x.behind ahead.seen) }) (x.threads.threads ++ started (start_at x.starting ahead.may_begin)) step.next y.ended step.slots) way step.list in
     subst (λ m. IsNextListBack p.bytes (record { at = 0; byte = ahead.read; looks = turned_looks (looks_of p.bytes.line_terminator x.behind ahead.seen) }) (nodes_of (x.threads.threads ++ started (start_at x.starting m))) (nodes_of step.next) y.ended) may list
 
--- and at a place of a content
+-- that step at an offset of a haystack
 step_back : (p : ByteProgram) (asked : AskedLooks) (s : Search) (i : ℕ) (x : AutomatonState) (o : Option ℕ) (next : List (ℕ × ℕ)) (met : Option ℕ) → AreAskedBy p.states asked → IsInside s i → IsBehindBack p asked s i x → quits asked (byte_before s i) ≡ false
     → o ≡ byte_taken_back s i → IsNextListBack p (place_back p s i x o) (nodes_at x) next met → IsStepBack p s i (nodes_at x) next met
 step_back p asked s i x o next met are inside behind told taken list =
@@ -115,7 +115,7 @@ step_back p asked s i x o next met are inside behind told taken list =
 come_thin : (p : ByteProgram) (s : Search) (q i : ℕ) (threads thin : List Thread) (best : Option HalfFound) → Thins [] threads thin → HasComeBack p s q i (nodes_of threads) best → HasComeBack p s q i (nodes_of thin) best
 come_thin p s q i threads thin best thins come = λ next ends after out steps latest rest. come next ends after out (steps_thinned (mirror_of s s.end) thins steps) latest rest
 
--- ---- where it begins
+-- ---- the start
 
 -- a search begins with one walk, at the end
 pub begun_back : (a : Automaton) (s : Search) (q i : ℕ) (states : List AutomatonState) (number : ℕ) (o : Option ℕ) {behind : Behind} → i ≡ end_in_content s → HasFirst states (Once q) behind number → o ≡ byte_after s i → behind ≡ behind_of a.alphabet.now.asked (directed a).bytes.line_terminator o
@@ -139,9 +139,9 @@ begun_back a s q i states number o here first seen side told =
       };
     }
 
--- ---- a place is passed
+-- ---- one offset
 
--- the best match, its place counted back, is the best one
+-- the best match with its offset counted backward is the best match
 best_is : (s : Search) (i : ℕ) (ended : Option ℕ) (met : Option HalfFound) → i ≤ s.end → best_from s.end (met_after (s.end - i) ended met) ≡ best_back i ended (best_from s.end met)
 best_is s i None met le = refl
 best_is s i (Some k) met le =
@@ -159,7 +159,7 @@ inside_after s i (Some k) met inside was =
     let there : s.end - (s.end - i) ≡ i = omega (arith, inside.3) in
     subst (λ j. IsInside s j) (sym there) inside
 
--- a search stands at the place before
+-- a search reaches the offset before
 passed_one : (p : Directed) (asked : AskedLooks) (s : Search) (q i b : ℕ) (x y : AutomatonState) (met : Option HalfFound) → p.is_back ≡ true → AreAskedBy p.bytes.states asked → IsInside s (end_in_content s) → IsInside s i → lowest s < i → slice_get s.content (i - 1) ≡ Some b → quits asked (Some b) ≡ false
     → IsStep p asked x (ahead_of false b) y → HasReachedBack p.bytes s q i x met → IsBehindBack p.bytes asked s i x
     → HasReachedBack p.bytes s q (i - 1) y (met_after (s.end - i) y.ended met) × IsBehindBack p.bytes asked s (i - 1) y
@@ -196,7 +196,7 @@ rest_before s i b bytes there = record {
   low = omega (arith, there.low);
 }
 
--- a search that stands at a state stands before these bytes at the one to which they lead
+-- a search in a state reaches, before these bytes, the state to which they lead
 bytes_passed_back : (a : Automaton) (s : Search) (q : ℕ) (bytes : List ℕ) (i d : ℕ) (x y : AutomatonState) (met met' : Option HalfFound) → ReadsBack a → IsInside s (end_in_content s) → IsInside s i → StandBefore s i bytes → d ≡ s.end - i
     → Passes a bytes d x met y met' → HasReachedBack (directed a).bytes s q i x met → IsBehindBack (directed a).bytes a.alphabet.now.asked s i x
     → HasReachedBack (directed a).bytes s q (i - length bytes) y met' × IsBehindBack (directed a).bytes a.alphabet.now.asked s (i - length bytes) y
@@ -245,12 +245,12 @@ nothing_met : {s p : ℕ} {ms : List (ℕ × ℕ)} → Met s p ms → ms ≡ [] 
 nothing_met (met_first e f) none_is = absurd (cc none_is)
 nothing_met (met_other there) none_is = absurd (cc none_is)
 
--- no walk lives at a place
+-- no thread is left at an offset
 over_here : (p : ByteProgram) (s : Search) (q i : ℕ) (best : Option HalfFound) → IsInside s i → HasComeBack p s q i [] best → IsOverBack p s q best
 over_here p s q i best inside come =
     come [] [] (option_map (mirror_match s) best) (option_map (mirror_match s) best) done (none_met (λ k t there. nothing_met there refl)) (over (λ k from begins. begins_not s k (omega (arith, from, inside.3)) begins))
 
--- no walk lives, and none starts
+-- the state is dead
 pub over_ends : (p : ByteProgram) (s : Search) (q i : ℕ) (x : AutomatonState) (met : Option HalfFound) → IsInside s i → x.threads.threads ≡ [] → x.starting ≡ Never → HasReachedBack p s q i x met → HasEndedBack p s q (best_from s.end met)
 over_ends p s q i x met inside gone never reached =
     let nobody : nodes_at x ≡ [] = ap₂ (λ ts z. nodes_of (ts ++ started (start_at z true))) gone never in
@@ -259,7 +259,7 @@ over_ends p s q i x met inside gone never reached =
       inside = best_inside s met reached.inside;
     }
 
--- the step at the first place
+-- the step at the lowest offset
 pub first_ends : (p : ByteProgram) (asked : AskedLooks) (s : Search) (q i : ℕ) (x : AutomatonState) (ended : Option ℕ) (met : Option HalfFound) → AreAskedBy p.states asked → IsInside s (end_in_content s) → IsInside s i → i ≡ lowest s → quits asked (byte_before s i) ≡ false
     → MeetsStart p s i x ended → IsBehindBack p asked s i x → HasReachedBack p s q i x met → HasEndedBack p s q (best_from s.end (met_after (s.end - i) ended met))
 first_ends p asked s q i x ended met are last inside first told meets behind reached =
@@ -278,7 +278,7 @@ first_ends p asked s q i x ended met are last inside first told meets behind rea
       inside = best_inside s (met_after (s.end - i) ended met) (inside_after s i ended met inside reached.inside);
     }
 
--- ---- the column of the first place
+-- ---- the column of the lowest offset
 
 unread_here : (p : Directed) (asked : AskedLooks) (s : Search) (i : ℕ) (x y : AutomatonState) (ahead : Ahead) → p.is_back ≡ true → ahead.may_begin ≡ true → byte_before s i ≡ ahead.seen → IsStep p asked x ahead y → MeetsStart p.bytes s i x y.ended
 unread_here p asked s i x y ahead way may seen step =
@@ -286,7 +286,7 @@ unread_here p asked s i x y ahead way may seen step =
     starts_are_met_unread p.bytes (record { at = 0; byte = ahead.read; looks = turned_looks (looks_of p.bytes.line_terminator x.behind ahead.seen) }) (nodes_at x) (nodes_of step.next) y.ended (as_back p asked x y ahead way may step) in
     subst (λ o. IsNextListBack p.bytes (record { at = 0; byte = None; looks = turned_looks (looks_of p.bytes.line_terminator x.behind o) }) (nodes_at x) [] y.ended) (sym seen) here
 
--- a byte is seen there
+-- the column of a byte there
 pub byte_meets : (a : Automaton) (s : Search) (i b : ℕ) → ReadsBack a → b < 256 → byte_before s i ≡ Some b → quits a.alphabet.now.asked (Some b) ≡ false → IsFirstColumn a s i (class_of a.alphabet.now.classes b)
 byte_meets a s i b back low seen told =
     let r = byte_of a.alphabet.now.classes b in
@@ -303,7 +303,7 @@ byte_meets a s i b back low seen told =
           unread_here (directed a) a.alphabet.now.asked s i x y (ahead_of false b) back.way refl seen anywhere;
     }
 
--- the slice starts there
+-- the column if the slice starts there
 pub end_meets : (a : Automaton) (s : Search) (i column : ℕ) → ReadsBack a → column < column_count a.alphabet.now → ahead_in a.alphabet.now column ≡ ahead_of_end true → byte_before s i ≡ None → IsFirstColumn a s i column
 end_meets a s i column back inside is seen = record {
   inside = inside;
@@ -311,7 +311,7 @@ end_meets a s i column back inside is seen = record {
   tells = λ x y bare step. unread_here (directed a) a.alphabet.now.asked s i x y (ahead_of_end true) back.way refl seen (subst (λ z. IsStep (directed a) a.alphabet.now.asked x z y) is step);
 }
 
--- ---- refusals
+-- ---- errors
 
 pub err_each : {A : Type 0} {P Q : MatchError → Type 0} (r : Result A MatchError) → ((e : MatchError) → P e → Q e) → IfErr r P → IfErr r Q
 err_each (Ok x) on is = is
@@ -340,14 +340,14 @@ lacks_back true asked s i at e inside here lack = absurd lack
 lacks_back false asked s i at e inside here (inl is) = subst (λ r. StopsBack false asked s r) (sym is) refl
 lacks_back false asked s i at e inside here (inr is) = subst (λ r. StopsBack false asked s r) (sym is) (refl, subst (λ k. IsInside s k) (sym here) inside)
 
--- a search back that began on an anchored input and stops is refused so
+-- the error of a backward search that stops, on an anchored input
 pub stops_refused : (is_whole : Bool) (asked : AskedLooks) (s : Search) (e : MatchError) → IsTrue (is_anchored s.anchoring) → StopsBack is_whole asked s e → IsRefusalBackBy is_whole asked s e
 stops_refused is_whole asked s Memory on why = (on, why)
 stops_refused is_whole asked s (Quit b i) on why = (on, why)
 stops_refused is_whole asked s (GaveUp i) on why = (on, why)
 stops_refused is_whole asked s (UnsupportedAnchored mode) on why = absurd why
 
--- a mode that is anchored
+-- an anchored mode
 pub is_on : (a mode : Anchored) → mode ≡ a → modes.is_anchored mode ≡ true → IsTrue (is_anchored (anchoring_of a))
 is_on a anchored.No same on = absurd (cc on)
 is_on a anchored.Yes same on = subst (λ z. IsTrue (is_anchored (anchoring_of z))) same refl

@@ -31,7 +31,7 @@ thread_is threads i x q bare lt e = whole (get_or threads i x) (bare_at threads 
     whole : (t : Thread) → t.0 ≡ [] → q ≡ t.1 → t ≡ ([], q)
     whole (n, r) f g = ap (λ k. (k, r)) f ∙ ap (λ s. ([], s)) (sym g)
 
--- one more thread was added
+-- one more thread is added
 pub push_one : (threads others all : List Thread) (i : ℕ) (q : ℕ × ℕ) → AreBare others → i < length others → IsSomeAnd (slice_get others i) (λ t. q ≡ t.1) → threads ≡ all ++ take i others
     → threads ++ ([], q) ∷ [] ≡ all ++ take (i + 1) others
 push_one threads others all i q bare lt is e =
@@ -42,7 +42,7 @@ push_one threads others all i q bare lt is e =
     let front : take i others ++ x ∷ [] ≡ take (i + 1) others = ap (λ t. take i others ++ t ∷ []) (sym here) ∙ take_one others [] i x lt ∙ append-nil (take (suc i) others) ∙ ap (λ j. take j others) more in
     ap (λ xs. xs ++ x ∷ []) e ∙ append_assoc all (take i others) (x ∷ []) ∙ ap (λ xs. all ++ xs) front
 
--- of so many threads the nodes are the same
+-- the first `n` threads have the same nodes
 abbrev pub SameUpTo : List Thread → List Thread → ℕ → Type 0
 SameUpTo threads others n = (k : ℕ) (x : Thread) → k < n → (get_or threads k x).1 ≡ (get_or others k x).1
 
@@ -59,7 +59,7 @@ same_bare (t ∷ threads) (u ∷ others) bare bare' e same =
 pub same_before : (threads others : List Thread) (n m : ℕ) → m ≤ n → SameUpTo threads others n → SameUpTo threads others m
 same_before threads others n m le same k x lt = same k x (omega (arith, le, lt))
 
--- lists that have other nodes at a place differ
+-- lists with different nodes at an index differ
 pub differ_at : (threads others : List Thread) (i : ℕ) (q r : ℕ × ℕ) → IsSomeAnd (slice_get threads i) (λ t. q ≡ t.1) → IsSomeAnd (slice_get others i) (λ t. r ≡ t.1) → (q ≡ r → ⊥) → threads ≡ others → ⊥
 differ_at threads others i q r is is' other e = apart (slice_get others i) (subst (λ xs. IsSomeAnd (slice_get xs i) (λ t. q ≡ t.1)) e is) is'
   where

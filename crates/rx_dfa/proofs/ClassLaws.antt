@@ -1,4 +1,4 @@
--- Bytes that no cut parts are read alike.
+-- Bytes without a cut between them are in one class.
 use Rattle.std.proofs.Common.{inl, inr, ◌≡◌, ◌⊎◌, ℕ, zero, suc, ◌+◌, ◌-◌, ◌<◌, ◌≤◌, Bool, true, false, ◌&&◌, cond, List, [], ◌∷◌, length, take, All, get_or, Option, Some, None, slice_get, refl, sym, ap, ap₂, subst, ◌∙◌, arith}
 use Rattle.std.specs.Prelude.{nat_le, nat_lt, ◌==◌}
 use Rattle.unicode.specs.Perl.{is_word_char}
@@ -60,7 +60,7 @@ at_number states cuts q all x is = subst (λ y. StateIsCut cuts y) (get_or_from_
 pub read_alike : (p : ByteProgram) (cuts : List Bool) (c b : ℕ) → AreTogether cuts c b → All (StateIsCut cuts) p.states → ReadAlike p c b
 read_alike p cuts c b together cut = λ q s. state_alike cuts (slice_get p.states q) c b s together (at_number p.states cuts q cut)
 
--- a test that changes nowhere but at cuts is the same for bytes that no cut parts
+-- a test that changes only at cuts is the same for bytes without a cut between them
 same_upto : (f : ℕ → Bool) (cuts : List Bool) (c n : ℕ) → ((k : ℕ) → c < k → k ≤ c + n → (f (k - 1) ≡ f k) ⊎ HasCut cuts k) → ((k : ℕ) → c < k → k ≤ c + n → HasCut cuts k → ⊥) → f c ≡ f (c + n)
 same_upto f cuts c zero changes none = ap f (omega arith)
 same_upto f cuts c (suc n) changes none =
@@ -149,7 +149,7 @@ looks_stay asked terminator before after more cut = record {
   words = λ on. words_stay before after 128 more (cut.words on);
 }
 
--- up to one more byte words are cut
+-- words are cut up to the next byte
 pub word_more : (before after : List Bool) (n : ℕ) (meet : Bool) → HasMoreCuts before after → (meet ≡ true → HasCut after n) → (meet ≡ false → is_word_char (n - 1) ≡ is_word_char n) → WordsAreCut before n → WordsAreCut after (n + 1)
 word_more before after n meet more cut same so k above lt = elim (same_or_not k n) [
   | inr other ↦ words_stay before after n more so k above (below_is k n lt other)
@@ -162,7 +162,7 @@ word_more before after n meet more cut same so k above lt = elim (same_or_not k 
 
 -- ---- one more part
 
--- of one more element each is one of those before, or the last
+-- with one more element, each has the property
 all_more : {A : Type 0} (P : A → Type 0) (xs : List A) (i : ℕ) (x d : A) → i < length xs → All P (take i xs) → get_or xs i d ≡ x → P x → All P (take (suc i) xs)
 all_more P [] i x d lt all is holds = absurd (omega (arith, lt))
 all_more P (y ∷ xs) zero x d lt all is holds = All-cons P y [] (subst P (sym is) holds) (All-nil P)
@@ -189,9 +189,9 @@ states_more before after states i x d lt more all is cut =
     let next : suc i ≡ i + 1 = omega arith in
     subst (λ j. All (StateIsCut after) (take j states)) next (all_more (StateIsCut after) states i x d lt (states_stay before after (take i states) more all) is cut)
 
--- ---- classes are made
+-- ---- the classes
 
--- of the bytes below a number the classes are known, and the last of them has this number
+-- the classes of the bytes below a number are known, and the last one has this number
 pub record IsUnderWay (cuts : List Bool) (of bytes : List ℕ) (class n : ℕ) : Type 0 where
   pub len : class + 1 ≡ length bytes
   pub below : class < n

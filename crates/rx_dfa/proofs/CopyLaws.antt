@@ -1,7 +1,7 @@
--- Lists that are copied one after the other.
+-- Lists that are copied element by element.
 use Rattle.std.proofs.Common.{◌≡◌, ℕ, zero, suc, ◌+◌, ◌<◌, List, [], ◌∷◌, ◌++◌, length, take, get_or, refl, ap, ◌∙◌, arith}
 
--- one more of the first ones
+-- one more of the first elements
 pub take_next : {A : Type 0} (xs : List A) (k : ℕ) (x : A) → k < length xs → take k xs ++ get_or xs k x ∷ [] ≡ take (k + 1) xs
 take_next xs k x lt =
     let more : suc k ≡ k + 1 = omega arith in

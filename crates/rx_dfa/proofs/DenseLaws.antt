@@ -1,4 +1,4 @@
--- Automata that are closed.
+-- Closed automata.
 use Rattle.std.proofs.Common.{inl, inr, ◌≡◌, ℕ, zero, suc, ◌+◌, ◌-◌, ◌*◌, ◌<◌, ◌≤◌, max, Bool, false, List, [], ◌∷◌, ◌++◌, length, set, Option, Some, None, slice_get, refl, sym, ap, ap₂, subst, ◌∙◌, arith}
 use Rattle.std.specs.Prelude.{◌==◌}
 use Rattle.std.proofs.lemmas.Option.{slice_get_within}
@@ -25,7 +25,7 @@ use Rattle.rx_dfa.proofs.PassLaws.{byte_in_class}
 use Rattle.rx_dfa.proofs.StepLaws.{behind_alike}
 use Rattle.rx_dfa.proofs.TableLaws.{cache_set, entry_steps, get_first, get_other, row_room, there_is, the_same}
 
--- ---- what is known stays known
+-- ---- known entries stay known
 
 pub grows_none : (cache : CacheView) → Grows cache cache
 grows_none cache = record { numbers = λ number x e. e; entries = λ place known. known }
@@ -36,7 +36,7 @@ grows_both a b c first second = record {
   entries = λ place known. second.entries place (first.entries place known);
 }
 
--- a state is added, with a row of which nothing is known
+-- a state is added, with a row of unknown entries
 pub grows_added : (before after : CacheView) (rest : List ℕ) → KeepNumbers before.states after.states → after.table ≡ before.table ++ rest → Grows before after
 grows_added before after rest numbers table = record {
   numbers = numbers;
@@ -47,7 +47,7 @@ grows_added before after rest numbers table = record {
   };
 }
 
--- the states and the table are as before
+-- the states and the table are unchanged
 pub grows_same : (before after : CacheView) → after.states ≡ before.states → after.table ≡ before.table → Grows before after
 grows_same before after states table = record {
   numbers = λ number x e. ap (λ xs. slice_get xs number) states ∙ e;
@@ -68,7 +68,7 @@ known_set table cell entry place known was = elim (same_or_not place cell) [
   | inr other ↦ record { entry = was.entry; stands = get_other table cell place entry other ∙ was.stands; known = was.known }
 ]
 
--- an entry is set to one that is known
+-- an entry is set to a known one
 pub grows_entered : (before after : CacheView) (cell entry : ℕ) → (entry ≡ 4294967295 → ⊥) → after.states ≡ before.states → after.table ≡ set before.table cell entry → Grows before after
 grows_entered before after cell entry known states table = record {
   numbers = λ number x e. ap (λ xs. slice_get xs number) states ∙ e;
@@ -83,7 +83,7 @@ known_grown p alphabet before after n was is grows known number column lt in_row
     let width = same_width p alphabet before after was is in
     subst (λ w. IsKnownAt after.table (number * w + column)) width (grows.entries (number * before.width + column) (known number column lt (subst (λ w. column < w) (sym width) in_row)))
 
--- a row that is filled is known beside those before it
+-- with a full row, one more row is known
 pub known_more : (cache : CacheView) (n w : ℕ) → w ≡ cache.width → AreKnown cache n → ((column : ℕ) → column < w → IsKnownAt cache.table (n * cache.width + column)) → AreKnown cache (n + 1)
 known_more cache n w same known row number column lt in_row = elim (same_or_not number n) [
   | inl e ↦ subst (λ k. IsKnownAt cache.table (k * cache.width + column)) (sym e) (row column (subst (λ k. column < k) (sym same) in_row))
@@ -93,7 +93,7 @@ known_more cache n w same known row number column lt in_row = elim (same_or_not 
     below : (number ≡ n → ⊥) → number < n
     below other = omega (arith, lt, other)
 
--- ---- states in which searches begin
+-- ---- start states
 
 first_still : (states states' : List AutomatonState) (starting : Starting) (behind : Behind) → KeepNumbers states states' → HasOneFirst states starting behind → HasOneFirst states' starting behind
 first_still states states' starting behind keep (number, has) = (number, record { state = has.state; stands = keep number has.state has.stands; first = has.first })
@@ -101,7 +101,7 @@ first_still states states' starting behind keep (number, has) = (number, record 
 pub starts_still : (is_back : Bool) (states states' : List AutomatonState) (q : ℕ) (behind : Behind) → KeepNumbers states states' → HasStarts is_back states q behind → HasStarts is_back states' q behind
 starts_still is_back states states' q behind keep has starting from = first_still states states' starting behind keep (has starting from)
 
--- however walks start forward
+-- each way to start in a forward search
 pub starts_three : (a b c : List AutomatonState) (q : ℕ) (behind : Behind) → KeepNumbers a b → KeepNumbers b c → HasOneFirst a Never behind → HasOneFirst b (Once q) behind → HasOneFirst c (Always q) behind → HasStarts false c q behind
 starts_three a b c q behind keep keep' never once always Never from = first_still b c Never behind keep' (first_still a b Never behind keep never)
 starts_three a b c q behind keep keep' never once always (Once r) from = subst (λ k. HasOneFirst c (Once k) behind) (sym from) (first_still b c (Once q) behind keep' once)
@@ -117,7 +117,7 @@ none_behind : (xs : List ℕ) → slice_get xs (length xs) ≡ None
 none_behind [] = refl
 none_behind (x ∷ xs) = none_behind xs
 
--- the columns stand for all bytes, and for none
+-- the columns cover all bytes, and none
 pub starts_in_columns : (p : Directed) (alphabet : AlphabetView) (states : List AutomatonState) (q : ℕ) → TellsApart p.bytes alphabet → ((k : ℕ) → k < column_count alphabet → HasStarts p.is_back states q (behind_of alphabet.asked p.bytes.line_terminator (slice_get alphabet.classes.bytes k))) → HasStartsFrom p alphabet states q
 starts_in_columns p alphabet states q made has None may = subst (λ o. HasStarts p.is_back states q (behind_of alphabet.asked p.bytes.line_terminator o)) (none_behind alphabet.classes.bytes) (has (length alphabet.classes.bytes) (omega arith))
 starts_in_columns p alphabet states q made has (Some b) may =
@@ -125,18 +125,18 @@ starts_in_columns p alphabet states q made has (Some b) may =
     let here = has (class_of alphabet.classes b) (omega (arith, class.has_class)) in
     subst (λ z. HasStarts p.is_back states q z) (ap (λ o. behind_of alphabet.asked p.bytes.line_terminator o) (byte_in_class p.bytes alphabet b made may) ∙ behind_alike p.bytes alphabet.asked (byte_of alphabet.classes b) b class.alike) here
 
--- the start of all patterns, and that of each, are all from which walks of a search start
+-- the start of all patterns and that of each are all states in which walks of a search start
 pub starts_by_patterns : (p : Directed) (alphabet : AlphabetView) (states : List AutomatonState) → HasStartsFrom p alphabet states p.bytes.start → ((k q : ℕ) → slice_get p.bytes.patterns k ≡ Some q → HasStartsFrom p alphabet states q) → HasAllStarts p alphabet states
 starts_by_patterns p alphabet states all each unanchored q starts = let same : Some p.bytes.start ≡ Some q = starts in subst (λ r. HasStartsFrom p alphabet states r) (cc same) all
 starts_by_patterns p alphabet states all each anchored q starts = let same : Some p.bytes.start ≡ Some q = starts in subst (λ r. HasStartsFrom p alphabet states r) (cc same) all
 starts_by_patterns p alphabet states all each (anchored_pattern k) q starts = each k q starts
 
--- the state in which a search begins is there
+-- the start state is there
 pub begins_there : (a : Automaton) (table : CacheView) (starting : Starting) (behind : Behind) → IsClosedOf (directed a) a.alphabet.now table → IsBeginning a starting behind → HasOneFirst table.states starting behind
 begins_there a table starting behind closed begins =
     subst (λ z. HasOneFirst table.states starting z) (sym begins.behind_is) (closed.starts begins.anchoring begins.start begins.starts begins.byte begins.may_be starting begins.starting_is)
 
--- a search forward begins with any of them
+-- a forward search begins in one of them
 pub starts_from : (is_back : Bool) (s : Search) (q i : ℕ) (starting : Starting) (met : Option HalfFound) → is_back ≡ false → StartsSo s q i starting met → WalksStartFrom is_back q starting
 starts_from is_back s q i Never met way so = way
 starts_from is_back s q i (Once r) met way so = so.0
@@ -149,13 +149,13 @@ none_past [] k le = refl
 none_past (x ∷ xs) zero le = absurd (omega (arith, le))
 none_past (x ∷ xs) (suc k) le = none_past xs k (omega (arith, le))
 
--- behind the classes the end stands ahead
+-- after the classes, a column is one of the end
 pub end_in : (alphabet : AlphabetView) (k : ℕ) (may_begin : Bool) → length alphabet.classes.bytes ≤ k → (k == length alphabet.classes.bytes) ≡ may_begin → ahead_in alphabet k ≡ ahead_of_end may_begin
 end_in alphabet k may_begin le e = ap₂ (λ m o. ahead_at alphabet.utf8_empty m o) e (none_past alphabet.classes.bytes k le)
 
--- ---- steps that are known
+-- ---- known steps
 
--- an entry that doesn't stop a search leads to a state
+-- an entry other than `UNKNOWN` and `QUIT` leads to a state
 pub known_leads : (p : Directed) (alphabet : AlphabetView) (cache : CacheView) (number column entry at : ℕ) (x : AutomatonState) → IsClosedOf p alphabet cache → slice_get cache.states number ≡ Some x → column < column_count alphabet → slice_get cache.table (number * cache.width + column) ≡ Some entry → (entry ≡ 4294967294 → ⊥)
     → ((n : ℕ) → entry ≡ n * cache.width → entry < 2147483648 → at ≡ n) → ((n : ℕ) → entry ≡ 2147483648 + n * cache.width → entry < 3221225472 → at ≡ n) → ((n : ℕ) → entry ≡ 3221225472 + n * cache.width → at ≡ n) → LeadsTo p alphabet cache.states x (ahead_in alphabet column) at
 known_leads p alphabet cache number column entry at x closed stands in_row is goes plain ends over =
@@ -164,14 +164,14 @@ known_leads p alphabet cache number column entry at x closed stands in_row is go
     let same : entry ≡ known.entry = the_same is known.stands in
     entry_steps p alphabet cache.width cache.states x (ahead_in alphabet column) entry at (λ e. known.known (sym same ∙ e)) goes plain ends over (closed.made.entries number column entry x stands inside is)
 
--- where an entry is set the state's other entries stay right
+-- after an entry is set, the state's entries are still right
 pub entered : (p : Directed) (alphabet : AlphabetView) (before middle after : CacheView) (number column entry : ℕ) → HoldsSteps p alphabet before → HoldsSteps p alphabet middle → Grows before middle → number < length before.states → column < before.width
     → ((x : AutomatonState) → slice_get before.states number ≡ Some x → IsEntry p alphabet middle.width middle.states x (ahead_in alphabet column) entry) → after.table ≡ set middle.table (number * middle.width + column) entry → after.states ≡ middle.states → after.widths ≡ middle.widths → after.width ≡ middle.width → after.used ≡ middle.used → HoldsSteps p alphabet after
 entered p alphabet before middle after number column entry was is grows lt in_row right table states widths width used =
     let here = there_is before.states number lt in
     cache_set p alphabet middle after number column entry here.0 is (grows.numbers number here.0 here.1) (subst (λ w. column < w) (same_width p alphabet before middle was is) in_row) (right here.0 here.1) table states widths width used
 
--- and it is known then
+-- and this one is known
 pub entered_known : (p : Directed) (alphabet : AlphabetView) (before middle after : CacheView) (number column entry : ℕ) → HoldsSteps p alphabet before → HoldsSteps p alphabet middle → Grows before middle → number < length before.states → column < before.width → (entry ≡ 4294967295 → ⊥)
     → after.table ≡ set middle.table (number * middle.width + column) entry → after.width ≡ middle.width → IsKnownAt after.table (number * after.width + column)
 entered_known p alphabet before middle after number column entry was is grows lt in_row known table width =
@@ -181,11 +181,11 @@ entered_known p alphabet before middle after number column entry was is grows lt
     subst (λ w. IsKnownAt after.table (number * w + column)) (sym width)
     (subst (λ t. IsKnownAt t (number * middle.width + column)) (sym table) (known_cell middle.table (number * middle.width + column) entry inside known))
 
--- where more states are looked at than there are, all are known
+-- if the rows of at least as many states are known as there are, all are
 pub known_all : (cache : CacheView) (n m : ℕ) → m ≤ n → AreKnown cache n → AreKnown cache m
 known_all cache n m le known number column lt in_row = known number column (omega (arith, le, lt)) in_row
 
--- a row with one entry more
+-- a row with one more entry
 pub row_more : (p : Directed) (alphabet : AlphabetView) (before after : CacheView) (n column : ℕ) → HoldsSteps p alphabet before → HoldsSteps p alphabet after → Grows before after → ((k : ℕ) → k < column → IsKnownAt before.table (n * before.width + k)) → IsKnownAt after.table (n * after.width + column)
     → (k : ℕ) → k < column + 1 → IsKnownAt after.table (n * after.width + k)
 row_more p alphabet before after n column was is grows row here k lt = elim (same_or_not k column) [
@@ -196,7 +196,7 @@ row_more p alphabet before after n column was is grows row here k lt = elim (sam
     below : (k ≡ column → ⊥) → k < column
     below other = omega (arith, lt, other)
 
--- first states for what stands in one column more
+-- start states for one more column
 pub starts_more : (p : Directed) (alphabet : AlphabetView) (before after : List AutomatonState) (q column : ℕ) → KeepNumbers before after → ((k : ℕ) → k < column → HasStarts p.is_back before q (behind_of alphabet.asked p.bytes.line_terminator (slice_get alphabet.classes.bytes k))) → HasStarts p.is_back after q (behind_of alphabet.asked p.bytes.line_terminator (slice_get alphabet.classes.bytes column))
     → (k : ℕ) → k < column + 1 → HasStarts p.is_back after q (behind_of alphabet.asked p.bytes.line_terminator (slice_get alphabet.classes.bytes k))
 starts_more p alphabet before after q column keep starts here k lt = elim (same_or_not k column) [
@@ -207,9 +207,9 @@ starts_more p alphabet before after q column keep starts here k lt = elim (same_
     below : (k ≡ column → ⊥) → k < column
     below other = omega (arith, lt, other)
 
--- ---- how many states there are
+-- ---- the number of states
 
--- the row of a state to which an entry leads begins where one can tell it
+-- the offset of a row to which an entry leads fits into an entry
 pub reached_rows : (before after : CacheView) (next entry : ℕ) (y : AutomatonState) → (entry ≡ 4294967295 → ⊥) → IsEntryTo after.width y next entry → length after.states ≤ max (length before.states) (next + 1) → HaveRows before after
 reached_rows before after next entry y known to few = elim (below_or_not (length before.states) (length after.states)) [
   | inr as_many ↦ no_more as_many
@@ -222,7 +222,7 @@ reached_rows before after next entry y known to few = elim (below_or_not (length
     reach (ends_to is below ended) = omega (arith, is, below)
     reach (over_to is below) = omega (arith, is, below)
 
--- states and width are as before
+-- the states and the width are unchanged
 pub rows_as : (a b c : CacheView) → c.states ≡ b.states → c.width ≡ b.width → HaveRows a b → HaveRows a c
 rows_as a b c states width (no_more few) = no_more (omega (arith, few, ap length states))
 rows_as a b c states width (in_reach reach) = in_reach (subst (λ n. n < 2147483648) (sym (ap₂ (λ xs w. (length xs - 1) * w) states width)) reach)
@@ -234,7 +234,7 @@ rows_both a b c width width' (in_reach reach) (no_more few') =
     let same : b.width ≡ c.width = sym width ∙ width' in
     in_reach (omega (arith, ap (λ w. (length b.states - 1) * w) same, reach, mul-le-mul_right {m = length c.states - 1} {n = length b.states - 1} c.width (omega (arith, few'))))
 
--- so there are at most so many beside those before
+-- therefore fewer states are added than entries can lead to
 pub rows_end : (before after : CacheView) (n : ℕ) → 0 < after.width → HaveRows before after → n < length after.states → n < length before.states + 2147483648
 rows_end before after n some (no_more few) lt = omega (arith, few, lt)
 rows_end before after n some (in_reach reach) lt = omega (arith, le-mul_of_pos_right {m = after.width} (length after.states - 1) some, reach, lt)

@@ -1,4 +1,4 @@
--- The last place of a search, at which no byte is read.
+-- The highest offset of a search, at which no byte is read.
 use Rattle.std.proofs.Common.{◌≡◌, ℕ, ◌<◌, ◌≤◌, Bool, false, not, ◌||◌, IsTrue, [], ◌++◌, length, Option, Some, None, refl, sym, ap, subst, ◌∙◌, arith}
 use Rattle.std.specs.Prelude.{◌↔◌, ◌==◌}
 use Rattle.rx_util.specs.Search.{HalfFound}
@@ -26,11 +26,11 @@ use Rattle.rx_dfa.proofs.PassLaws.{byte_in_class, quits_alike}
 use Rattle.rx_dfa.proofs.SearchLaws.{byte_there, may_begin_is, none_read}
 use Rattle.rx_dfa.proofs.StepLaws.{AlikeLaws, as_forward, bare_started, step_alike}
 
--- what stands ahead of a byte that is seen and not read
+-- what follows if a byte is seen but not read
 abbrev ahead_unread : Bool → ℕ → Ahead
 ahead_unread utf8_empty b = record (ahead_of utf8_empty b) { read = None }
 
--- the step over a byte tells the end that is met where it isn't read
+-- the step over a byte has the match end that is met if it isn't read
 ends_unread : ((p : ByteProgram) → EndsAreMetUnread p) → (p : ByteProgram) (asked : AskedLooks) (utf8_empty : Bool) (x y : AutomatonState) (b : ℕ) → AreBare x.threads.threads → IsStep (forward p) asked x (ahead_of utf8_empty b) y → EndsSo (forward p) asked x (ahead_unread utf8_empty b) y.ended
 ends_unread law p asked utf8_empty x y b bare step =
     let may = not utf8_empty || not (continues b) in
@@ -48,7 +48,7 @@ ends_unread law p asked utf8_empty x y b bare step =
       ended_is = refl;
     }
 
--- a byte is seen, in whose class the end is told
+-- the column of a byte there
 pub byte_tells : AlikeLaws → ((p : ByteProgram) → EndsAreMetUnread p) → (a : Automaton) (s : Search) (i b : ℕ) → IsAutomaton a → (directed a).is_back ≡ false → a.alphabet.now.utf8_empty ≡ s.utf8_empty → b < 256 → highest s ≤ i → byte_after s i ≡ Some b → quits a.alphabet.now.asked (Some b) ≡ false
     → IsLastColumn a s i (class_of a.alphabet.now.classes b)
 byte_tells alike unread a s i b made way same low last seen told =
@@ -75,7 +75,7 @@ byte_tells alike unread a s i b made way same low last seen told =
           };
     }
 
--- the slice ends there
+-- the column if the slice ends there
 pub end_tells : (a : Automaton) (s : Search) (i column : ℕ) (may_begin : Bool) → (directed a).is_back ≡ false → column < column_count a.alphabet.now → ahead_in a.alphabet.now column ≡ ahead_of_end may_begin → (IsTrue may_begin ↔ May s i) → highest s ≤ i → byte_after s i ≡ None → IsLastColumn a s i column
 end_tells a s i column may_begin way inside is may last seen = record {
   inside = inside;
@@ -88,7 +88,7 @@ end_tells a s i column may_begin way inside is may last seen = record {
   };
 }
 
--- the answer by the end that is told in the last column
+-- the search's result, with the match end of the last column
 pub last_answers : Laws → (a : Automaton) (s : Search) (q i column : ℕ) (x : AutomatonState) (ended : Option ℕ) (met : Option HalfFound) → IsByteProgram (directed a).bytes → KeepingLaw → start_node (character_program (directed a).bytes) s.anchoring ≡ Some q → AreAskedBy (directed a).bytes.states a.alphabet.now.asked
     → AreBare x.threads.threads → IsInside s i → i ≡ highest s → IsLastColumn a s i column → IsBehind (directed a).bytes a.alphabet.now.asked s i x → EndsSo (directed a) a.alphabet.now.asked x (ahead_in a.alphabet.now column) ended → HasReached (directed a).bytes s q i x met → IsHalfAnswer (directed a).bytes s (met_after i ended met)
 last_answers laws a s q i column x ended met reads law starts are bare inside last is behind told reached =

@@ -1,4 +1,4 @@
--- What stands next to where an input stands.
+-- The bytes next to an input's position.
 use Rattle.std.proofs.Common.{inl, inr, ◌≡◌, ℕ, zero, suc, ◌+◌, ◌-◌, ◌<◌, ◌≤◌, Bool, true, false, List, [], ◌∷◌, ◌++◌, length, take, drop, reverse, Option, Some, None, slice_get, refl, sym, ap, subst, ◌∙◌, arith}
 use Rattle.std.proofs.lemmas.List.{length-take, length-drop, reverse-append}
 use Rattle.std.proofs.lemmas.Option.{slice_get_within}
@@ -22,12 +22,12 @@ get_taken (x ∷ xs) zero k b e = absurd (cc e)
 get_taken (x ∷ xs) (suc n) zero b e = e
 get_taken (x ∷ xs) (suc n) (suc k) b e = get_taken xs n k b e
 
--- ---- the bytes of the piece that is shown
+-- ---- the bytes of the current chunk
 
 piece_len : (c : CursorState) (i : ℕ) (piece : List ℕ) → piece ≡ piece_of c → HoldsPlace c i → length piece ≡ c.end - c.start
 piece_len c i piece is holds = omega (arith, ap (λ (xs : List ℕ). length xs) is, length-take (c.end - c.start) (drop c.start c.content), length-drop c.start c.content, holds.lawful.within, holds.lawful.ordered)
 
--- a place before the content's end is in the piece
+-- an offset before the haystack's end is in the chunk
 pub in_piece : (c : CursorState) (i pos : ℕ) (piece : List ℕ) → piece ≡ piece_of c → c.start + pos ≡ i → HoldsPlace c i → i < length c.content → pos < length piece
 in_piece c i pos piece is at holds lt = elim (below_or_not i c.end) [
   | inl below ↦ omega (arith, below, at, piece_len c i piece is holds, holds.behind_start)
@@ -61,7 +61,7 @@ take_more [] i b e = absurd (cc e)
 take_more (x ∷ xs) zero b e = let same : Some x ≡ Some b = e in ap (λ y. y ∷ []) (cc same)
 take_more (x ∷ xs) (suc i) b e = ap (λ ys. x ∷ ys) (take_more xs i b e)
 
--- the first one read back is the last one
+-- the first element of a reversed list is the last one
 back_first : (xs : List ℕ) (n : ℕ) → length xs ≡ suc n → slice_get (reverse xs) 0 ≡ slice_get xs n
 back_first xs n len =
     let here = there_is xs n (omega (arith, len)) in
@@ -76,7 +76,7 @@ nothing_at : (xs : List ℕ) (j : ℕ) → length xs ≡ 0 → slice_get xs j �
 nothing_at [] j e = refl
 nothing_at (x ∷ xs) j e = absurd (omega (arith, e))
 
--- the byte before a place stands in the slice
+-- the byte before an offset is in the slice
 pub before_there : (s : Search) (i b : ℕ) → s.slice_start ≤ i → i ≤ length s.content → byte_before s i ≡ Some b → (s.slice_start < i) × (slice_get s.content (i - 1) ≡ Some b)
 before_there s i b le within e = elim (below_or_not s.slice_start i) [
   | inl lt ↦
@@ -92,7 +92,7 @@ before_there s i b le within e = elim (below_or_not s.slice_start i) [
       absurd (cc (sym (nothing_in whole 0 empty ∙ nothing_at whole 0 empty) ∙ e))
 ]
 
--- where the slice starts before a place, the byte before it is the content's
+-- if the slice starts before an offset, the byte before that is the haystack's
 pub before_is : (s : Search) (i b : ℕ) → s.slice_start < i → slice_get s.content (i - 1) ≡ Some b → byte_before s i ≡ Some b
 before_is s i b lt is =
     let low = s.slice_start in
@@ -103,7 +103,7 @@ before_is s i b lt is =
     let there : low + n ≡ i - 1 = omega (arith, lt) in
     back_first whole n len ∙ get_dropped (take i s.content) low n ∙ ap (λ j. slice_get (take i s.content) j) there ∙ get_one s.content i (i - 1) (omega (arith, lt)) ∙ is
 
--- a byte of the piece that is shown stands in the content
+-- a byte of the current chunk is one of the haystack
 pub shown_is : (c : CursorState) (piece : List ℕ) (k b : ℕ) → piece ≡ piece_of c → slice_get piece k ≡ Some b → slice_get c.content (c.start + k) ≡ Some b
 shown_is c piece k b is e = sym (get_dropped c.content c.start k) ∙ get_taken (drop c.start c.content) (c.end - c.start) k b (subst (λ xs. slice_get xs k ≡ Some b) is e)
 

@@ -1,4 +1,4 @@
--- One byte on each side tells the looks that a program asks for.
+-- One byte on each side decides the assertions of a program.
 use Rattle.std.proofs.Common.{◌≡◌, ℕ, ◌<◌, Bool, true, false, not, ◌&&◌, cond, List, [], ◌∷◌, take, Some, slice_get, refl, sym, ap, ap₂, ◌∙◌, arith}
 use Rattle.std.specs.Prelude.{nat_lt, ◌==◌}
 use Rattle.std.proofs.lemmas.Bool.{lt-ltb}
@@ -19,7 +19,7 @@ use Rattle.rx_dfa.specs.declared.behind.Behind.TheVariants.{Edge, Byte}
 use Rattle.rx_dfa.specs.Behind.{behind_of, starts_line, was_word, is_word_at, looks_of, quits}
 use Rattle.rx_dfa.specs.Searching.{AreAskedBy}
 
--- ---- what is asked for
+-- ---- which assertions a program has
 
 pub asked_any : (states : List State) (asked : AskedLooks) (l : walks.Look) → AreAskedBy states asked → Asks states l → asked.any ≡ true
 asked_any states asked l are asks = are.any.1 (l, refl, asks)
@@ -30,7 +30,7 @@ asked_lines states asked l are kind asks = are.lines.1 (l, kind, asks)
 pub asked_words : (states : List State) (asked : AskedLooks) (l : walks.Look) → AreAskedBy states asked → asks_characters l ≡ true → Asks states l → asked.words ≡ true
 asked_words states asked l are kind asks = are.words.1 (l, kind, asks)
 
--- ---- a byte that is a character by itself
+-- ---- a byte that is a whole character
 
 pub below_128 : (b : ℕ) → nat_lt b 128 ≡ true → b < 128
 below_128 b e = grind (arith, nat_tests)
@@ -48,7 +48,7 @@ alone_first law b low = (law (b ∷ []) b).1 (record { scalar = low_scalar b (om
 alone_last : LastCharacterStands → (b : ℕ) → b < 128 → last_character (b ∷ []) ≡ Some b
 alone_last law b low = (law (b ∷ []) b).1 (record { scalar = low_scalar b (omega (arith, low)); front = []; stands = sym (encode_ascii b low) })
 
--- ---- the byte before a place
+-- ---- the byte before an offset
 
 before_word : LastCharacterStands → (asked : AskedLooks) (terminator : ℕ) (before : List ℕ) → asked.any ≡ true → asked.words ≡ true → quits asked (slice_get before 0) ≡ false
     → (has_word is_word_char (side_before (take 1 before)) ≡ was_word (behind_of asked terminator (slice_get before 0))) × (is_broken (side_before (take 1 before)) ≡ false)
@@ -70,7 +70,7 @@ before_ascii : (asked : AskedLooks) (bytes : List ℕ) → asked.words ≡ true 
 before_ascii asked [] words told = tt
 before_ascii asked (b ∷ bytes) words told = no_quit asked b words told
 
--- ---- looks
+-- ---- assertions
 
 unbroken : (a b : Bool) (x : Bool) → a ≡ false → b ≡ false → (not a && not b && x) ≡ x
 unbroken a b x e f = ap₂ (λ y z. not y && not z && x) e f
@@ -97,7 +97,7 @@ told_by_one first last states asked terminator no_word_boundary before after are
     unbroken (is_broken (side_before (take 1 before))) (is_broken (side_after (take 1 after))) (is_same (has_word is_word_char (side_before (take 1 before))) (has_word is_word_char (side_after (take 1 after)))) was.1 is.1
     ∙ ap₂ (λ x y. is_same x y) was.0 is.0
 
--- what is told by one byte on each side is so
+-- the assertions that one byte on each side decides hold
 pub looks_told : OneByteTells → FirstCharacterStands → LastCharacterStands → (states : List State) (asked : AskedLooks) (terminator : ℕ) (l : walks.Look) (before after : List ℕ) → AreAskedBy states asked → Asks states l → quits asked (slice_get before 0) ≡ false
     → quits asked (slice_get after 0) ≡ false → holds_between is_word_char terminator l before after ≡ is_among (looks_of terminator (behind_of asked terminator (slice_get before 0)) (slice_get after 0)) l
 looks_told one first last states asked terminator l before after are asks low low' =

@@ -1,4 +1,4 @@
--- One place of a search, and its end.
+-- One offset of a search, and its end.
 use Rattle.std.proofs.Common.{◌≡◌, ℕ, ◌+◌, ◌≤◌, Bool, true, false, IsTrue, List, [], ◌∷◌, ◌++◌, Option, Some, None, option_map, refl, sym, ap, subst, ◌∙◌, arith}
 use Rattle.std.specs.Prelude.{◌↔◌}
 use Rattle.std.proofs.lemmas.List.{append-nil}
@@ -35,7 +35,7 @@ use Rattle.rx_dfa.specs.Searching.{AreAskedBy, half_outcome, met_after, StartsSo
 use Rattle.rx_dfa.proofs.LookLaws.{looks_told}
 use Rattle.rx_dfa.proofs.StepLaws.{bare_started}
 
--- the laws of the crates below, as calls tell them
+-- the laws of the crates below
 pub record Laws : Type 0 where
   pub alike : (p : ByteProgram) → StepsAreAlike p
   pub end : (p : ByteProgram) → StepsEnd p
@@ -46,7 +46,7 @@ pub record Laws : Type 0 where
 abbrev pub May : Search → ℕ → Type 0
 May s i = IsTrue s.utf8_empty → IsCharBoundary s.content i
 
--- ---- the step at the place
+-- ---- the step at an offset
 
 same_read : (p : ByteProgram) (o : Option ℕ) → AreReadAlike p o o
 same_read p None = tt
@@ -73,7 +73,7 @@ steps_here laws p asked s i x y ahead step are bare inside behind here =
     laws.alike p (place_of_step (forward p) x ahead) (place_at p i x ahead) (x.threads.threads ++ states.started (start_at x.starting ahead.may_begin)) step.next y.ended step.slots
     (bare_started x (start_at x.starting ahead.may_begin) bare) (record { reads = same_read p ahead.read; looks = λ l asks. refl }) step.list (haystack_in p.line_terminator s) i (stands laws p asked s i x ahead are inside behind here)
 
--- ---- how far a search has come
+-- ---- the progress of a search
 
 met_is : (i : ℕ) (ended : Option ℕ) (met : Option HalfFound) → either (met_at i ended []) (option_map half_outcome met) ≡ option_map half_outcome (met_after i ended met)
 met_is i None met = refl
@@ -83,7 +83,7 @@ none_is : (met : Option HalfFound) → option_map half_outcome met ≡ None → 
 none_is None e = refl
 none_is (Some f) e = absurd (cc e)
 
--- no walk starts at the place
+-- no walk starts at the offset
 come_without : (p : ByteProgram) (s : Search) (q i : ℕ) (live next thin : List Thread) (ended : Option ℕ) (met : Option HalfFound) → (met ≡ None → MayBegin s i → ⊥) → Steps (machine_in p s) i [] live next (met_at i ended []) → Thins [] next thin
     → HasCome (machine_in p s) s q [] i live (option_map half_outcome met) → HasCome (machine_in p s) s q [] (i + 1) thin (option_map half_outcome (met_after i ended met))
 come_without p s q i live next thin ended met never steps thins come =
@@ -116,7 +116,7 @@ can_begin s i may told e = told.0 e
 cannot_begin : (s : Search) (i : ℕ) (may : Bool) → (IsTrue may ↔ May s i) → may ≡ false → May s i → ⊥
 cannot_begin s i may told e can = no_truth may (told.1 can) e
 
--- A place is passed by the step of a state.
+-- The step of a state advances the search by one offset.
 pub place_passed : Laws → (p : ByteProgram) (asked : AskedLooks) (s : Search) (q i : ℕ) (x y : AutomatonState) (ahead : Ahead) (met : Option HalfFound) → AreAskedBy p.states asked → AreBare x.threads.threads → IsInside s i → IsBehind p asked s i x
     → IsAhead p asked s i ahead → IsStep (forward p) asked x ahead y → HasReached p s q i x met → HasReached p s q (i + 1) y (met_after i y.ended met)
 place_passed laws p asked s q i x y ahead met are bare inside behind here step reached = record {
@@ -153,7 +153,7 @@ place_passed laws p asked s q i x y ahead met are bare inside behind here step r
 
 -- ---- the end
 
--- what a search comes to whose threads are gone, and in which none will start
+-- the result of a search without threads, in which none will start
 search_over : (p : ByteProgram) (s : Search) (q i : ℕ) (live : List Thread) (met : Option HalfFound) → live ≡ [] → (met ≡ None → (j : ℕ) → i ≤ j → MayBegin s j → ⊥) → HasCome (machine_in p s) s q [] i live (option_map half_outcome met)
     → Searches (machine_in p s) (MayBegin s) (λ j. []) (q, 0) s.start [] None (option_map half_outcome met)
 search_over p s q i live met none never come = subst (λ xs. HasCome (machine_in p s) s q [] i xs (option_map half_outcome met)) none come (option_map half_outcome met) (over (λ e j from begins. never (none_is met e) j from begins))
@@ -179,7 +179,7 @@ half_answer p s q met reads law starts searches =
       met_is = sym (same_half met) ∙ ap (option_map half_of) (sym on.1) ∙ same_found on.0;
     }
 
--- no walk lives, and none will start
+-- the state is dead
 pub over_answers : (p : ByteProgram) (s : Search) (q i : ℕ) (x : AutomatonState) (met : Option HalfFound) → IsByteProgram p → KeepingLaw → start_node (character_program p) s.anchoring ≡ Some q → x.threads.threads ≡ [] → x.starting ≡ Never → HasReached p s q i x met
     → IsHalfAnswer p s met
 over_answers p s q i x met reads law starts none never reached =
@@ -190,7 +190,7 @@ thin_gone e thin_end = refl
 thin_gone e (kept thins) = absurd (cc e)
 thin_gone e (left_out c thins) = absurd (cc e)
 
--- the last place is passed by a step that reads nothing
+-- the step at the highest offset reads nothing
 pub end_answers : Laws → (p : ByteProgram) (asked : AskedLooks) (s : Search) (q i : ℕ) (x y : AutomatonState) (ahead : Ahead) (met : Option HalfFound) → IsByteProgram p → KeepingLaw → start_node (character_program p) s.anchoring ≡ Some q → AreAskedBy p.states asked
     → AreBare x.threads.threads → IsInside s i → i ≡ highest s → ahead.read ≡ None → IsBehind p asked s i x → IsAhead p asked s i ahead → IsStep (forward p) asked x ahead y → HasReached p s q i x met → IsHalfAnswer p s (met_after i y.ended met)
 end_answers laws p asked s q i x y ahead met reads law starts are bare inside last none behind here step reached =

@@ -1,4 +1,4 @@
--- Laws of the crates below, in the form in which proofs here take them.
+-- Laws of the crates below, in the form that the proofs here use.
 use Rattle.std.proofs.Common.{sym, subst}
 use Rattle.rx_walks.specs.ProgramFinds.{IfStarts, haystack_of, holds_in, first_by, machine_of}
 use Rattle.rx_walks.specs.Finds.{IsFind}
@@ -25,7 +25,7 @@ first_character bytes k = ((λ e. first_stands bytes k e), (λ stands. stands_fi
 pub last_character : LastCharacterStands
 last_character back k = ((λ e. last_stands back k e), (λ stands. stands_last back k stands))
 
--- a search by walks that keep slots in place of notes finds what the program does
+-- a search whose walks keep slots in place of notes finds what the program finds
 pub keeping_law : KeepingLaw
 keeping_law keeping member is_word p step members s q out starts searches =
     let h = haystack_of (holds_in is_word p.line_terminator s) s in
@@ -35,10 +35,10 @@ keeping_law keeping member is_word p step members s q out starts searches =
     let own = find_noted_back {fresh = fresh_notes} (keeps_notes keeping (first_by member) p.nodes h) found in
     (own.0, own.1, subst (λ x. IfStarts x (λ q'. IsFind (machine_of member is_word p s) fresh_notes s q') own.0) (sym starts) own.2)
 
--- steps are alike at places that are, forward and back
+-- steps are equal at positions that are alike, forward and backward
 pub alike_laws : AlikeLaws
 alike_laws = record { forward = steps_are_alike; back = steps_back_are_alike }
 
--- what a search finds in the content turned round is what the program finds back
+-- what a search finds in the reversed haystack is what the program finds backward
 pub searched_back : SearchedBackLaw
 searched_back = λ member is_word p step above members s fits keeps. program_is_searched_back member is_word p step above members s fits keeps

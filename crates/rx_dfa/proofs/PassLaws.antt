@@ -1,4 +1,4 @@
--- Bytes that are passed.
+-- Reading bytes.
 use Rattle.std.proofs.Common.{◌≡◌, ℕ, zero, suc, ◌+◌, ◌*◌, ◌/◌, ◌<◌, true, false, not, ◌&&◌, ◌≤◌, List, [], ◌∷◌, ◌++◌, length, take, Option, Some, None, IsSome, slice_get, refl, sym, ap, subst, ◌∙◌, arith}
 use Rattle.std.proofs.Math.Nat.{mul-div_cancel}
 use Rattle.std.proofs.lemmas.List.{length-take}
@@ -23,7 +23,7 @@ use Rattle.rx_dfa.specs.Automata.{IsAutomaton, directed}
 use Rattle.rx_dfa.proofs.StepLaws.{AlikeLaws, step_alike}
 use Rattle.rx_dfa.proofs.TableLaws.{row_room}
 
--- ---- a step over a byte of a class
+-- ---- a step over the representative of a class
 
 pub byte_in_class : (p : ByteProgram) (alphabet : AlphabetView) (b : ℕ) → TellsApart p alphabet → b < 256 → slice_get alphabet.classes.bytes (class_of alphabet.classes b) ≡ Some (byte_of alphabet.classes b)
 byte_in_class p alphabet b made low = slice_get-get_or alphabet.classes.bytes (class_of alphabet.classes b) 0 (made.classes b low).has_class
@@ -48,7 +48,7 @@ leads_by law p alphabet states x b number made bare low to =
       told = sym (quits_alike p.bytes alphabet.asked r b alike) ∙ subst (λ o. quits alphabet.asked (ahead_at alphabet.utf8_empty (class_of alphabet.classes b == length alphabet.classes.bytes) o).seen ≡ false) at to.told;
     }
 
--- before it a search can't go on
+-- before it a search must quit
 pub quits_by : (p : ByteProgram) (alphabet : AlphabetView) (b : ℕ) → TellsApart p alphabet → b < 256 → quits alphabet.asked (ahead_in alphabet (class_of alphabet.classes b)).seen ≡ true → quits alphabet.asked (Some b) ≡ true
 quits_by p alphabet b made low told =
     sym (quits_alike p alphabet.asked (byte_of alphabet.classes b) b (made.classes b low).alike) ∙ subst (λ o. quits alphabet.asked (ahead_at alphabet.utf8_empty (class_of alphabet.classes b == length alphabet.classes.bytes) o).seen ≡ true) (byte_in_class p alphabet b made low) told
@@ -64,7 +64,7 @@ one_passed law a states x b at number met met' made bare low to noted =
       passes = subst (λ o. Passes a (b ∷ []) at x met to.next o) (sym (noted to.next to.stands)) (more bare itself.step itself.told none);
     }
 
--- ---- one byte more
+-- ---- one more byte
 
 pub passes_more : (a : Automaton) (bytes : List ℕ) (i b : ℕ) (x y z : AutomatonState) (met met' : Option HalfFound) → AreBare y.threads.threads → Passes a bytes i x met y met' → IsStep (directed a) a.alphabet.now.asked y (ahead_of a.alphabet.now.utf8_empty b) z → quits a.alphabet.now.asked (Some b) ≡ false
     → Passes a (bytes ++ b ∷ []) i x met z (met_after (i + length bytes) z.ended met')
@@ -103,7 +103,7 @@ run_of x bytes i met row end = record { first = x; at = i; met = met; bytes = by
 pub run_begun : (a : Automaton) (cache : CacheView) (x : AutomatonState) (first : ℕ) (bytes : List ℕ) (i : ℕ) (met : Option HalfFound) → slice_get cache.states first ≡ Some x → IsRunning a cache (run_of x (take 0 bytes) i met (first * cache.width) None)
 run_begun a cache x first bytes i met stands = record { number = first; next = x; last = met; row_is = refl; stands = stands; noted = refl; passes = none }
 
--- where an entry lies in the table
+-- the index of an entry in the table
 pub entry_inside : (a : Automaton) (cache : CacheView) (x : AutomatonState) (bytes : List ℕ) (i row b : ℕ) (met : Option HalfFound) (end : Option PassedEnd) → IsAutomaton a → HoldsSteps (directed a) a.alphabet.now cache → b < 256 → IsRunning a cache (run_of x bytes i met row end)
     → row + class_of a.alphabet.now.classes b < length cache.table
 entry_inside a cache x bytes i row b met end made is low run =
@@ -127,7 +127,7 @@ run_entry : (a : Automaton) (cache : CacheView) (x : AutomatonState) (bytes : Li
 run_entry a cache x bytes n i row b entry met end made is low stands run =
     is.entries run.number (class_of a.alphabet.now.classes b) entry run.next run.stands (column_inside (directed a) a.alphabet.now cache b made is low) (ap (λ r. slice_get cache.table (r + class_of a.alphabet.now.classes b)) (sym run.row_is) ∙ stands)
 
--- no end is met
+-- no match ends
 pub run_on : AlikeLaws → (a : Automaton) (cache : CacheView) (x : AutomatonState) (bytes : List ℕ) (n i row b entry : ℕ) (met : Option HalfFound) (end : Option PassedEnd) → IsAutomaton a → HoldsSteps (directed a) a.alphabet.now cache
     → b < 256 → slice_get bytes n ≡ Some b → slice_get cache.table (row + class_of a.alphabet.now.classes b) ≡ Some entry → entry < 2147483648 → IsRunning a cache (run_of x (take n bytes) i met row end)
     → IsRunning a cache (run_of x (take (n + 1) bytes) i met entry end)
@@ -152,7 +152,7 @@ some_met : (i : ℕ) (ended : Option ℕ) (met met' : Option HalfFound) → IsSo
 some_met i None met met' some = absurd (cc some)
 some_met i (Some k) met met' some = refl
 
--- an end is met
+-- a match ends
 pub run_notes : AlikeLaws → (a : Automaton) (cache : CacheView) (x : AutomatonState) (bytes : List ℕ) (n i row b entry row' : ℕ) (met : Option HalfFound) (end : Option PassedEnd) → IsAutomaton a → HoldsSteps (directed a) a.alphabet.now cache
     → b < 256 → slice_get bytes n ≡ Some b → slice_get cache.table (row + class_of a.alphabet.now.classes b) ≡ Some entry → 2147483648 ≤ entry → entry < 3221225472 → entry ≡ 2147483648 + row' → IsRunning a cache (run_of x (take n bytes) i met row end)
     → IsRunning a cache (run_of x (take (n + 1) bytes) i met row' (Some (record { row = row'; at = i + n })))
@@ -185,7 +185,7 @@ run_ends a cache x bytes i row at met met' end some e told run =
       passes = subst (λ o. Passes a bytes i x met run.next o) (sym (told run.last run.noted)) run.passes;
     }
 
--- what was noted of the end that was met last
+-- the match end that was noted last
 pub noted_last : (w : ℕ) (states : List AutomatonState) (row place number : ℕ) (ended : Option ℕ) (last met : Option HalfFound) → 0 < w → number ≡ row / w → ((y : AutomatonState) → slice_get states number ≡ Some y → ended ≡ y.ended) → IsMetAt w states row place last → met_after place ended met ≡ last
 noted_last w states row place number ended last met some e told at =
     let here : number ≡ at.number = e ∙ ap (λ r. r / w) at.row_is ∙ mul-div_cancel at.number some in

@@ -1,4 +1,4 @@
--- Bytes that lie in one piece, and where a search stands behind them.
+-- The bytes of one chunk, and where a search is after them.
 use Rattle.std.proofs.Common.{inl, inr, ◌≡◌, ℕ, zero, suc, ◌+◌, ◌-◌, ◌≤◌, Bool, true, false, ◌&&◌, cond, List, [], ◌∷◌, ◌++◌, length, take, drop, Option, Some, None, option_map, slice_get, refl, sym, ap, ap₂, subst, ◌∙◌, arith}
 use Rattle.std.specs.Prelude.{◌==◌, not, nat_lt}
 use Rattle.std.proofs.lemmas.List.{length-take, take-take}
@@ -74,7 +74,7 @@ run_after a states x bytes n m few at number number' met met' met'' inside withi
     passed_on a states states x (take n bytes) (take m (take few (drop n bytes))) (take (n + m) bytes) at met met' met'' number number' (take_both bytes n m few (omega (arith, within, length-take few (drop n bytes)))) so_far
     (λ y stands. subst (λ i. HasPassed a states y (take m (take few (drop n bytes))) i met' number' met'') far (run y stands))
 
--- it is one through what a table shows
+-- that run in the table's states and steps
 pub run_shown : (a : Automaton) (known shown : CacheView) (bytes : List ℕ) (at number number' : ℕ) (met met' : Option HalfFound) → known ≡ shown → ((x : AutomatonState) → slice_get known.states number ≡ Some x → HasPassed a known.states x bytes at met number' met')
     → (x : AutomatonState) → slice_get shown.states number ≡ Some x → HasPassed a shown.states x bytes at met number' met'
 run_shown a known shown bytes at number number' met met' same run = subst (λ (v : CacheView). (x : AutomatonState) → slice_get v.states number ≡ Some x → HasPassed a v.states x bytes at met number' met') same run
@@ -87,7 +87,7 @@ byte_after_them a states states' x bytes n b at number number' met met' met'' is
     passed_on a states states' x (take n bytes) (b ∷ []) (take (n + 1) bytes) at met met' met'' number number' (sym (take_one bytes n b is)) so_far
     (λ y stands. subst (λ i. HasPassed a states' y (b ∷ []) i met' number' met'') far (pass y stands))
 
--- ---- refusals
+-- ---- errors
 
 one_byte : (b c k : ℕ) → slice_get (b ∷ []) k ≡ Some c → (k ≡ 0) × (b ≡ c)
 one_byte b c zero e = let same : Some b ≡ Some c = e in (refl, cc same)
@@ -102,7 +102,7 @@ refused_on is_whole a at n b bytes (Quit c i) is (le, e, told) =
 refused_on is_whole a at n b bytes (GaveUp i) is (part, le, lt) = (part, omega (arith, le), omega (arith, lt, slice_get_within bytes n b is))
 refused_on is_whole a at n b bytes (UnsupportedAnchored mode) is why = why
 
--- where a table lacks a step
+-- why a table lacks a step
 pub lacks_among : (is_whole : Bool) (a : Automaton) (at b : ℕ) (e : MatchError) → IsLack is_whole at e → IsRefusalAmong is_whole a at (b ∷ []) e
 lacks_among true a at b e lack = absurd lack
 lacks_among false a at b e (inl is) = subst (λ r. IsRefusalAmong false a at (b ∷ []) r) (sym is) refl
@@ -113,7 +113,7 @@ lacks_there true a s i at e inside here lack = absurd lack
 lacks_there false a s i at e inside here (inl is) = subst (λ r. IsRefusal a.alphabet.now.asked s r) (sym is) tt
 lacks_there false a s i at e inside here (inr is) = subst (λ r. IsRefusal a.alphabet.now.asked s r) (sym is) (subst (λ k. IsInside s k) (sym here) inside)
 
--- a byte before which a search can't go on
+-- a byte before which a search must quit
 pub quit_there : (is_whole : Bool) (a : Automaton) (s : Search) (b i : ℕ) → IsRefusal a.alphabet.now.asked s (Quit b i) → IsRefusalBy is_whole a s (Quit b i)
 quit_there true a s b i why = why
 quit_there false a s b i why = why
@@ -140,7 +140,7 @@ refused_there false a s i bytes (GaveUp j) there within (part, le, lt) =
 refused_there true a s i bytes (UnsupportedAnchored mode) there within why = absurd why
 refused_there false a s i bytes (UnsupportedAnchored mode) there within why = absurd why
 
--- ---- where a search stands
+-- ---- where a search is
 
 get_taken : (xs : List ℕ) (n k b : ℕ) → slice_get (take n xs) k ≡ Some b → slice_get xs k ≡ Some b
 get_taken [] zero k b e = absurd (cc e)
@@ -176,7 +176,7 @@ pub cache_in : (is_whole : Bool) (a : Automaton) (table : CacheView) → IsTable
 cache_in false a table made = made.steps
 cache_in true a table closed = closed.made
 
--- ---- where it begins
+-- ---- the start
 
 pub reached_first : (p : ByteProgram) (s : Search) (q i : ℕ) (x : AutomatonState) → i ≡ lowest s → x.threads.threads ≡ [] → StartsSo s q i x.starting None → HasReached p s q i x None
 reached_first p s q i x first none starts =
@@ -199,7 +199,7 @@ no_looks states asked are none = (
   not_true asked.words (λ e. let some = are.words.0 e in let any : asked.any ≡ true = are.any.1 (some.0, refl, some.2) in absurd (cc (sym any ∙ none))),
 )
 
--- the byte before tells what looks that are asked for need of it
+-- the byte before an offset is all that assertions need to know of what precedes
 pub behind_is : (p : ByteProgram) (asked : AskedLooks) (s : Search) (i : ℕ) (x : AutomatonState) (o : Option ℕ) → AreAskedBy p.states asked → (asked.any ≡ true → o ≡ byte_before s i) → (asked.any ≡ false → o ≡ None) → x.behind ≡ behind_of asked p.line_terminator o → quits asked o ≡ false
     → IsBehind p asked s i x
 behind_is p asked s i x o are known unknown behind told = by asked.any refl
@@ -224,7 +224,7 @@ behind_is p asked s i x o are known unknown behind told = by asked.any refl
           told = rest.1;
         }
 
--- ---- where nothing is searched
+-- ---- no search
 
 pub half_of_none : (p : ByteProgram) (s : Search) (slots : Slots) → IsAnswer p s None slots → IsHalfAnswer p s None
 half_of_none p s slots answer = record { found = answer.found; finds = answer.finds; met_is = by answer.found answer.pattern_is }

@@ -1,4 +1,4 @@
--- A search from place to place.
+-- A search, offset by offset.
 use Rattle.std.proofs.Common.{inl, inr, ◌≡◌, ℕ, zero, suc, ◌+◌, ◌<◌, ◌≤◌, Bool, true, false, not, ◌&&◌, ◌||◌, min, IsTrue, List, [], ◌∷◌, ◌++◌, length, take, drop, reverse, Option, Some, None, slice_get, slice_index, refl, sym, ap, ap₂, subst, ◌∙◌, arith}
 use Rattle.std.specs.Prelude.{◌↔◌, nat_lt, nat_le}
 use Rattle.std.specs.Str.{IsCharBoundary}
@@ -26,7 +26,7 @@ use Rattle.rx_dfa.specs.Passing.{Passes, none, more, StandThere}
 use Rattle.rx_dfa.proofs.ClassLaws.{below_or_not}
 use Rattle.rx_dfa.proofs.LoopLaws.{Laws, May, place_passed}
 
--- ---- the bytes next to a place
+-- ---- the bytes next to an offset
 
 byte_at : (xs : List ℕ) (n i : ℕ) → i < n → slice_get (drop i (take n xs)) 0 ≡ slice_get xs i
 byte_at [] zero i lt = absurd (omega (arith, lt))
@@ -36,7 +36,7 @@ byte_at (x ∷ xs) zero i lt = absurd (omega (arith, lt))
 byte_at (x ∷ xs) (suc n) zero lt = refl
 byte_at (x ∷ xs) (suc n) (suc i) lt = byte_at xs n i (omega (arith, lt))
 
--- in the slice
+-- the byte after an offset, in the slice
 pub seen_is : (s : Search) (i : ℕ) → i < s.slice_end → byte_after s i ≡ slice_get s.content i
 seen_is s i lt = byte_at s.content s.slice_end i lt
 
@@ -49,7 +49,7 @@ byte_there s i b e = elim (below_or_not i s.slice_end) [
   | inr past ↦ absurd (cc (sym (none_seen s i past) ∙ e))
 ]
 
--- and of those that are read
+-- and among those that are read
 pub read_is : (p : ByteProgram) (s : Search) (i : ℕ) → i < min s.slice_end s.end → slice_get (left_from (haystack_in p.line_terminator s) i) 0 ≡ slice_get s.content i
 read_is p s i lt = next_byte_is s.content (min s.slice_end s.end) i lt
 
@@ -66,7 +66,7 @@ drop_first xs ys zero le = refl
 drop_first [] ys (suc n) le = absurd (omega (arith, le))
 drop_first (x ∷ xs) ys (suc n) le = drop_first xs ys n (omega (arith, le))
 
--- the byte that was passed stands before the next place
+-- the byte that was read is before the next offset
 pub before_is : (s : Search) (i b : ℕ) → s.slice_start ≤ i → slice_get s.content i ≡ Some b → byte_before s (i + 1) ≡ Some b
 before_is s i b le e =
     let next : i + 1 ≡ suc i = omega arith in
@@ -91,7 +91,7 @@ above_is_none b le = by (nat_le 128 b) (le-ltb b 192 le)
     by true e = e
     by false e = refl
 
--- a character is cut before a byte that continues one, and nowhere else
+-- an offset is a character boundary unless a continuation byte follows
 boundary_is : (content : List ℕ) (i b : ℕ) → slice_get content i ≡ Some b → IsTrue (not (continues b)) ↔ IsCharBoundary content i
 boundary_is content i b e = elim (below_or_not b 192) [
   | inr high ↦ yes (above_is_none b high) (inside_is (λ le. omega (arith, here, high)))
@@ -117,7 +117,7 @@ may_begin_is s i b e = by s.utf8_empty
     by true = ((λ is on. (boundary_is s.content i b e).0 is), (λ may. (boundary_is s.content i b e).1 (may refl)))
     by false = ((λ is on. absurd (cc on)), (λ may. refl))
 
--- ---- one byte is passed
+-- ---- one byte
 
 pub is_ahead : (p : ByteProgram) (asked : AskedLooks) (s : Search) (i b : ℕ) → slice_get s.content i ≡ Some b → i < min s.slice_end s.end → quits asked (Some b) ≡ false → IsAhead p asked s i (ahead_of s.utf8_empty b)
 is_ahead p asked s i b e lt told = record {
@@ -134,7 +134,7 @@ rest_stands s i b bytes there = record {
   low = omega (arith, there.low);
 }
 
--- a search that stands at a state stands behind these bytes at the one to which they lead
+-- a search in a state reaches, after these bytes, the state to which they lead
 pub bytes_passed : Laws → (a : Automaton) (s : Search) (q : ℕ) (bytes : List ℕ) (i : ℕ) (x y : AutomatonState) (met met' : Option HalfFound) → (directed a).is_back ≡ false → AreAskedBy (directed a).bytes.states a.alphabet.now.asked → a.alphabet.now.utf8_empty ≡ s.utf8_empty → StandThere s i bytes
     → Passes a bytes i x met y met' → HasReached (directed a).bytes s q i x met → IsBehind (directed a).bytes a.alphabet.now.asked s i x → HasReached (directed a).bytes s q (i + length bytes) y met' × IsBehind (directed a).bytes a.alphabet.now.asked s (i + length bytes) y
 bytes_passed laws a s q [] i x y met met' way are same there none reached behind =

@@ -1,4 +1,4 @@
--- Which states are the same, how they are found, and what they take.
+-- Equal states, how they are found, and their size.
 use Rattle.std.proofs.Common.{inl, inr, ◌≡◌, ℕ, zero, suc, ◌+◌, ◌<◌, ◌≤◌, ◌==◌, Bool, true, false, cond, List, [], ◌∷◌, ◌++◌, length, min, sum_by, take, Option, Some, None, slice_get, IsSome, IsSomeAnd, Result, Ok, Err, OnOk, is_err, refl, sym, ap, subst, ◌∙◌, arith, eq-eqb}
 use Rattle.std.proofs.Math.Nat.{min-eq_left, min-eq_right}
 use Rattle.std.proofs.lemmas.List.Sums.{sum_by_push}
@@ -9,7 +9,7 @@ use Rattle.rx_dfa.specs.Hashes.{hash_of, mixed, side_number, starting_hash, with
 use Rattle.rx_dfa.specs.Caches.{AreNumbered, IsNewState, IsSameState, StandApart, counted, size_of, size_of_all}
 use Rattle.rx_dfa.proofs.ClassLaws.{below_or_not}
 
--- ---- states that are the same
+-- ---- equal states
 
 pub same_turned : (x y : AutomatonState) → IsSameState x y → IsSameState y x
 same_turned x y same = record { threads = sym same.threads; starting = sym same.starting; behind = sym same.behind; ended = sym same.ended }
@@ -25,7 +25,7 @@ get_end [] z x (suc k) le e = absurd (cc e)
 get_end (y ∷ xs) z x zero le e = absurd (omega (arith, le))
 get_end (y ∷ xs) z x (suc k) le e = let on = get_end xs z x k (omega (arith, le)) e in (ap suc on.0, on.1)
 
--- a further state that is new stands apart too
+-- with a new state, no two are equal either
 pub apart_more : (states : List AutomatonState) (z : AutomatonState) → StandApart states → IsNewState states z → StandApart (states ++ z ∷ [])
 apart_more states z apart new m n x y at_m at_n same = elim (below_or_not m (length states)) [
   | inl m_lt ↦
@@ -77,12 +77,12 @@ some_either false o v is = is
 some_here : (b : Bool) (o : Option ℕ) (v : ℕ) → b ≡ true → IsSome (cond b (Some v) o)
 some_here b o v is = subst (λ c. IsSome (cond c (Some v) o)) (sym is) refl
 
--- what has a number has one still when a further one is noted
+-- what has a number has one when a further one is entered
 pub numbered_still : {S : Type 0} (states : List AutomatonState) (before after : HashMap ℕ ℕ S) (key value : ℕ) → Updates ◌==◌ before after key (Some value) → AreNumbered states before → AreNumbered states after
 numbered_still states before after key value noted numbered number x stands =
     subst IsSome (sym (noted.0 (hash_of x))) (some_either (key == hash_of x) (get ◌==◌ before (hash_of x)) value (numbered number x stands))
 
--- and with the state of that further one
+-- and so has the state of the further one
 pub numbered_more : {S : Type 0} (states : List AutomatonState) (z : AutomatonState) (before after : HashMap ℕ ℕ S) (value : ℕ) → Updates ◌==◌ before after (hash_of z) (Some value) → AreNumbered states before → AreNumbered (states ++ z ∷ []) after
 numbered_more states z before after value noted numbered number x stands = elim (below_or_not number (length states)) [
   | inl lt ↦ numbered_still states before after (hash_of z) value noted numbered number x (sym (get_front states (z ∷ []) number lt) ∙ stands)
@@ -91,7 +91,7 @@ numbered_more states z before after value noted numbered number x stands = elim 
       subst IsSome (sym (noted.0 (hash_of x))) (some_here (hash_of z == hash_of x) (get ◌==◌ before (hash_of x)) value (eq-eqb (hash_of z) (hash_of x) (ap hash_of last.1)))
 ]
 
--- where no number is under its hash a state is new
+-- without a number for its hash, a state is new
 pub unnumbered_new : {S : Type 0} (states : List AutomatonState) (numbers : HashMap ℕ ℕ S) (x : AutomatonState) → AreNumbered states numbers → get ◌==◌ numbers (hash_of x) ≡ None → IsNewState states x
 unnumbered_new states numbers x numbered none number y stands same =
     let is : IsSome (get ◌==◌ numbers (hash_of y)) = numbered number y stands in
@@ -103,7 +103,7 @@ unnumbered_new states numbers x numbered none number y stands same =
 
 -- ---- sizes
 
--- a sum of what is counted is counted
+-- the sum of capped numbers is the capped sum
 pub counted_sum : (top a b : ℕ) → min (min a top + min b top) top ≡ min (a + b) top
 counted_sum top a b = elim (below_or_not top a) [
   | inl above ↦

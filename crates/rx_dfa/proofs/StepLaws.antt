@@ -1,4 +1,4 @@
--- A step before a byte is the step before each byte that is alike.
+-- A step over a byte is a step over each byte of its class.
 use Rattle.std.proofs.Common.{◌≡◌, ℕ, Bool, true, false, not, ◌&&◌, ◌||◌, List, [], ◌++◌, Option, Some, refl, sym, ap, ap₂, subst, ◌∙◌}
 use Rattle.std.specs.Prelude.{nat_lt, ◌==◌}
 use Rattle.unicode.specs.Perl.{is_word_char}
@@ -65,7 +65,7 @@ looks_by_alike : (is_back : Bool) (p : ByteProgram) (asked : AskedLooks) (x : Au
 looks_by_alike false p asked x b c l are alike asks = looks_alike p asked x b c l are alike asks
 looks_by_alike true p asked x b c l are alike asks = looks_alike_back p asked x b c l are alike asks
 
--- steps are alike at places that are, forward and back
+-- steps are equal at positions that are alike, forward and backward
 pub record AlikeLaws : Type 0 where
   pub forward : (p : ByteProgram) → StepsAreAlike p
   pub back : (p : ByteProgram) → StepsBackAreAlike p

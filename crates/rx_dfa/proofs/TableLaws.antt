@@ -67,7 +67,7 @@ the_same e f = some_is (sym e ∙ f)
 
 -- ---- rows
 
--- a row ends where there still are entries
+-- a row is inside the table
 pub row_room : (k w len : ℕ) → k < len → k * w + w ≤ len * w
 row_room k w zero lt = absurd (omega (arith, lt))
 row_room zero w (suc len) lt = omega (arith, suc-mul len w)
@@ -78,7 +78,7 @@ rows_rise k w zero le = omega arith
 rows_rise zero w (suc len) le = absurd (omega (arith, le))
 rows_rise (suc k) w (suc len) le = omega (arith, suc-mul k w, suc-mul len w, rows_rise k w len (omega (arith, le)))
 
--- each place is in one row
+-- each index is in one row
 same_cell : (w n c n' c' : ℕ) → c < w → c' < w → n * w + c ≡ n' * w + c' → (n ≡ n') × (c ≡ c')
 same_cell w zero c zero c' lt lt' e = (refl, omega (arith, e))
 same_cell w zero c (suc n') c' lt lt' e = absurd (omega (arith, lt, e, suc-mul n' w))
@@ -166,17 +166,17 @@ cache_none p alphabet after widths width table states used = record {
 pub cache_empty : (p : Directed) (alphabet : AlphabetView) (cache after : CacheView) → HoldsSteps p alphabet cache → after.widths ≡ cache.widths → after.width ≡ cache.width → after.table ≡ [] → after.states ≡ [] → after.used ≡ 0 → HoldsSteps p alphabet after
 cache_empty p alphabet cache after made widths width table states used = cache_none p alphabet after (widths ∙ made.widths) (width ∙ made.width) table states used
 
--- ---- how many states are kept
+-- ---- the number of states
 
 pub none_bounded : (capacity : ℕ) (cache : CacheView) → cache.states ≡ [] → IsWithinCapacity capacity cache
 none_bounded capacity cache e = inl (omega (arith, ap (λ (xs : List AutomatonState). length xs) e))
 
--- beside one state there is room for another one
+-- a second state always fits
 pub more_bounded : (capacity : ℕ) (before after : CacheView) (z : AutomatonState) → after.states ≡ before.states ++ z ∷ [] → after.used ≡ used_with before z → (length before.states < 2) ⊎ (used_with before z ≤ capacity) → IsWithinCapacity capacity after
 more_bounded capacity before after z states used (inl few) = inl (omega (arith, few, ap (λ (xs : List AutomatonState). length xs) states, length-append before.states (z ∷ [])))
 more_bounded capacity before after z states used (inr fits) = inr (omega (arith, fits, used))
 
--- a single one
+-- a single state
 pub one_bounded : (capacity : ℕ) (before after : CacheView) (z : AutomatonState) → before.states ≡ [] → after.states ≡ before.states ++ z ∷ [] → IsWithinCapacity capacity after
 one_bounded capacity before after z none states = inl (omega (arith, ap (λ (xs : List AutomatonState). length xs) none, ap (λ (xs : List AutomatonState). length xs) states, length-append before.states (z ∷ [])))
 
@@ -234,7 +234,7 @@ cache_set p alphabet cache after number column entry x made stands in_row right 
 
 -- ---- steps
 
--- a step to the state that is made is one to each that is the same
+-- a step to a state is one to each state that equals it
 pub step_same : (p : Directed) (alphabet : AlphabetView) (x y z : AutomatonState) (ahead : Ahead) → IsStep p alphabet.asked x ahead y → IsSameState y z → IsStep p alphabet.asked x ahead z
 step_same p alphabet x y z ahead step same = record {
   next = step.next;
@@ -245,14 +245,14 @@ step_same p alphabet x y z ahead step same = record {
   behind = same.behind ∙ step.behind;
 }
 
--- the entry that leads to a state that a step has come to
+-- the entry that leads to the state that a step reached
 pub entry_right : (p : Directed) (alphabet : AlphabetView) (w : ℕ) (states : List AutomatonState) (x : AutomatonState) (ahead : Ahead) (number entry : ℕ) (to : LeadsTo p alphabet states x ahead number) → IsEntryTo w to.next number entry → IsEntry p alphabet w states x ahead entry
 entry_right p alphabet w states x ahead number entry to (unknown_to e) = unknown e
 entry_right p alphabet w states x ahead number entry to (plain_to e below none) = plain to e below none
 entry_right p alphabet w states x ahead number entry to (ends_to e below some) = ends to e below some
 entry_right p alphabet w states x ahead number entry to (over_to e below) = over to e below
 
--- what an entry leads to
+-- where an entry leads
 pub entry_steps : (p : Directed) (alphabet : AlphabetView) (w : ℕ) (states : List AutomatonState) (x : AutomatonState) (ahead : Ahead) (entry at : ℕ) → (entry ≡ 4294967295 → ⊥) → (entry ≡ 4294967294 → ⊥) → ((number : ℕ) → entry ≡ number * w → entry < 2147483648 → at ≡ number)
     → ((number : ℕ) → entry ≡ 2147483648 + number * w → entry < 3221225472 → at ≡ number) → ((number : ℕ) → entry ≡ 3221225472 + number * w → at ≡ number) → IsEntry p alphabet w states x ahead entry → LeadsTo p alphabet states x ahead at
 entry_steps p alphabet w states x ahead entry at known goes plain_at ends_at over_at (unknown e) = absurd (known e)
@@ -264,7 +264,7 @@ entry_steps p alphabet w states x ahead entry at known goes plain_at ends_at ove
 pub found_new : (states : List AutomatonState) (z : AutomatonState) (number : ℕ) → slice_get states number ≡ Some z → (x : AutomatonState) × (slice_get states number ≡ Some x) × IsSameState z x
 found_new states z number e = (z, e, record { threads = refl; starting = refl; behind = refl; ended = refl })
 
--- the state that is found for a first state is one
+-- the state that is found for a start state is one
 pub found_first : (states : List AutomatonState) (starting : Starting) (behind : Behind) (x : AutomatonState) (number : ℕ) → IsFirstState starting behind x → (y : AutomatonState) × (slice_get states number ≡ Some y) × IsSameState x y → HasFirst states starting behind number
 found_first states starting behind x number first (y, stands, same) = record {
   state = y;
@@ -275,7 +275,7 @@ found_first states starting behind x number first (y, stands, same) = record {
 pub keep_all : (states : List AutomatonState) → KeepNumbers states states
 keep_all states number x e = e
 
--- a step to a state that is made leads to the state that is found for it
+-- a step to a computed state leads to the state that is found for it
 pub leads_to_found : (p : Directed) (alphabet : AlphabetView) (states : List AutomatonState) (x made : AutomatonState) (ahead : Ahead) (number : ℕ) → IsStep p alphabet.asked x ahead made → quits alphabet.asked ahead.seen ≡ false
     → (y : AutomatonState) × (slice_get states number ≡ Some y) × IsSameState made y → LeadsTo p alphabet states x ahead number
 leads_to_found p alphabet states x made ahead number step told (y, stands, same) = record { next = y; stands = stands; step = step_same p alphabet x made y ahead step same; told = told }
@@ -285,7 +285,7 @@ there_is [] k lt = absurd (omega (arith, lt))
 there_is (x ∷ xs) zero lt = (x, refl)
 there_is (x ∷ xs) (suc k) lt = there_is xs k (omega (arith, lt))
 
--- ---- a step is entered
+-- ---- a step is entered in the table
 
 pub quit_set : (p : Directed) (alphabet : AlphabetView) (cache after : CacheView) (number column : ℕ) → HoldsSteps p alphabet cache → number < length cache.states → column < cache.width → quits alphabet.asked (ahead_in alphabet column).seen ≡ true
     → after.table ≡ set cache.table (number * cache.width + column) 4294967294 → after.states ≡ cache.states → after.widths ≡ cache.widths → after.width ≡ cache.width → after.used ≡ cache.used → HoldsSteps p alphabet after

@@ -1,4 +1,4 @@
--- Automata: programs, each with the way in which it is read, and their alphabets.
+-- Automata: programs, each with its direction and its alphabet.
 use Rattle.std.specs.Prelude.{◌≡◌, true, false}
 use Rattle.rx_program.specs.Programs.{IsByteProgram}
 use Rattle.rx_dfa.specs.declared.automaton.Automaton.{Automaton}
@@ -19,13 +19,13 @@ directed a = directed_by a.way
 abbrev pub IsAutomaton : Automaton → Type 0
 IsAutomaton a = TellsApart (directed a).bytes a.alphabet.now
 
--- it reads backwards, and a walk may start inside a character
+-- it reads backward, and a walk may start inside a character
 pub record ReadsBack (a : Automaton) : Type 0 where
   pub is : IsAutomaton a
   pub way : (directed a).is_back ≡ true
   pub anywhere : a.alphabet.now.utf8_empty ≡ false
 
--- it reads forward, by a program whose automata read the characters of its sets
+-- it reads forward, and its program's automata read the characters of their sets
 pub record ReadsForward (a : Automaton) : Type 0 where
   pub reads : IsByteProgram (directed a).bytes
   pub way : (directed a).is_back ≡ false

@@ -1,4 +1,4 @@
--- What looks have to know of a place, by one byte on each side.
+-- What look-around assertions need to know of a position: one byte on each side.
 use Rattle.std.specs.Prelude.{ℕ, Bool, true, false, not, ◌&&◌, ◌==◌, nat_lt, Option, Some, None, cond}
 use Rattle.unicode.specs.Perl.{is_word_char}
 use Rattle.rx_walks.specs.Looks.{is_same}
@@ -7,11 +7,11 @@ use Rattle.rx_steps.specs.declared.place.Looks.{Looks}
 use Rattle.rx_dfa.specs.declared.behind.Behind.{Behind}
 use Rattle.rx_dfa.specs.declared.behind.Behind.TheVariants.{Edge, Byte}
 
--- a word character that is ASCII
+-- the byte is an ASCII word character
 abbrev pub is_word_ascii : ℕ → Bool
 is_word_ascii b = nat_lt b 128 && is_word_char b
 
--- the side on which this byte stands, or none, as far as the looks that are asked for tell it
+-- what precedes a position after this byte, or none, as far as these assertions depend on it
 abbrev pub behind_of : AskedLooks → ℕ → Option ℕ → Behind
 behind_of asked terminator None = cond asked.any Edge (Byte false false)
 behind_of asked terminator (Some b) =
@@ -41,7 +41,7 @@ abbrev pub is_word_at : Option ℕ → Bool
 is_word_at None = false
 is_word_at (Some b) = is_word_ascii b
 
--- the looks that hold between this side and a byte, or none
+-- the assertions that hold between this and the following byte, or none
 abbrev pub looks_of : ℕ → Behind → Option ℕ → Looks
 looks_of terminator behind ahead = record {
   start = is_start behind;
@@ -52,7 +52,7 @@ looks_of terminator behind ahead = record {
   no_word_boundary = is_same (was_word behind) (is_word_at ahead);
 }
 
--- where looks of words are asked for, one byte doesn't tell them if it is none of ASCII
+-- with word assertions, a search must quit before a byte that isn't ASCII
 abbrev pub quits : AskedLooks → Option ℕ → Bool
 quits asked None = false
 quits asked (Some b) = asked.words && not (nat_lt b 128)

@@ -1,4 +1,4 @@
--- The table of an automaton, and the states that its rows are of.
+-- The table of an automaton, and the states of its rows.
 use Rattle.std.specs.Prelude.{◌≡◌, ℕ, ◌+◌, ◌-◌, ◌*◌, ◌^◌, ◌<◌, ◌≤◌, ◌⊎◌, ◌==◌, true, false, List, All, length, min, sum_by, Option, Some, None, IsSome, slice_get}
 use Rattle.std.specs.HashMap.{HashMap, get}
 use Rattle.rx_util.specs.declared.search.MatchError.{MatchError}
@@ -16,9 +16,9 @@ use Rattle.rx_dfa.specs.States.{IsFirstState, IsStateOf, IsStep}
 use Rattle.rx_dfa.specs.Alphabets.{AlphabetView, column_count, ahead_in}
 use Rattle.rx_dfa.specs.Hashes.{hash_of}
 
--- how many nodes each state is of the program that a cache was made for; how many entries a row
--- has, the rows one after the other; the state of each row; how many bytes they take, about; and
--- how often all states were taken out in the search that it served last
+-- a cache: the number of nodes of each state of its program; the length of a row, and the rows one
+-- after the other; the state of each row; the approximate number of bytes that they take; and how
+-- often the last search cleared them
 pub record CacheView : Type 0 where
   pub widths : List ℕ
   pub width : ℕ
@@ -27,7 +27,7 @@ pub record CacheView : Type 0 where
   pub used : ℕ
   pub cleared : ℕ
 
--- the state with this number is one to which a state leads
+-- a state leads to the state with this number
 pub record LeadsTo (p : Directed) (alphabet : AlphabetView) (states : List AutomatonState)
     (x : AutomatonState) (ahead : Ahead) (number : ℕ) : Type 0 where
   pub next : AutomatonState
@@ -35,9 +35,9 @@ pub record LeadsTo (p : Directed) (alphabet : AlphabetView) (states : List Autom
   pub step : IsStep p alphabet.asked x ahead next
   pub told : quits alphabet.asked ahead.seen ≡ false
 
--- what an entry says of a state and what stands ahead: nothing; that a search can't go on; or where
--- the row of the next state begins, from `ENDS` on where an end is met, and from `STOPS` on where a
--- search has to look at that state
+-- what an entry says of a state and the text after an offset: nothing; that a search must quit; or
+-- the offset of the next state's row, plus `ENDS` if a match ends, or plus `STOPS` if a search must
+-- check that state
 pub data IsEntry (p : Directed) (alphabet : AlphabetView) (width : ℕ)
     (states : List AutomatonState) (x : AutomatonState) (ahead : Ahead) (entry : ℕ) : Type 0 where
   unknown : entry ≡ UNKNOWN → IsEntry p alphabet width states x ahead entry
@@ -52,7 +52,7 @@ pub data IsEntry (p : Directed) (alphabet : AlphabetView) (width : ℕ)
       → entry ≡ STOPS + number * width → entry < QUIT
       → IsEntry p alphabet width states x ahead entry
 
--- an entry leads to this state, or tells nothing
+-- an entry leads to this state, or says nothing
 pub data IsEntryTo (width : ℕ) (y : AutomatonState) (number entry : ℕ) : Type 0 where
   unknown_to : entry ≡ UNKNOWN → IsEntryTo width y number entry
   plain_to : entry ≡ number * width → entry < ENDS → y.ended ≡ None
@@ -62,7 +62,7 @@ pub data IsEntryTo (width : ℕ) (y : AutomatonState) (number entry : ℕ) : Typ
   over_to : entry ≡ STOPS + number * width → entry < QUIT
       → IsEntryTo width y number entry
 
--- a step came to a state, or can't be made
+-- the result of a step: a state's number, or none if the search must quit
 abbrev pub HasStepped : Directed → AlphabetView → List AutomatonState → AutomatonState → Ahead
     → Option ℕ → Type 0
 HasStepped p alphabet states x ahead None = quits alphabet.asked ahead.seen ≡ true
@@ -75,50 +75,50 @@ AreEntries p alphabet width states table = (number column entry : ℕ) (x : Auto
     → slice_get table (number * width + column) ≡ Some entry
     → IsEntry p alphabet width states x (ahead_in alphabet column) entry
 
--- both states are the same
+-- both states are equal
 pub record IsSameState (x y : AutomatonState) : Type 0 where
   pub threads : y.threads.threads ≡ x.threads.threads
   pub starting : y.starting ≡ x.starting
   pub behind : y.behind ≡ x.behind
   pub ended : y.ended ≡ x.ended
 
--- none of the states is the same as this one
+-- no state of the list equals this one
 abbrev pub IsNewState : List AutomatonState → AutomatonState → Type 0
 IsNewState states x = (number : ℕ) (y : AutomatonState) → slice_get states number ≡ Some y
     → IsSameState x y → ⊥
 
--- no two of the states are the same
+-- no two states of the list are equal
 abbrev pub StandApart : List AutomatonState → Type 0
 StandApart states = (m n : ℕ) (x y : AutomatonState) → slice_get states m ≡ Some x
     → slice_get states n ≡ Some y → IsSameState x y → m ≡ n
 
--- a number, or the greatest that is counted
+-- a number, or the greatest number of 64 bits
 abbrev pub counted : ℕ → ℕ
 counted n = min n (2 ^ 64 - 1)
 
--- how many bytes a state of so many nodes takes, whose row has so many entries, about: the nodes,
--- the row, and what is kept of it beside
+-- the approximate number of bytes of a state with this many nodes and entries: the nodes, the row,
+-- and other data
 abbrev pub size_of_parts : ℕ → ℕ → ℕ
 size_of_parts nodes entries = nodes * NODE_BYTES + entries * ENTRY_BYTES + 2 * STATE_BYTES
 
--- how many a state takes whose row has so many entries
+-- that of a state whose row has this length
 abbrev pub size_of : ℕ → AutomatonState → ℕ
 size_of width x = size_of_parts (length x.threads.threads) width
 
--- and all of them together
+-- that of all states
 abbrev pub size_of_all : ℕ → List AutomatonState → ℕ
 size_of_all width states = counted (sum_by (size_of width) states)
 
--- the states of a cache with a further one
+-- that of a cache's states and a further one
 abbrev pub used_with : CacheView → AutomatonState → ℕ
 used_with cache x = counted (cache.used + counted (size_of cache.width x))
 
--- there are two states, and a further one doesn't fit
+-- there are at least two states, and a further one doesn't fit
 pub record HasNoRoom (capacity : ℕ) (cache : CacheView) (x : AutomatonState) : Type 0 where
   pub some : 2 ≤ length cache.states
   pub full : capacity < used_with cache x
 
--- what is known of the states and steps of an automaton of a program
+-- the states and steps are those of an automaton of a program
 pub record HoldsSteps (p : Directed) (alphabet : AlphabetView) (cache : CacheView) : Type 0 where
   pub widths : cache.widths ≡ widths_of p.bytes
   pub width : cache.width ≡ column_count alphabet
@@ -128,26 +128,26 @@ pub record HoldsSteps (p : Directed) (alphabet : AlphabetView) (cache : CacheVie
   pub entries : AreEntries p alphabet cache.width cache.states cache.table
   pub used : cache.used ≡ size_of_all cache.width cache.states
 
--- it has two states, or takes no more room than it may
+-- there are at most two states, or they take at most the capacity
 abbrev pub IsWithinCapacity : ℕ → CacheView → Type 0
 IsWithinCapacity capacity cache = (length cache.states ≤ 2) ⊎ (cache.used ≤ capacity)
 
--- a cache for searches by an automaton of a program
+-- a cache for searches with an automaton of a program
 pub record IsCacheOf (p : Directed) (alphabet : AlphabetView) (cache : CacheView) : Type 0 where
   pub steps : HoldsSteps p alphabet cache
   pub bounded : IsWithinCapacity alphabet.capacity cache
 
--- a search gives up only once all states were taken out so often for it
+-- a search gives up only after it has cleared the cache `CLEARS` times
 abbrev pub GivesUpLate : CacheView → MatchError → Type 0
 GivesUpLate cache (GaveUp at) = CLEARS ≤ cache.cleared
 GivesUpLate cache _ = Unit {0}
 
--- there are at most so many states, which take so many bytes at most
+-- there are at most this many states, which take at most this many bytes
 pub record IsWithin (state_limit size_limit : ℕ) (cache : CacheView) : Type 0 where
   pub states : length cache.states ≤ state_limit
   pub size : cache.used ≤ size_limit
 
--- the state with this number is one in which a search stands at its first place
+-- the state with this number is a start state
 pub record HasFirst (states : List AutomatonState) (starting : Starting) (behind : Behind)
     (number : ℕ) : Type 0 where
   pub state : AutomatonState
@@ -163,7 +163,7 @@ abbrev pub KeepNumbers : List AutomatonState → List AutomatonState → Type 0
 KeepNumbers before after = (number : ℕ) (x : AutomatonState) → slice_get before number ≡ Some x
     → slice_get after number ≡ Some x
 
--- each state is found by its hash: there is a number under it
+-- the map has a number for each state's hash
 abbrev pub AreNumbered : {S : Type 0} → List AutomatonState → HashMap ℕ ℕ S → Type 0
 AreNumbered states numbers = (number : ℕ) (x : AutomatonState) → slice_get states number ≡ Some x
     → IsSome (get ◌==◌ numbers (hash_of x))

@@ -1,4 +1,4 @@
--- Engines that search by closed automata.
+-- Engines that search with dense automata.
 use Rattle.std.specs.Prelude.{◌≡◌}
 use Rattle.rx_engine.specs.Engines.{Engine}
 use Rattle.rx_steps.specs.Reversed.{IsReverseOf}
@@ -8,7 +8,7 @@ use Rattle.rx_dfa.specs.Caches.{CacheView}
 use Rattle.rx_dfa.specs.Directions.{forward}
 use Rattle.rx_dfa.specs.DenseTables.{IsClosedOf}
 
--- an automaton, all its states and steps, and its program turned round with those of that
+-- an automaton with all its states and steps, and the reverse program with those of its automaton
 pub record AutomatonView : Type 0 where
   pub dfa : AlphabetView
   pub closed : CacheView
@@ -19,7 +19,8 @@ pub record DenseView : Type 0 where
   pub engine : Engine
   pub automaton : AutomatonView
 
--- they pass over the same empty matches, the automaton is closed, and the program is turned round
+-- both skip the same empty matches, the automaton is closed, and the reverse program is that of the
+-- engine's
 pub record IsDense (re : DenseView) : Type 0 where
   pub dfa : IsAlphabetOf re.engine.program re.automaton.dfa
   pub utf8_empty : re.automaton.dfa.utf8_empty ≡ re.engine.utf8_empty

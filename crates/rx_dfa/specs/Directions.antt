@@ -1,5 +1,5 @@
--- The way in which an automaton reads a content: forward, or from its end back, by a program turned
--- round.
+-- The direction in which an automaton reads a haystack: forward, or backward with a reverse
+-- program.
 use Rattle.std.specs.Prelude.{ℕ, Bool, true, false, List, Option}
 use Rattle.rx_program.specs.Programs.{ByteProgram}
 use Rattle.rx_program.specs.Reversed.{ReverseByteProgram}
@@ -10,7 +10,7 @@ use Rattle.rx_steps.specs.Lists.{IsNextList}
 use Rattle.rx_steps.specs.ListsAll.{nodes_of}
 use Rattle.rx_steps.specs.Reversed.{IsNextListBack, byte_program_of}
 
--- a program, and whether it is one turned round, whose walks read backwards
+-- a program, and whether it is a reverse program, whose walks read backward
 pub record Directed : Type 0 where
   pub bytes : ByteProgram
   pub is_back : Bool
@@ -21,7 +21,7 @@ forward p = record { bytes = p; is_back = false }
 abbrev pub backward : ReverseByteProgram → Directed
 backward turned = record { bytes = byte_program_of turned; is_back = true }
 
--- the looks of a place whose sides have changed places
+-- the assertions that hold at a position, with its sides swapped
 abbrev pub turned_looks : Looks → Looks
 turned_looks looks = record {
   start = looks.end;
@@ -32,13 +32,13 @@ turned_looks looks = record {
   no_word_boundary = looks.no_word_boundary;
 }
 
--- the looks that hold between the side from which walks come and the one to which they go
+-- the assertions between the side from which walks come and the side to which they go
 abbrev pub looks_by : Bool → Looks → Looks
 looks_by false looks = looks
 looks_by true looks = turned_looks looks
 
--- the step from these threads gives those, and the pattern whose match ends there, or starts there
--- where they read backwards
+-- a step from some threads gives others, and the pattern whose match ends there, or starts there if
+-- they read backward
 abbrev pub IsList : Bool → ByteProgram → Place → List Thread → List Thread → Option ℕ → Slots
     → Type 0
 IsList false p place threads next met slots = IsNextList p place threads next met slots

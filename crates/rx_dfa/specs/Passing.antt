@@ -1,4 +1,4 @@
--- What searches by an automaton come to, byte after byte.
+-- What searches with an automaton reach, byte by byte.
 use Rattle.std.specs.Prelude.{◌≡◌, ℕ, ◌+◌, ◌*◌, ◌<◌, ◌≤◌, true, false, List, [], ◌∷◌, length, min, Option, Some, None, slice_get}
 use Rattle.rx_util.specs.Search.{HalfFound}
 use Rattle.rx_util.specs.declared.search.MatchError.{MatchError}
@@ -23,11 +23,12 @@ use Rattle.rx_dfa.specs.Alphabets.{ahead_in, column_count}
 use Rattle.rx_dfa.specs.Caches.{CacheView}
 use Rattle.rx_dfa.specs.Searching.{met_after, HasReached, IsAhead, IsBehind}
 
--- what an input asks for of a search by an automaton
+-- the search with an automaton that an input asks for
 abbrev pub search_by : Automaton → InputState → Search
 search_by a input = search_of a.alphabet.now.utf8_empty input
 
--- from a place on these bytes lead from a state, with this end met last, to a state
+-- from an offset on these bytes lead from a state and a last match end to a state and a last match
+-- end
 pub data Passes (a : Automaton) : List ℕ → ℕ → AutomatonState → Option HalfFound → AutomatonState
     → Option HalfFound → Type 0 where
   none : {i : ℕ} {x : AutomatonState} {met : Option HalfFound} → Passes a [] i x met x met
@@ -38,8 +39,8 @@ pub data Passes (a : Automaton) : List ℕ → ℕ → AutomatonState → Option
       → Passes a bytes (i + 1) y (met_after i y.ended met) z met'
       → Passes a (b ∷ bytes) i x met z met'
 
--- the match that is met last, where an end was met at a place before the state of this row,
--- whatever was met before
+-- the last match end after an offset, whatever it was before, if one was met before the state of
+-- this row
 pub record IsMetAt (width : ℕ) (states : List AutomatonState) (row place : ℕ)
     (last : Option HalfFound) : Type 0 where
   pub number : ℕ
@@ -48,14 +49,14 @@ pub record IsMetAt (width : ℕ) (states : List AutomatonState) (row place : ℕ
   pub stands : slice_get states number ≡ Some state
   pub last_is : (met : Option HalfFound) → last ≡ met_after place state.ended met
 
--- the match that is met last: that of the end which is noted, and else the one before
+-- the last match end: the one noted, or else the earlier one
 abbrev pub IsNoted : ℕ → List AutomatonState → Option HalfFound → Option PassedEnd
     → Option HalfFound → Type 0
 IsNoted width states met None last = last ≡ met
 IsNoted width states met (Some end) last = IsMetAt width states end.row end.at last
 
--- a run through a table: from this state, place and last end on these bytes were followed, to the
--- state of this row, and this end was noted on the way
+-- a run through a table: from this state, offset and last match end it followed these bytes, to the
+-- state of this row, and noted this match end
 pub record TableRun : Type 0 where
   pub first : AutomatonState
   pub at : ℕ
@@ -64,7 +65,7 @@ pub record TableRun : Type 0 where
   pub row : ℕ
   pub end : Option PassedEnd
 
--- the bytes lead to the row, and the end is the last one
+-- the bytes lead to the row, and the noted match end is the last one
 pub record IsRunning (a : Automaton) (table : CacheView) (run : TableRun) : Type 0 where
   pub number : ℕ
   pub next : AutomatonState
@@ -82,14 +83,14 @@ pub record HasPassed (a : Automaton) (states : List AutomatonState) (x : Automat
   pub stands : slice_get states number ≡ Some next
   pub passes : Passes a bytes i x met next met'
 
--- no walk lives, and none will start
+-- a dead state: it has no thread, and none will start
 pub record IsDeadState (states : List AutomatonState) (number : ℕ) : Type 0 where
   pub last : AutomatonState
   pub stands : slice_get states number ≡ Some last
   pub threads : last.threads.threads ≡ []
   pub starting : last.starting ≡ Never
 
--- a search stands at a place, at the state with this number, with this end met last
+-- a search is at an offset, in the state with this number, with this last match end
 pub record SearchStandsAt (a : Automaton) (s : Search) (q i : ℕ) (states : List AutomatonState)
     (number : ℕ) (met : Option HalfFound) : Type 0 where
   pub state : AutomatonState
@@ -97,13 +98,13 @@ pub record SearchStandsAt (a : Automaton) (s : Search) (q i : ℕ) (states : Lis
   pub reached : HasReached (directed a).bytes s q i state met
   pub behind : IsBehind (directed a).bytes a.alphabet.now.asked s i state
 
--- from a place on these bytes stand in the content, none of them behind the last place
+-- these are bytes of the haystack from an offset on, none past the highest offset
 pub record StandThere (s : Search) (i : ℕ) (bytes : List ℕ) : Type 0 where
   pub are : (k b : ℕ) → slice_get bytes k ≡ Some b → slice_get s.content (i + k) ≡ Some b
   pub end : i + length bytes ≤ min s.slice_end s.end
   pub low : lowest s ≤ i
 
--- a state meets this end at the place, where no byte is read
+-- a state meets this match end at the offset, where it reads no byte
 pub record MeetsEnd (p : ByteProgram) (asked : AskedLooks) (s : Search) (i : ℕ) (x : AutomatonState)
     (ended : Option ℕ) : Type 0 where
   pub ahead : Ahead
@@ -111,8 +112,8 @@ pub record MeetsEnd (p : ByteProgram) (asked : AskedLooks) (s : Search) (i : ℕ
   pub here : IsAhead p asked s i ahead
   pub ends : EndsSo (forward p) asked x ahead ended
 
--- in this column a search can go on, and the step in it tells the end that is met at the place,
--- where no byte is read
+-- a search may step in this column, and the step gives the match end at the offset, where no byte
+-- is read
 pub record IsLastColumn (a : Automaton) (s : Search) (i column : ℕ) : Type 0 where
   pub inside : column < column_count a.alphabet.now
   pub goes_on : quits a.alphabet.now.asked (ahead_in a.alphabet.now column).seen ≡ false
@@ -120,8 +121,8 @@ pub record IsLastColumn (a : Automaton) (s : Search) (i column : ℕ) : Type 0 w
       → IsStep (directed a) a.alphabet.now.asked x (ahead_in a.alphabet.now column) y
       → MeetsEnd (directed a).bytes a.alphabet.now.asked s i x y.ended
 
--- why a search answers nothing: there was no memory; it met a byte of the slice before which it
--- can't go on; or it gave up at a place inside
+-- why a search fails: out of memory; a byte of the slice before which it must quit; or it gave up
+-- at an offset inside
 abbrev pub IsRefusal : AskedLooks → Search → MatchError → Type 0
 IsRefusal asked s error.Memory = Unit {0}
 IsRefusal asked s (error.Quit b i) = (slice_get s.content i ≡ Some b) × (s.slice_start ≤ i)

@@ -14,8 +14,7 @@ use Rattle.rx_dfa.specs.Classes.{continues}
 use Rattle.rx_dfa.specs.Behind.{behind_of, looks_of}
 use Rattle.rx_dfa.specs.Directions.{Directed, IsList, looks_by}
 
--- the state of the program from which a walk starts at a place, where a match may begin there or
--- not
+-- the state of the program in which a walk starts at an offset, by whether a match may begin there
 abbrev pub start_at : Starting → Bool → Option ℕ
 start_at Never may_begin = None
 start_at (Once q) true = Some q
@@ -23,26 +22,26 @@ start_at (Once q) false = None
 start_at (Always q) true = Some q
 start_at (Always q) false = None
 
--- whether walks start behind a place at which this end was met
+-- how walks start after an offset, by the pattern whose match ended there
 abbrev pub starting_after : Starting → Option ℕ → Starting
 starting_after (Always q) None = Always q
 starting_after _ _ = Never
 
--- a thread without slots of a walk that starts there, if one does
+-- a thread without slots that starts there, if one does
 abbrev pub started : Option ℕ → List Thread
 started None = []
 started (Some q) = ([], first_node q) ∷ []
 
--- what stands ahead of a byte that is read
+-- what follows an offset: a byte that is read
 abbrev pub ahead_of : Bool → ℕ → Ahead
 ahead_of utf8_empty b =
     record { read = Some b; seen = Some b; may_begin = not utf8_empty || not (continues b) }
 
--- what stands ahead at the slice's end, where a match may begin or not
+-- what follows an offset: the slice's end, by whether a match may begin there
 abbrev pub ahead_of_end : Bool → Ahead
 ahead_of_end may_begin = record { read = None; seen = None; may_begin = may_begin }
 
--- where a state's threads make their step
+-- the position of a step of a state's threads
 abbrev pub place_of_step : Directed → AutomatonState → Ahead → Place
 place_of_step p x ahead = record {
   at = 0;
@@ -55,16 +54,15 @@ pub record IsStateOf (p : Directed) (x : AutomatonState) : Type 0 where
   pub bare : AreBare x.threads.threads
   pub threads : All (IsThreadOf p.bytes.states) x.threads.threads
 
--- the state in which a search stands at its first place, where walks start so and this stands
--- before
+-- the start state for how walks start and what precedes
 pub record IsFirstState (starting : Starting) (behind : Behind) (x : AutomatonState) : Type 0 where
   pub threads : x.threads.threads ≡ []
   pub starting_is : x.starting ≡ starting
   pub behind_is : x.behind ≡ behind
   pub ended_is : x.ended ≡ None
 
--- A state leads to another one: the step of its threads, and of a walk that starts after them,
--- gives the other's threads, of which some were left out, and the end that is met there.
+-- A state leads to another one: the step of its threads, and of one that starts after them, gives
+-- the other's threads, some perhaps left out, and its match end.
 pub record IsStep (p : Directed) (asked : AskedLooks) (x : AutomatonState) (ahead : Ahead)
     (y : AutomatonState) : Type 0 where
   pub next : List Thread
@@ -75,7 +73,7 @@ pub record IsStep (p : Directed) (asked : AskedLooks) (x : AutomatonState) (ahea
   pub starting : y.starting ≡ starting_after x.starting y.ended
   pub behind : y.behind ≡ behind_of asked p.bytes.line_terminator ahead.read
 
--- before what stands ahead the end of this pattern is met, or none
+-- a match of this pattern ends before what follows, or none does
 pub record EndsSo (p : Directed) (asked : AskedLooks) (x : AutomatonState) (ahead : Ahead)
     (ended : Option ℕ) : Type 0 where
   pub next : AutomatonState

@@ -14,13 +14,12 @@ use rx_steps::AskedLooks;
 use std::alloc::{AllocError, Global};
 use std::marker::Model;
 
-/// About how many bytes the states in a cache may take by default.
+/// The approximate number of bytes that the states in a cache may take by default.
 pub const CACHE_CAPACITY: usize = 2_097_152;
 
-/// What a program can tell apart of what stands at a place: what its automaton has to know of it;
-/// and how much room its states may take in a cache, about, in bytes. Contracts see the looks that
-/// the program asks for, its classes of bytes, whether empty matches inside a character are passed
-/// over, and that room.
+/// What an automaton needs to know of its program: the look-around assertions in it, its classes of
+/// bytes, and whether empty matches inside a character are skipped; and the approximate number of
+/// bytes that its states may take. Contracts see these four.
 #[derive(Debug)]
 pub struct Alphabet {
     asked: AskedLooks,
@@ -29,7 +28,7 @@ pub struct Alphabet {
     capacity: usize,
 }
 
-// Written out, so that no crate above proves anew how what it holds is let go.
+// Written out, so that crates above needn't prove how the fields are dropped.
 impl Drop for Alphabet {
     fn drop(self) {
         let Alphabet {
@@ -55,9 +54,16 @@ impl Model for Alphabet {
 }
 
 impl Alphabet {
-    /// The alphabet of a program. `utf8_empty` passes over empty matches inside a character. It
-    /// takes time in proportion to the program's states and the ranges of their automata, and a few
-    /// hundred bytes.
+    /// Returns the alphabet of a program. `utf8_empty` skips empty matches inside a character.
+    ///
+    /// # Errors
+    ///
+    /// Out of memory.
+    ///
+    /// # Complexity
+    ///
+    /// Time proportional to the program's states and the ranges of their automata; a few hundred
+    /// bytes.
     pub fn new(
         alloc: Global,
         program: &Program,
@@ -78,9 +84,15 @@ impl Alphabet {
         })
     }
 
-    /// The alphabet of a program turned round, to whose walks it is the same where they begin. It
-    /// takes time in proportion to the program's states and the ranges of their automata, and a few
-    /// hundred bytes.
+    /// Returns the alphabet of a reverse program. Empty matches inside a character are not skipped.
+    ///
+    /// # Errors
+    ///
+    /// Out of memory.
+    ///
+    /// # Complexity
+    ///
+    /// As for `new`.
     pub fn new_back(
         alloc: Global,
         reverse: &ReverseProgram,
@@ -99,28 +111,28 @@ impl Alphabet {
         })
     }
 
-    /// Which looks the program asks for.
+    /// Returns which look-around assertions the program contains.
     pub(crate) fn asked(&self) -> AskedLooks
         ensures { result ≡ self.now.asked }
     {
         self.asked
     }
 
-    /// About how much room its states may take, in bytes.
+    /// Returns the approximate number of bytes that the states may take.
     pub(crate) fn capacity(&self) -> usize
         ensures { result ≡ self.now.capacity }
     {
         self.capacity
     }
 
-    /// Whether empty matches inside a character are passed over.
+    /// Returns whether empty matches inside a character are skipped.
     pub(crate) fn utf8_empty(&self) -> bool
         ensures { result ≡ self.now.utf8_empty }
     {
         self.utf8_empty
     }
 
-    /// The column of a byte.
+    /// Returns the column of a byte.
     #[inline(always)]
     pub(crate) fn class(&self, byte: u8) -> usize
         ensures { result ≡ class_of self.now.classes byte }
@@ -128,14 +140,14 @@ impl Alphabet {
         self.classes.class(byte)
     }
 
-    /// Whether a search can't go on before this byte, or none.
+    /// Returns whether a search must quit before this byte; `None` is the end of the slice.
     pub(crate) fn quits_at(&self, seen: Option<u8>) -> bool
         ensures { result ≡ quits self.now.asked seen }
     {
         quits_at(self.asked, seen)
     }
 
-    /// The byte, if a search can't go on before it.
+    /// Returns the byte if a search must quit before it.
     pub(crate) fn byte_that_quits(&self, seen: Option<u8>) -> Option<u8>
         ensures none { result ≡ None → quits self.now.asked seen ≡ false }
         ensures some { IfSome result
@@ -144,21 +156,21 @@ impl Alphabet {
         byte_that_quits(self.asked, seen)
     }
 
-    /// A byte of a column, and none at the end of the slice.
+    /// Returns a byte of a column's class, or `None` for the columns of the end of the slice.
     pub(crate) fn byte(&self, column: usize) -> Option<u8>
         ensures { result ≡ slice_get self.now.classes.bytes column }
     {
         self.classes.byte(column)
     }
 
-    /// How many columns a table has: one for each class, and two for the end of the slice.
+    /// Returns the number of columns: one for each class, and two for the end of the slice.
     pub(crate) fn column_count(&self) -> usize
         ensures { result ≡ column_count self.now }
     {
         self.classes.column_count()
     }
 
-    /// The column for the end of the slice, where a match may begin or not.
+    /// Returns the column of the end of the slice, by whether a match may begin there.
     pub(crate) fn end_column(&self, may_begin: bool) -> usize
         ensures inside { result < column_count self.now }
         ensures end { ahead_in self.now result ≡ ahead_of_end may_begin }
@@ -170,7 +182,7 @@ impl Alphabet {
         }
     }
 
-    /// What stands ahead in a column.
+    /// Returns what follows the position in a column.
     pub(crate) fn ahead(&self, column: usize) -> Ahead
         ensures { result ≡ ahead_in self.now column }
     {

@@ -11,17 +11,17 @@ use rx_program::{Program, ReverseProgram};
 use rx_util::StateID;
 use std::alloc::Global;
 
-/// A program, and the way in which its walks read.
+/// A program and the direction in which it reads.
 #[derive(Clone, Copy)]
 pub(crate) enum Way<'a> {
     /// Forward.
     Forward(&'a Program),
-    /// Back, by a program turned round.
+    /// Backward, with a reverse program.
     Back(&'a ReverseProgram),
 }
 
 impl<'a> Way<'a> {
-    /// What the program's lists take their memory from.
+    /// Returns the allocator of the program's lists.
     pub(crate) fn allocator(&self) -> Global {
         match self {
             Way::Forward(program) => program.allocator(),
@@ -29,7 +29,7 @@ impl<'a> Way<'a> {
         }
     }
 
-    /// The byte that ends a line.
+    /// Returns the line terminator.
     pub(crate) fn line_terminator(&self) -> u8
         ensures { result ≡ (directed_by self.now).bytes.line_terminator }
     {
@@ -39,7 +39,7 @@ impl<'a> Way<'a> {
         }
     }
 
-    /// The state that walks start from where no pattern is asked for.
+    /// Returns the start state for a search that names no pattern.
     pub(crate) fn start(&self) -> StateID
         ensures { result ≡ (directed_by self.now).bytes.start }
     {
@@ -49,7 +49,7 @@ impl<'a> Way<'a> {
         }
     }
 
-    /// The state that walks start from of each pattern.
+    /// Returns the start state of each pattern.
     pub(crate) fn patterns(&self) -> &[StateID]
         ensures { result.now ≡ (directed_by self.now).bytes.patterns }
     {
@@ -60,8 +60,8 @@ impl<'a> Way<'a> {
     }
 }
 
-/// The automaton of a program: a program, with the way in which it is read, and its alphabet, by
-/// which all steps are made.
+/// The automaton of a program: the program with its direction, and its alphabet. All steps are
+/// computed from these.
 #[derive(Clone, Copy)]
 pub(crate) struct Automaton<'a> {
     pub(crate) way: Way<'a>,
@@ -69,7 +69,8 @@ pub(crate) struct Automaton<'a> {
 }
 
 impl<'a> Automaton<'a> {
-    /// The side on which this byte of a slice stands, or none, as far as the program's looks tell.
+    /// Returns what precedes a position after this byte, or at the start of the slice, as far as
+    /// the program's assertions depend on it.
     pub(crate) fn side(&self, byte: Option<u8>) -> Behind
         ensures side { result ≡ behind_of self.now.alphabet.now.asked
             (directed self.now).bytes.line_terminator byte }

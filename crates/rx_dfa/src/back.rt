@@ -1,6 +1,6 @@
-//! Searches back by an automaton of a program turned round, from the end of the span on, or of the
-//! content where that comes first. Places are counted from the span's end, and bytes are turned
-//! round, so that the loop over them is the one that searches forward.
+//! Backward searches with the automaton of a reverse program, from the end of the span, or of the
+//! haystack if that is less. Offsets are counted from the span's end and bytes are reversed, so the
+//! loop over bytes is that of forward searches.
 
 ghost use Rattle.std.specs.Prelude.{◌≡◌, ◌-◌, ◌<◌, ◌≤◌, ℕ, Bool, IsTrue, true, false, None, Some, get_or, length, min, take, IfErr, IfOk, OnOk};
 ghost use Rattle.rx_util.specs.declared.search.MatchError.{MatchError};
@@ -34,13 +34,12 @@ use rx_program::ReverseProgram;
 use rx_steps::{enter_end, start_back, told_back};
 use rx_util::{HalfMatch, MatchError, StateID};
 
-/// How many bytes are turned round at once.
+/// The number of bytes that are reversed at once.
 const TURNED: usize = 64;
-/// How many of them where a search back begins, since most matches are short.
+/// That number at the start of a backward search, because most matches are short.
 const TURNED_FIRST: usize = 16;
 
-/// The last bytes of a piece, at most as many as are turned round at once, from the last one back;
-/// and how many they are.
+/// Returns the last bytes of a chunk in reverse order, at most `TURNED`, and their number.
 fn turned(piece: &[u8]) -> ([u8; TURNED], usize)
     ensures long { length result.0 ≡ TURNED }
     ensures len { result.1 ≡ min (length piece.now) TURNED }
@@ -55,7 +54,7 @@ fn turned(piece: &[u8]) -> ([u8; TURNED], usize)
     (bytes, len)
 }
 
-/// How many bytes are turned round at once before a place, where the span ends at this end.
+/// Returns the number of bytes to reverse before an offset in a span with this end.
 fn few_at(at: usize, end: usize) -> usize
     ensures some { 0 < result }
     ensures few { result ≤ TURNED }
@@ -63,15 +62,15 @@ fn few_at(at: usize, end: usize) -> usize
     if at < end { TURNED } else { TURNED_FIRST }
 }
 
-/// The first place inside span and slice.
+/// Returns the lowest offset of the search: the greater start of span and slice.
 fn first_place<C: Cursor>(input: &Input<C>) -> usize
     ensures { (utf8_empty : Bool) → result ≡ lowest (search_of utf8_empty input.now) }
 {
     input.start().max(input.get_slice().start)
 }
 
-/// Bytes that stand before where an input stands, from the last one back, in one piece, and none
-/// before the first place; and how many they are. The input may stand at the place before then.
+/// Returns bytes before the input's position in reverse order, from one chunk and not below the
+/// lowest offset, and their number. May move the input to another chunk.
 fn bytes_before<C: Cursor>(input: &mut Input<C>) -> ([u8; TURNED], usize)
     ensures stand { (utf8_empty : Bool)
         → IsInside (search_of utf8_empty input.old) input.old.position
@@ -97,8 +96,8 @@ fn bytes_before<C: Cursor>(input: &mut Input<C>) -> ([u8; TURNED], usize)
     turned(&piece[end - few..end])
 }
 
-/// The column in which a state is told the match that it meets at the first place, before which
-/// this byte of the slice stands, or none.
+/// Returns the column whose step gives the match that starts at the lowest offset, after this byte
+/// of the slice.
 fn first_column(automaton: &Automaton, seen: Option<u8>) -> usize
     requires { ReadsBack automaton.now }
     ensures { (s : Search) → (i : ℕ) → seen ≡ byte_before s i
@@ -112,7 +111,7 @@ fn first_column(automaton: &Automaton, seen: Option<u8>) -> usize
     }
 }
 
-/// What is refused, with its place, where places were counted from an end back.
+/// Returns an error whose offset was counted backward from `end`, with its offset in the haystack.
 fn placed_error(error: MatchError, end: usize) -> MatchError
     ensures { result ≡ placed_error end error }
 {
@@ -129,7 +128,7 @@ fn placed_error(error: MatchError, end: usize) -> MatchError
     }
 }
 
-/// The match that was met, with its place, where places were counted from an end back.
+/// Returns a match whose offset was counted backward from `end`, with its offset in the haystack.
 fn placed(met: Option<HalfMatch>, end: usize) -> Option<HalfMatch>
     ensures { result ≡ best_from end met }
 {
@@ -139,8 +138,8 @@ fn placed(met: Option<HalfMatch>, end: usize) -> Option<HalfMatch>
     }
 }
 
-/// Passes bytes that stand before where an input stands, in one piece, up to a state at which the
-/// search is over: the state before them.
+/// Reads bytes before the input's position, in one chunk, down to a state at which the search is
+/// over. Returns the state before them.
 fn pass_back<T: Table, C: Cursor>(
     table: &mut T,
     automaton: &Automaton,
@@ -185,7 +184,7 @@ fn pass_back<T: Table, C: Cursor>(
     }
 }
 
-/// The step at the first place, where an input has to stand: the best match that was met.
+/// Makes the step at the lowest offset, where the input must be, and returns the best match.
 fn finish_back<T: Table, C: Cursor>(
     table: &mut T,
     automaton: &Automaton,
@@ -229,7 +228,8 @@ fn finish_back<T: Table, C: Cursor>(
     }
 }
 
-/// Searches back from a state, from where an input stands, the end of its span or content.
+/// Searches backward from a state, starting at the input's position, which is the end of its span
+/// or haystack.
 fn follow_back<T: Table, C: Cursor>(
     table: &mut T,
     automaton: &Automaton,
@@ -269,8 +269,8 @@ fn follow_back<T: Table, C: Cursor>(
     }
 }
 
-/// Searches back from the end of the span or content, at which an input has to stand, with walks
-/// that start from a state of the program.
+/// Searches backward from the end of the span or haystack, where the input must be, with threads
+/// that start in this state of the program.
 fn begin_back<T: Table, C: Cursor>(
     table: &mut T,
     automaton: &Automaton,
@@ -308,9 +308,8 @@ fn begin_back<T: Table, C: Cursor>(
     }
 }
 
-/// Searches back by a table of an automaton of a program turned round: of the matches that end at
-/// the end of the span, or of the content where that comes first, answers the least start, and the
-/// least pattern with it.
+/// Searches backward with a table: of the matches that end at the end of the span, or of the
+/// haystack if that is less, returns the least start with the least pattern for it.
 pub(crate) fn search_back<T: Table, C: Cursor>(
     table: &mut T,
     automaton: &Automaton,
@@ -349,20 +348,29 @@ pub(crate) fn search_back<T: Table, C: Cursor>(
     Ok(told_back(best, end, may))
 }
 
-/// Searches backwards by the automaton of a program turned round: of the matches that end at the
-/// end of the span, or of the content where that comes first, and lie inside span and slice,
-/// answers the least start, and the least pattern with it, as the program that it was turned from
-/// finds them. The cache must be one for searches back by that automaton, and still is one
-/// afterwards, whatever is answered. `utf8_empty` passes over an empty match inside a character.
+/// Searches backward with the automaton of a reverse program. Of the matches that end at the end of
+/// the span, or of the haystack if that is less, and are inside span and slice, returns the least
+/// start with the least pattern for it, as the forward program finds them. `utf8_empty` skips an
+/// empty match inside a character.
 ///
-/// Refusals are `UnsupportedAnchored` where the input isn't anchored; else `Memory`; `Quit`, with a
-/// byte of 128 or more of the slice and its place, where the program asks for looks of words; and
-/// `GaveUp`, with a place inside, at which the cache would have been cleared for the fourth time in
-/// this search.
+/// # Requires
 ///
-/// It reads back from the end of the span to its start, or to where no walk lives. It takes a
-/// look-up in a table for each byte of which the step is known, and a step of the walks side by
-/// side where it isn't.
+/// The cache is one of `Cache::new_back` for this program and alphabet. It remains one, also after
+/// an error.
+///
+/// # Errors
+///
+/// - `UnsupportedAnchored` if the input isn't anchored
+/// - `Memory`
+/// - `Quit` for a byte of the slice that is 128 or more, with its offset, if the program has word
+///   assertions
+/// - `GaveUp`, with an offset inside, if the cache would be cleared for the fourth time in this
+///   search
+///
+/// # Complexity
+///
+/// Reads from the end of the span to its start, or until no thread is left: a table lookup for each
+/// byte whose step is known, and else a step of all threads.
 pub fn try_search_back<C: Cursor>(
     reverse: &ReverseProgram,
     alphabet: &Alphabet,

@@ -1,4 +1,5 @@
-//! Searches back by an automaton of a program turned round, and by its walks where that can't tell.
+//! Backward searches with the automaton of a reverse program, and by following its threads if that
+//! quits or gives up.
 
 ghost use Rattle.std.specs.Prelude.{◌≡◌, IsTrue, IfErr, IfOk, OnOk};
 ghost use Rattle.rx_util.specs.declared.search.MatchError.{MatchError};
@@ -20,17 +21,17 @@ use rx_util::{HalfMatch, MatchError};
 use std::alloc::Global;
 use std::marker::Model;
 
-/// What searches back through a program turned round keep from one to the next: the states that its
-/// automaton has come to, and room for walks side by side. Contracts see both.
+/// What backward searches with a reverse program keep between searches: the states of its automaton
+/// that they reached, and room for following threads. Contracts see both.
 #[derive(Debug)]
 pub struct BackCache {
     states: Cache,
     room: ReverseCache,
-    // Whether walks alone serve: a search gave up for want of room, or it was asked for.
+    // Whether to follow threads without the automaton: a search gave up, or the caller chose it.
     walks_alone: bool,
 }
 
-// Written out, so that no crate above proves anew how what it holds is let go.
+// Written out, so that crates above needn't prove how the fields are dropped.
 impl Drop for BackCache {
     fn drop(self) {
         let BackCache {
@@ -50,9 +51,16 @@ impl Model for BackCache {
 }
 
 impl BackCache {
-    /// A cache for searches back through a program. The one refusal is `Memory`. It takes memory in
-    /// proportion to the program's states and those of their automata, and as searches come to
-    /// states of the automaton, about as much as these may take.
+    /// Returns a cache for backward searches with a program.
+    ///
+    /// # Errors
+    ///
+    /// `Memory`.
+    ///
+    /// # Complexity
+    ///
+    /// Memory proportional to the program's states and those of their automata; and about the
+    /// capacity of the alphabet as searches reach states.
     pub fn new(
         alloc: Global,
         reverse: &ReverseProgram,
@@ -68,8 +76,11 @@ impl BackCache {
         })
     }
 
-    /// A cache for searches back through the same program, which knows what this one knows. The one
-    /// refusal is `Memory`. It takes as much memory as this one has taken.
+    /// Returns a copy with all known states, which takes as much memory as the cache.
+    ///
+    /// # Errors
+    ///
+    /// `Memory`.
     pub fn clone(&self) -> Result<BackCache, MatchError>
         ensures same { IfOk result (λ cache. cache ≡ self.now) }
         ensures refused { IfErr result (λ error. error ≡ MatchError.Memory) }
@@ -81,21 +92,21 @@ impl BackCache {
         })
     }
 
-    /// From now on searches are made by walks side by side alone, as after one for which there was
-    /// no room.
+    /// Makes searches follow threads without the automaton from now on, as they do after one that
+    /// gave up.
     pub fn walk_alone(&mut self)
         ensures { self.new ≡ self.old }
     {
         self.walks_alone = true;
     }
 
-    /// Whether searches are made by walks side by side alone.
+    /// Returns whether searches follow threads without the automaton.
     pub fn walks_alone(&self) -> bool {
         self.walks_alone
     }
 
-    /// About how many bytes the states take that its automaton has come to: of each the nodes, the
-    /// row in the table, and what is kept of it beside.
+    /// Returns the approximate number of bytes of the automaton's states: their nodes, their rows
+    /// of the table, and other data of each.
     pub fn memory_usage(&self) -> usize
         ensures { result ≡ self.now.states.used }
     {
@@ -103,15 +114,24 @@ impl BackCache {
     }
 }
 
-/// Searches backwards: of the matches that end at the end of the span, or of the content where that
-/// comes first, and lie inside span and slice, answers the least start, and the least pattern with
-/// it, as the program that this one was turned from finds them. The cache must be one for it, and
-/// still is one afterwards, whatever is answered. `utf8_empty` passes over an empty match inside a
-/// character. The refusals are `UnsupportedAnchored` where the input isn't anchored, and else
-/// `Memory`.
+/// Searches backward with a reverse program. Of the matches that end at the end of the span, or of
+/// the haystack if that is less, and are inside span and slice, returns the least start with the
+/// least pattern for it, as the forward program finds them. `utf8_empty` skips an empty match
+/// inside a character.
 ///
-/// It searches by the automaton, and where that quits or gives up by walks side by side. It reads
-/// back from the end of the span to its start, or to where no walk lives.
+/// It uses the automaton, and follows threads if that quits or gives up.
+///
+/// # Requires
+///
+/// The cache is for this program and alphabet, for which it remains one, also after an error.
+///
+/// # Errors
+///
+/// `UnsupportedAnchored` if the input isn't anchored; `Memory`.
+///
+/// # Complexity
+///
+/// Reads from the end of the span to its start, or until no thread is left.
 pub fn search_back<C: Cursor>(
     reverse: &ReverseProgram,
     alphabet: &Alphabet,

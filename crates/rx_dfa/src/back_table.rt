@@ -1,5 +1,5 @@
-//! Searches back by an automaton of a program turned round all of whose states are made, and by its
-//! walks where that can't tell or has too many.
+//! Backward searches with the dense table of a reverse program, and by following its threads if the
+//! table quits or is too large to exist.
 
 ghost use Rattle.std.specs.Prelude.{◌≡◌, ◌≤◌, IsTrue, IfErr, IfOk, OnOk};
 ghost use Rattle.rx_input.specs.Cursors.{IsSameContent};
@@ -18,8 +18,7 @@ use rx_util::{HalfMatch, MatchError};
 use std::alloc::{AllocError, Global};
 use std::marker::Model;
 
-/// A program turned round, and all states and steps of its automaton, unless they take too much
-/// room.
+/// A reverse program, and all states and steps of its automaton, unless they are too large.
 #[derive(Debug, Drop)]
 pub(crate) struct BackTable {
     reverse: ReverseProgram,
@@ -39,8 +38,7 @@ impl Model for BackTable {
 }
 
 impl BackTable {
-    /// A program turned round with the states and steps of its automaton, which there are not where
-    /// they take more room than about `size_limit`, in bytes.
+    /// Makes the table of a reverse program, unless it takes more than about `size_limit` bytes.
     pub(crate) fn new(
         alloc: Global,
         reverse: ReverseProgram,
@@ -58,7 +56,7 @@ impl BackTable {
         })
     }
 
-    /// About how many bytes the states take.
+    /// Returns the approximate number of bytes of the states.
     pub(crate) fn memory_usage(&self) -> usize
         ensures { result ≡ used_by self.now.closed }
     {
@@ -68,7 +66,7 @@ impl BackTable {
         }
     }
 
-    /// Searches by walks side by side.
+    /// Searches by following threads.
     fn walk<C: Cursor>(
         &self,
         input: &mut Input<C>,
@@ -90,11 +88,14 @@ impl BackTable {
         search_rev(&self.reverse, &mut room, input, utf8_empty)
     }
 
-    /// Searches backwards: of the matches that end at the end of the span, or of the content where
-    /// that comes first, and lie inside span and slice, answers the least start, and the least
-    /// pattern with it, as the program that this one was turned from finds them. `utf8_empty`
-    /// passes over an empty match inside a character. The refusals are `UnsupportedAnchored` where
-    /// the input isn't anchored, and else `Memory`.
+    /// Searches backward. Of the matches that end at the end of the span, or of the haystack if
+    /// that is less, and are inside span and slice, returns the least start with the least pattern
+    /// for it, as the forward program finds them. `utf8_empty` skips an empty match inside a
+    /// character.
+    ///
+    /// # Errors
+    ///
+    /// `UnsupportedAnchored` if the input isn't anchored; `Memory`.
     pub(crate) fn search<C: Cursor>(
         &self,
         input: &mut Input<C>,

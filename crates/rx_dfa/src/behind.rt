@@ -1,4 +1,4 @@
-//! What looks have to know of a place: by one byte on each side, or none.
+//! What look-around assertions need to know of a position: one byte on each side, or none.
 
 ghost use Rattle.std.specs.Prelude.{◌≡◌, ◌<◌, true, false, Some, None, IfSome};
 ghost use Rattle.rx_dfa.specs.DenseTables.{MayBeByte};
@@ -8,24 +8,24 @@ ghost use Rattle.rx_dfa.specs.Behind.{is_word_ascii, behind_of, looks_of, quits,
 use rx_steps::{AskedLooks, Looks};
 use unicode::perl::is_word_code;
 
-/// What looks have to know of what stands before a place.
+/// What look-around assertions need to know of the text before a position.
 #[derive(Clone, Copy, Debug, PartialEq, Eq)]
 pub(crate) enum Behind {
-    /// Nothing: the slice starts there.
+    /// The slice starts there.
     Edge,
-    /// A byte: whether it ends a line, and whether it is a word character. What the program
-    /// doesn't ask for is told as false.
+    /// A byte: whether it is the line terminator, and whether it is a word character. Both are
+    /// false if the program has no assertion that depends on them.
     Byte(bool, bool),
 }
 
-/// Whether it is the UTF-8 of a word character, all of it.
+/// Returns whether a byte is an ASCII word character.
 fn is_word_byte(byte: u8) -> bool
     ensures { result ≡ is_word_ascii byte }
 {
     byte < 128 && is_word_code(u32::from(byte))
 }
 
-/// Whether looks of words are asked for, and this byte doesn't tell them by itself.
+/// Returns whether the program has word assertions that one byte such as this can't decide.
 pub(crate) fn quits_at(asked: AskedLooks, byte: Option<u8>) -> bool
     ensures { result ≡ quits asked byte }
 {
@@ -35,7 +35,7 @@ pub(crate) fn quits_at(asked: AskedLooks, byte: Option<u8>) -> bool
     }
 }
 
-/// The byte, if looks of words are asked for and it doesn't tell them by itself.
+/// Returns the byte if the program has word assertions that it can't decide.
 pub(crate) fn byte_that_quits(asked: AskedLooks, byte: Option<u8>) -> Option<u8>
     ensures none { result ≡ None → quits asked byte ≡ false }
     ensures some { IfSome result (λ b. (byte ≡ Some b) × (quits asked (Some b) ≡ true)) }
@@ -53,7 +53,8 @@ pub(crate) fn byte_that_quits(asked: AskedLooks, byte: Option<u8>) -> Option<u8>
 }
 
 impl Behind {
-    /// The side on which this byte stands, or none, as far as the looks that are asked for tell it.
+    /// Returns what precedes a position after this byte, or at the start of the slice, as far as
+    /// these assertions depend on it.
     pub(crate) fn of(asked: AskedLooks, line_terminator: u8, byte: Option<u8>) -> Behind
         ensures side { result ≡ behind_of asked line_terminator byte }
         ensures byte { MayBeByte byte }
@@ -73,7 +74,7 @@ impl Behind {
         }
     }
 
-    /// A number for each side.
+    /// Returns a number for each value.
     pub(crate) fn number(&self) -> usize
         ensures { result ≡ side_number self.now }
     {
@@ -85,7 +86,7 @@ impl Behind {
         }
     }
 
-    /// Whether nothing stands there.
+    /// Returns whether the slice starts there.
     fn is_start(&self) -> bool
         ensures { result ≡ is_start self.now }
     {
@@ -95,7 +96,7 @@ impl Behind {
         }
     }
 
-    /// Whether a line starts behind it.
+    /// Returns whether a line starts there.
     fn starts_line(&self) -> bool
         ensures { result ≡ starts_line self.now }
     {
@@ -105,7 +106,7 @@ impl Behind {
         }
     }
 
-    /// Whether it is a word character.
+    /// Returns whether the preceding byte is a word character.
     fn is_word(&self) -> bool
         ensures { result ≡ was_word self.now }
     {
@@ -115,7 +116,8 @@ impl Behind {
         }
     }
 
-    /// The looks that hold between this side and a byte, or none.
+    /// Returns the assertions that hold between this and the following byte, or the end of the
+    /// slice.
     pub(crate) fn looks(&self, line_terminator: u8, ahead: Option<u8>) -> Looks
         ensures { result ≡ looks_of line_terminator self.now ahead }
     {

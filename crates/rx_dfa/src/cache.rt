@@ -1,4 +1,4 @@
-//! The states of an automaton that searches have come to, and the table of the steps between them.
+//! The states of an automaton that searches have reached, and the table of the steps between them.
 
 ghost use Rattle.std.specs.Prelude.{◌≡◌, ◌⊎◌, ◌+◌, ◌*◌, ◌<◌, ◌≤◌, ◌++◌, ◌∷◌, [], ℕ, true, false};
 ghost use Rattle.std.specs.Prelude.{None, Some, length, replicate, set, slice_get, All};
@@ -29,48 +29,47 @@ use std::collections::HashMap;
 use std::marker::Model;
 use std::mem::size_of;
 
-/// Entries from this on lead to states behind a place at which an end was met.
+/// Entries from here on lead to states after a match end.
 pub(crate) const ENDS: u32 = 0x8000_0000;
-/// Entries from this on lead to states at which a search is over, or lead nowhere.
+/// Entries from here on lead to dead states, or are one of the next two.
 pub(crate) const STOPS: u32 = 0xC000_0000;
-/// An entry with which a search can't go on.
+/// The entry of a step before which a search must quit.
 pub(crate) const QUIT: u32 = 0xFFFF_FFFE;
-/// An entry that isn't known.
+/// The entry of a step that isn't known.
 pub(crate) const UNKNOWN: u32 = 0xFFFF_FFFF;
 
-/// How often a cache is cleared in one search before it gives up.
+/// How often a search clears the cache before it gives up.
 pub(crate) const CLEARS: usize = 3;
 
-/// How many bytes a node of a state takes.
+/// The bytes of a node of a state.
 pub(crate) const NODE_BYTES: usize = size_of::<Node>();
-/// How many bytes an entry of a row takes.
+/// The bytes of an entry of a row.
 pub(crate) const ENTRY_BYTES: usize = size_of::<u32>();
-/// How many bytes a state takes beside its nodes and its row.
+/// The bytes of a state without its nodes and its row.
 pub(crate) const STATE_BYTES: usize = size_of::<AutomatonState>();
 
-/// What searches by an automaton keep from one to the next. Contracts see how many nodes each state
-/// is of the program that it was made for, how many entries a row of its table has, the rows, the
-/// state of each, about how many bytes they take, and how often all of them were taken out in the
-/// search that it served last.
+/// What searches with an automaton keep between searches. Contracts see the number of nodes of each
+/// state of its program, the length of a row, the rows, the state of each row, the approximate
+/// number of bytes of all states, and how often the last search cleared them.
 #[derive(Debug)]
 pub struct Cache {
     pub(crate) maker: Maker,
     pub(crate) width: usize,
-    // For each state a row, with an entry for each column.
+    // A row for each state, with an entry for each column.
     pub(crate) table: Vec<u32>,
     pub(crate) states: Vec<AutomatonState>,
-    // By its hash the number of a state; of states with one hash, that of the last.
+    // The number of a state by its hash; the last one if several have the same hash.
     pub(crate) numbers: HashMap<u64, usize>,
-    // About how many bytes the states take.
+    // The approximate number of bytes of the states.
     pub(crate) used: usize,
-    // How often it was cleared in this search, and in all that it has served.
+    // How often this search cleared the cache, and all searches together.
     pub(crate) cleared: usize,
     pub(crate) clear_count: usize,
-    // The numbers that first states had, by how walks start and what stands before.
+    // The numbers of start states, by how threads start and what precedes.
     pub(crate) firsts: [usize; 15],
 }
 
-// Written out, so that no crate above proves anew how what it holds is let go.
+// Written out, so that crates above needn't prove how the fields are dropped.
 impl Drop for Cache {
     fn drop(self) {
         let Cache {
@@ -104,7 +103,7 @@ impl Model for Cache {
     ghost invariant = { λ c. AreNumbered c.states.items c.numbers };
 }
 
-/// Where the number of a first state is kept.
+/// Returns the index in `firsts` of a start state's number.
 fn kept_at(starting: &Starting, behind: &Behind) -> usize {
     let side = behind.number();
     match starting {
@@ -114,7 +113,7 @@ fn kept_at(starting: &Starting, behind: &Behind) -> usize {
     }
 }
 
-/// About how many bytes a state of so many nodes takes, whose row has so many entries.
+/// Returns the approximate number of bytes of a state with this many nodes and entries.
 fn size_of_parts(nodes: usize, entries: usize) -> usize
     ensures { result ≡ counted (size_of_parts nodes entries) }
 {
@@ -125,7 +124,7 @@ fn size_of_parts(nodes: usize, entries: usize) -> usize
         .saturating_add(2 * STATE_BYTES)
 }
 
-/// Adds a row of which nothing is known.
+/// Adds a row of unknown entries.
 fn push_row(table: &mut Vec<u32>, width: usize) -> Result<(), AllocError>
     ensures { OnOk result (table.new.items ≡ table.old.items ++ replicate width UNKNOWN) }
 {
@@ -136,7 +135,7 @@ fn push_row(table: &mut Vec<u32>, width: usize) -> Result<(), AllocError>
 }
 
 impl Cache {
-    /// A cache for searches by an automaton.
+    /// Returns a cache for searches with an automaton.
     #[tactic(auto, using(crate::proofs::TableLaws::cache_begun))]
     pub(crate) fn of(alloc: Global, way: &Way, alphabet: &Alphabet) -> Result<Cache, MatchError>
         ensures made { IfOk result (λ cache. IsCacheOf (directed_by way.now) alphabet.now cache) }
@@ -155,7 +154,11 @@ impl Cache {
         })
     }
 
-    /// A cache for searches by an automaton of a program. The one refusal is `Memory`.
+    /// Returns a cache for forward searches with the automaton of a program.
+    ///
+    /// # Errors
+    ///
+    /// `Memory`.
     pub fn new(alloc: Global, program: &Program, alphabet: &Alphabet) -> Result<Cache, MatchError>
         ensures made { IfOk result (λ cache. IsCacheOf (forward program.now) alphabet.now cache) }
         ensures refused { IfErr result (λ error. error ≡ MatchError.Memory) }
@@ -163,7 +166,10 @@ impl Cache {
         Cache::of(alloc, &Way::Forward(program), alphabet)
     }
 
-    /// A cache for searches back by an automaton of a program turned round. The one refusal is
+    /// Returns a cache for backward searches with the automaton of a reverse program.
+    ///
+    /// # Errors
+    ///
     /// `Memory`.
     pub fn new_back(
         alloc: Global,
@@ -176,8 +182,11 @@ impl Cache {
         Cache::of(alloc, &Way::Back(reverse), alphabet)
     }
 
-    /// Makes the cache one for searches by this automaton, of which it knows nothing yet. The one
-    /// refusal is `Memory`; the cache is then as it was.
+    /// Makes the cache an empty one for searches with this automaton.
+    ///
+    /// # Errors
+    ///
+    /// `Memory`; the cache is unchanged then.
     #[tactic(auto, using(crate::proofs::TableLaws::cache_begun))]
     pub fn reset(&mut self, program: &Program, alphabet: &Alphabet) -> Result<(), MatchError>
         ensures made { OnOk result (IsCacheOf (forward program.now) alphabet.now self.new) }
@@ -191,21 +200,21 @@ impl Cache {
         Ok(())
     }
 
-    /// About how many bytes its states take: of each the nodes, the row in the table, and what is
-    /// kept of it beside.
+    /// Returns the approximate number of bytes of the states: their nodes, their rows of the table,
+    /// and other data of each.
     pub fn memory_usage(&self) -> usize
         ensures { result ≡ self.now.used }
     {
         self.used
     }
 
-    /// How often all states were taken out for want of room since it was made or reset: a count
-    /// that no contract fixes.
+    /// Returns how often searches cleared the cache since it was made or reset. No contract fixes
+    /// this number.
     pub fn clear_count(&self) -> usize {
         self.clear_count
     }
 
-    /// Takes all states out.
+    /// Removes all states.
     fn clear(&mut self)
         ensures widths { self.new.widths ≡ self.old.widths }
         ensures width { self.new.width ≡ self.old.width }
@@ -220,7 +229,7 @@ impl Cache {
         self.used = 0;
     }
 
-    /// Takes all states out for want of room for a further one, and counts it.
+    /// Removes all states to make room for another one, and counts that.
     fn clear_for_room(&mut self, _automaton: &Automaton, _state: &AutomatonState)
         requires few { self.old.cleared < CLEARS }
         requires full { HasNoRoom _automaton.now.alphabet.now.capacity self.old _state.now }
@@ -236,14 +245,14 @@ impl Cache {
         self.clear();
     }
 
-    /// Notes that it wasn't cleared yet in the search that begins.
+    /// Resets the count of clears for a new search.
     fn begin(&mut self)
         ensures { self.new ≡ record self.old { cleared = 0 } }
     {
         self.cleared = 0;
     }
 
-    /// Whether the state with a number is the same as this one.
+    /// Returns whether the state with a number equals this one.
     fn is_at(&self, number: usize, state: &AutomatonState) -> bool
         requires states { All IsBare self.now.states }
         requires state { IsBare state.now }
@@ -258,7 +267,7 @@ impl Cache {
         }
     }
 
-    /// The number of a state, looked for among all states.
+    /// Returns the number of a state that equals this one, by comparing all.
     fn find_among_all(&self, state: &AutomatonState) -> Option<usize>
         requires states { All IsBare self.now.states }
         requires state { IsBare state.now }
@@ -274,8 +283,8 @@ impl Cache {
         None
     }
 
-    /// The number of a state, and none where no state is the same. It is found by its hash; where
-    /// that of another state is the same, it is looked for among all.
+    /// Returns the number of a state that equals this one. It is found by its hash; if another
+    /// state has the same hash, by comparing all.
     pub(crate) fn find(&self, state: &AutomatonState) -> Option<usize>
         requires states { All IsBare self.now.states }
         requires state { IsBare state.now }
@@ -290,22 +299,21 @@ impl Cache {
         self.find_among_all(state)
     }
 
-    /// About how many bytes a state takes.
+    /// Returns the approximate number of bytes of a state.
     fn size_of(&self, state: &AutomatonState) -> usize
         ensures { result ≡ counted (size_of self.now.width state.now) }
     {
         size_of_parts(state.threads.len(), self.width)
     }
 
-    /// About how many bytes all states take with a further one.
+    /// Returns the approximate number of bytes of all states and a further one.
     fn used_with(&self, state: &AutomatonState) -> usize
         ensures { result ≡ used_with self.now state.now }
     {
         self.used.saturating_add(self.size_of(state))
     }
 
-    /// Adds a state with a row of which nothing is known. Where it is refused, any part of them may
-    /// be left.
+    /// Adds a state with a row of unknown entries. After an error any part of both may be added.
     fn push_state(&mut self, state: AutomatonState) -> Result<(), AllocError>
         ensures table { OnOk result
             (self.new.table ≡ self.old.table ++ replicate self.old.width UNKNOWN) }
@@ -326,7 +334,7 @@ impl Cache {
         Ok(())
     }
 
-    /// Adds a state that isn't there, and tells its number. Where it is refused, no state is left.
+    /// Adds a state that isn't there, and returns its number. After an error there is no state.
     pub(crate) fn add(
         &mut self,
         automaton: &Automaton,
@@ -362,7 +370,7 @@ impl Cache {
         }
     }
 
-    /// Whether a further state fits: beside one state another one always does.
+    /// Returns whether a further state fits. There is always room for two.
     fn has_room(&self, automaton: &Automaton, state: &AutomatonState) -> bool
         ensures room { result ≡ true → (length self.now.states < 2)
             ⊎ (used_with self.now state.now ≤ automaton.now.alphabet.now.capacity) }
@@ -372,8 +380,8 @@ impl Cache {
         self.states.len() < 2 || self.used_with(state) <= automaton.alphabet.capacity()
     }
 
-    /// The number of a state, which is added where it isn't found, and whether all others were
-    /// taken out for it. Where the cache was cleared too often in this search, it gives up.
+    /// Returns the number of a state, which is added if it isn't there, and whether the cache was
+    /// cleared for it. Gives up if this search has cleared the cache too often.
     #[tactic(auto, using(crate::proofs::StateLaws::new_in_none, crate::proofs::TableLaws::none_bounded, crate::proofs::TableLaws::more_bounded, crate::proofs::TableLaws::one_bounded, crate::proofs::TableLaws::cache_empty))]
     pub(crate) fn number_of(
         &mut self,
@@ -410,7 +418,7 @@ impl Cache {
 }
 
 impl Cache {
-    /// The number of a first state, if it has the one that is kept.
+    /// Returns the number in `firsts`, if it is that of this start state.
     pub(crate) fn kept_first(&self, starting: &Starting, behind: &Behind) -> Option<usize>
         ensures { IfSome result
             (HasFirst self.now.states starting.now behind.now) }
@@ -424,7 +432,7 @@ impl Cache {
         }
     }
 
-    /// Whether the state with a number is one in which a search stands at its first place.
+    /// Returns whether the state with a number is this start state.
     fn is_first_at(&self, number: usize, starting: &Starting, behind: &Behind) -> bool
         requires { number < length self.now.states }
         ensures yes { result ≡ true → (x : AutomatonState)
@@ -437,7 +445,7 @@ impl Cache {
         self.states[number].is_first(starting, behind)
     }
 
-    /// The number of a first state, looked for among all states, if there is one.
+    /// Returns the number of a start state, by comparing all states.
     pub(crate) fn find_first(&self, starting: &Starting, behind: &Behind) -> Option<usize>
         ensures some { IfSome result
             (HasFirst self.now.states starting.now behind.now) }
@@ -452,7 +460,7 @@ impl Cache {
         None
     }
 
-    /// Keeps the number of a first state.
+    /// Notes the number of a start state in `firsts`.
     pub(crate) fn keep_first(&mut self, starting: &Starting, behind: &Behind, number: usize)
         ensures { self.new ≡ self.old }
     {
@@ -463,7 +471,7 @@ impl Cache {
 }
 
 impl Cache {
-    /// The entry of a state in a column.
+    /// Returns the entry of a state in a column.
     pub(crate) fn entry(&self, number: usize, column: usize) -> u32
         requires rows { length self.now.table ≡ length self.now.states * self.now.width }
         requires number { number < length self.now.states }
@@ -489,8 +497,8 @@ impl Cache {
         self.table[number * self.width + column] = entry;
     }
 
-    /// The entry that leads to a state, or the one of which nothing is known, if it has no room for
-    /// where that state's row begins.
+    /// Returns the entry that leads to a state, or `UNKNOWN` if the offset of its row is too large
+    /// for an entry.
     pub(crate) fn entry_to(&self, next: usize) -> u32
         requires rows { length self.now.table ≡ length self.now.states * self.now.width }
         requires next { next < length self.now.states }
@@ -511,7 +519,7 @@ impl Cache {
         }
     }
 
-    /// The state from which a row begins that an entry leads to.
+    /// Returns the number of the state to whose row an entry leads.
     pub(crate) fn number_at(&self, entry: u32) -> usize
         requires { 0 < self.now.width }
         ensures plain { (number : ℕ) → entry ≡ number * self.now.width → entry < ENDS
@@ -531,7 +539,10 @@ impl Cache {
         row as usize / self.width
     }
 
-    /// The state to which the one with a number leads before what stands ahead. The one refusal is
+    /// Computes the state to which the one with a number leads.
+    ///
+    /// # Errors
+    ///
     /// `Memory`.
     pub(crate) fn next_state(
         &mut self,
@@ -556,8 +567,8 @@ impl Cache {
         self.maker.next_state(automaton, state, ahead)
     }
 
-    /// Makes the step from a state in a column, and enters it: the number of the next state, and
-    /// none where a search can't go on.
+    /// Computes the step from a state in a column and enters it in the table. Returns the number of
+    /// the next state, or `None` if a search must quit.
     fn make_step(
         &mut self,
         automaton: &Automaton,

@@ -1,4 +1,4 @@
-//! Classes of bytes that are alike to a program.
+//! Classes of bytes that a program doesn't distinguish.
 
 ghost use Rattle.std.specs.Prelude.{◌≡◌, ◌+◌, ◌-◌, ◌<◌, length, map, slice_get, All, IfOk, true, false};
 ghost use Rattle.unicode.specs.Perl.{is_word_char};
@@ -12,7 +12,7 @@ use std::alloc::{AllocError, Global};
 use std::marker::Model;
 use unicode::perl::is_word_code;
 
-/// Cuts before a range of bytes and behind it.
+/// Cuts before and after a range of bytes.
 fn cut(cuts: &mut [bool; 257], first: u8, last: u8)
     ensures first { HasCut cuts.new first }
     ensures behind { HasCut cuts.new (last + 1) }
@@ -22,7 +22,7 @@ fn cut(cuts: &mut [bool; 257], first: u8, last: u8)
     cuts[usize::from(last) + 1] = true;
 }
 
-/// Cuts round each range of a row.
+/// Cuts before and after each range of a row.
 fn cut_row(cuts: &mut [bool; 257], row: &[ByteRange])
     ensures cut { RowIsCut cuts.new row.now }
     ensures more { HasMoreCuts cuts.old cuts.new }
@@ -32,7 +32,7 @@ fn cut_row(cuts: &mut [bool; 257], row: &[ByteRange])
     }
 }
 
-/// Cuts round each range of an automaton.
+/// Cuts before and after each range of an automaton.
 fn cut_ranges(cuts: &mut [bool; 257], automaton: &SetAutomaton)
     ensures cut { AutomatonIsCut cuts.new automaton.now }
     ensures more { HasMoreCuts cuts.old cuts.new }
@@ -42,7 +42,7 @@ fn cut_ranges(cuts: &mut [bool; 257], automaton: &SetAutomaton)
     }
 }
 
-/// Cuts round each range of the automaton of a state, if it has one.
+/// Cuts before and after each range of a state's automaton, if it has one.
 fn cut_state(cuts: &mut [bool; 257], state: &State)
     ensures cut { StateIsCut cuts.new state.now }
     ensures more { HasMoreCuts cuts.old cuts.new }
@@ -52,7 +52,7 @@ fn cut_state(cuts: &mut [bool; 257], state: &State)
     }
 }
 
-/// Cuts round each range of an automaton that reads backwards.
+/// Cuts before and after each range of a reverse automaton.
 fn cut_ranges_back(cuts: &mut [bool; 257], automaton: &ReverseAutomaton)
     ensures cut { AutomatonIsCut cuts.new automaton.now }
     ensures more { HasMoreCuts cuts.old cuts.new }
@@ -62,7 +62,8 @@ fn cut_ranges_back(cuts: &mut [bool; 257], automaton: &ReverseAutomaton)
     }
 }
 
-/// Cuts round each range of the automaton of a state of a program turned round, if it has one.
+/// Cuts before and after each range of the automaton of a state of a reverse program, if it has
+/// one.
 fn cut_state_back(cuts: &mut [bool; 257], state: &ReverseState)
     ensures cut { StateIsCut cuts.new (state_of state.now) }
     ensures more { HasMoreCuts cuts.old cuts.new }
@@ -72,7 +73,7 @@ fn cut_state_back(cuts: &mut [bool; 257], state: &ReverseState)
     }
 }
 
-/// Whether ASCII word characters and others meet before a byte.
+/// Returns whether one of this byte and the byte below it is a word character and the other isn't.
 fn do_words_meet(byte: usize) -> bool
     requires above { 0 < byte }
     requires below { byte < 128 }
@@ -81,7 +82,7 @@ fn do_words_meet(byte: usize) -> bool
     is_word_code(byte as u32 - 1) != is_word_code(byte as u32)
 }
 
-/// Cuts before a byte, if it is to be cut there.
+/// Cuts before a byte if `is_cut`.
 fn cut_before(cuts: &mut [bool; 257], byte: usize, is_cut: bool)
     requires { byte < 257 }
     ensures cut { is_cut ≡ true → HasCut cuts.new byte }
@@ -92,7 +93,8 @@ fn cut_before(cuts: &mut [bool; 257], byte: usize, is_cut: bool)
     }
 }
 
-/// Cuts wherever ASCII word characters and others meet, if looks of words are asked for.
+/// Cuts at each change between ASCII word characters and others, if the program has word
+/// assertions.
 fn cut_words(cuts: &mut [bool; 257], are_asked: bool)
     ensures cut { are_asked ≡ true → WordsAreCut cuts.new 128 }
     ensures more { HasMoreCuts cuts.old cuts.new }
@@ -105,7 +107,7 @@ fn cut_words(cuts: &mut [bool; 257], are_asked: bool)
     }
 }
 
-/// Cuts round the byte that ends a line, if looks of lines are asked for.
+/// Cuts before and after the line terminator, if the program has line assertions.
 fn cut_lines(cuts: &mut [bool; 257], are_asked: bool, line_terminator: u8)
     ensures first { are_asked ≡ true → HasCut cuts.new line_terminator }
     ensures behind { are_asked ≡ true → HasCut cuts.new (line_terminator + 1) }
@@ -116,7 +118,7 @@ fn cut_lines(cuts: &mut [bool; 257], are_asked: bool, line_terminator: u8)
     }
 }
 
-/// Where looks, or that characters are told apart, make bytes stop being alike.
+/// Returns the cuts that assertions and the encoding of characters need.
 fn look_cuts(asked: AskedLooks, line_terminator: u8) -> [bool; 257]
     ensures { LooksAreCut asked line_terminator result }
 {
@@ -127,7 +129,7 @@ fn look_cuts(asked: AskedLooks, line_terminator: u8) -> [bool; 257]
     cuts
 }
 
-/// Where bytes stop being alike to a program.
+/// Returns the cuts of a program.
 fn cuts_of(program: &Program, asked: AskedLooks) -> [bool; 257]
     ensures looks { LooksAreCut asked program.now.line_terminator result }
     ensures states { All (StateIsCut result) program.now.states }
@@ -139,7 +141,7 @@ fn cuts_of(program: &Program, asked: AskedLooks) -> [bool; 257]
     cuts
 }
 
-/// Where bytes stop being alike to a program turned round.
+/// Returns the cuts of a reverse program.
 fn cuts_of_back(reverse: &ReverseProgram, asked: AskedLooks) -> [bool; 257]
     ensures looks { LooksAreCut asked reverse.now.line_terminator result }
     ensures states { All (StateIsCut result) (map state_of reverse.now.states) }
@@ -151,7 +153,7 @@ fn cuts_of_back(reverse: &ReverseProgram, asked: AskedLooks) -> [bool; 257]
     cuts
 }
 
-/// The class of each byte, and a byte of each class. Contracts see both as lists.
+/// The class of each byte, and a representative byte of each class. Contracts see both as lists.
 #[derive(Debug, Drop)]
 pub(crate) struct ByteClasses {
     of: [u8; 256],
@@ -167,7 +169,7 @@ impl Model for ByteClasses {
 }
 
 impl ByteClasses {
-    /// The classes between cuts.
+    /// Returns the classes between cuts.
     fn between(alloc: Global, cuts: &[bool; 257]) -> Result<ByteClasses, AllocError>
         ensures { IfOk result (λ classes. AreClasses cuts.now classes 256) }
     {
@@ -185,7 +187,8 @@ impl ByteClasses {
         Ok(ByteClasses { of, bytes })
     }
 
-    /// Those of a program that asks for these looks. `O(n)` in the ranges of its automata.
+    /// Returns the classes of a program with these assertions. `O(n)` in the ranges of its
+    /// automata.
     pub(crate) fn new(
         alloc: Global,
         program: &Program,
@@ -198,7 +201,7 @@ impl ByteClasses {
         Ok(classes)
     }
 
-    /// Those of a program turned round that asks for these looks. `O(n)` in the ranges of its
+    /// Returns the classes of a reverse program with these assertions. `O(n)` in the ranges of its
     /// automata.
     pub(crate) fn new_back(
         alloc: Global,
@@ -212,14 +215,14 @@ impl ByteClasses {
         Ok(classes)
     }
 
-    /// How many there are, and two more for the end of the slice.
+    /// Returns the number of classes plus two, for the end of the slice.
     pub(crate) fn column_count(&self) -> usize
         ensures { result ≡ length self.now.bytes + 2 }
     {
         self.bytes.len() + 2
     }
 
-    /// The class of a byte.
+    /// Returns the class of a byte.
     #[inline(always)]
     pub(crate) fn class(&self, byte: u8) -> usize
         ensures { result ≡ class_of self.now byte }
@@ -227,7 +230,7 @@ impl ByteClasses {
         usize::from(self.of[usize::from(byte)])
     }
 
-    /// A byte of a class, and none of the number past the last class.
+    /// Returns the representative byte of a class, or `None` for a number past the last class.
     pub(crate) fn byte(&self, class: usize) -> Option<u8>
         ensures { result ≡ slice_get self.now.bytes class }
     {

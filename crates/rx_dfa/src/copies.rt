@@ -1,4 +1,4 @@
-//! Caches that know the same.
+//! Copies of caches.
 
 ghost use Rattle.std.specs.Prelude.{◌≡◌, IfOk, IfErr};
 ghost use Rattle.rx_util.specs.declared.search.MatchError.{MatchError};
@@ -11,7 +11,7 @@ use rx_util::MatchError;
 use std::alloc::{AllocError, Global};
 use std::collections::HashMap;
 
-/// The same states.
+/// Returns copies of the states.
 fn copies(alloc: Global, states: &[AutomatonState]) -> Result<Vec<AutomatonState>, AllocError>
     ensures { IfOk result (λ copies. copies.items ≡ states.now) }
 {
@@ -24,7 +24,7 @@ fn copies(alloc: Global, states: &[AutomatonState]) -> Result<Vec<AutomatonState
     Ok(copies)
 }
 
-/// By its hash the number of each state; of states with one hash, that of the last.
+/// Returns the map from hashes to the states' numbers; the last one if several have the same hash.
 fn numbers_of(alloc: Global, states: &[AutomatonState]) -> Result<HashMap<u64, usize>, AllocError>
     ensures { IfOk result (AreNumbered states.now) }
 {
@@ -38,8 +38,11 @@ fn numbers_of(alloc: Global, states: &[AutomatonState]) -> Result<HashMap<u64, u
 }
 
 impl Cache {
-    /// A cache that knows the same. The one refusal is `Memory`. It takes as much memory as this
-    /// one has taken for what it knows.
+    /// Returns a copy with all known states, which takes as much memory as these.
+    ///
+    /// # Errors
+    ///
+    /// `Memory`.
     pub fn clone(&self) -> Result<Cache, MatchError>
         ensures same { IfOk result (λ cache. cache ≡ self.now) }
         ensures refused { IfErr result (λ error. error ≡ MatchError.Memory) }

@@ -1,4 +1,4 @@
-//! The engine that searches by an automaton whose states are all made as it is built.
+//! The engine that searches with a dense automaton, whose states are all computed when it is built.
 
 ghost use Rattle.std.specs.Prelude.{◌≡◌, ◌+◌, ◌≤◌, true, map, max, IfErr, IfOk, IsTrue, OnOk};
 ghost use Rattle.rx_util.specs.declared.search.MatchError.{MatchError};
@@ -28,7 +28,7 @@ use std::alloc::{AllocError, Global};
 use std::marker::Model;
 use std::rc::Rc;
 
-/// An automaton, with all its states and steps, and its program turned round with those of that.
+/// An automaton with all its states and steps, and the reverse program with those of its automaton.
 #[derive(Debug, Drop)]
 struct Automaton {
     dfa: Alphabet,
@@ -44,16 +44,16 @@ impl Model for Automaton {
     ghost view = { λ a. record { dfa = a.dfa; closed = a.closed; back = a.back } };
 }
 
-/// An engine that searches for patterns by an automaton, all of whose states are made as it is
-/// built. Contracts see the engine that was built of the patterns, and the automaton of its
-/// program with the program turned round, by which it searches backwards.
+/// An engine that searches for patterns with a dense automaton, whose states are all computed when
+/// it is built. Contracts see the engine of the patterns and its automaton, with the reverse
+/// program for backward searches.
 #[derive(Debug)]
 pub struct Regex {
     compiled: Compiled,
     automaton: Rc<Automaton>,
 }
 
-// Written out, so that no crate above proves anew how what it holds is let go.
+// Written out, so that crates above needn't prove how the fields are dropped.
 impl Drop for Regex {
     fn drop(self) {
         let Regex {
@@ -74,7 +74,8 @@ impl Model for Regex {
         IsDense (record { engine = re.compiled; automaton = re.automaton.value }) };
 }
 
-/// All states and steps of a program's automaton. As many states as can't be counted have no room.
+/// Computes all states and steps of a program's automaton. More than `usize::MAX` states count as
+/// out of memory.
 fn closed_of(alloc: Global, program: &Program, dfa: &Alphabet) -> Result<DenseTable, AllocError>
     requires { IsAlphabetOf program.now dfa.now }
     ensures { IfOk result (IsClosedOf (forward program.now) dfa.now) }
@@ -85,7 +86,7 @@ fn closed_of(alloc: Global, program: &Program, dfa: &Alphabet) -> Result<DenseTa
     }
 }
 
-/// The automaton of an engine's program, to be shared by an engine and its clones.
+/// Computes the automaton of an engine's program, which an engine and its clones share.
 fn shared_automaton(alloc: Global, compiled: &Compiled) -> Result<Rc<Automaton>, AllocError>
     ensures dfa { IfOk result (λ automaton. IsAlphabetOf compiled.now.program automaton.value.dfa) }
     ensures utf8_empty { IfOk result (λ automaton. automaton.value.dfa.utf8_empty ≡ true) }
@@ -105,7 +106,7 @@ fn shared_automaton(alloc: Global, compiled: &Compiled) -> Result<Rc<Automaton>,
 }
 
 impl Regex {
-    /// An engine that searches by the automaton of the patterns' program.
+    /// Builds the engine from compiled patterns.
     fn over(alloc: Global, compiled: Compiled) -> Result<Regex, AllocError>
         requires { compiled.utf8_empty ≡ true }
         ensures { IfOk result (λ re. re.engine ≡ compiled) }
@@ -117,11 +118,18 @@ impl Regex {
         })
     }
 
-    /// The engine for a pattern, under default settings. A pattern is refused as by
-    /// `pikevm::Builder::build`. The automaton may have very many more states than the program: it
-    /// takes memory in proportion to them times the program's classes of bytes, and may be refused
-    /// as `Memory` after a long time. That of the program turned round may take as much room, or
-    /// about two megabytes; where it would take more, it isn't made.
+    /// Builds the engine of a pattern with default settings.
+    ///
+    /// # Errors
+    ///
+    /// Those of `pikevm::Builder::build`. `Memory` may come after a long time, because the
+    /// automaton may have very many more states than the program.
+    ///
+    /// # Complexity
+    ///
+    /// Memory proportional to the automaton's states times the program's classes of bytes. The
+    /// reverse automaton may take as much, or about two megabytes; if it would take more, it isn't
+    /// built.
     pub fn new(alloc: Global, pattern: &str) -> Result<Regex, BuildError>
         ensures built { IfOk result (λ re. IsBuiltOf pattern.now by_default re.engine) }
         ensures refused { IfErr result (λ error. IsRefused pattern.now by_default error) }
@@ -130,10 +138,17 @@ impl Regex {
         Ok(Regex::over(alloc, compiled)?)
     }
 
-    /// The engine for patterns that are searched for together, under default settings: where
-    /// matches of several start at one place, those of an earlier pattern are preferred. With no
-    /// pattern it never finds a match. The patterns are refused as by
-    /// `pikevm::Builder::build_many`; the automaton is as that of `new`.
+    /// Builds the engine of patterns that are searched for together, with default settings. If
+    /// matches of several start at the same offset, the earliest pattern is preferred. Without a
+    /// pattern there is never a match.
+    ///
+    /// # Errors
+    ///
+    /// Those of `pikevm::Builder::build_many`.
+    ///
+    /// # Complexity
+    ///
+    /// As for `new`.
     pub fn new_many(alloc: Global, patterns: &[&str]) -> Result<Regex, BuildError>
         ensures built { IfOk result (λ re.
             IsBuiltOfAll (map (λ text. text.now) patterns.now) by_default re.engine) }
@@ -144,9 +159,11 @@ impl Regex {
         Ok(Regex::over(alloc, compiled)?)
     }
 
-    /// The engine for what patterns spell, as `new_many` makes it. They are refused as
-    /// `BuildError::Size` where together they weigh more than 2,147,483,646, and else perhaps as
-    /// `Memory`.
+    /// Builds the engine from syntax trees, as `new_many` does from patterns.
+    ///
+    /// # Errors
+    ///
+    /// `BuildError::Size` if they weigh more than 2,147,483,646 together; `Memory`.
     pub fn build_from_hirs(alloc: Global, hirs: &[&Hir]) -> Result<Regex, BuildError>
         ensures built { IfOk result (λ re. IsBuiltOfTrees
             (map (λ hir. tree_of hir.now) hirs.now) nothing_set re.engine) }
@@ -157,7 +174,11 @@ impl Regex {
         Ok(Regex::over(alloc, compiled)?)
     }
 
-    /// The same engine, which shares program and automaton. The one refusal is `Memory`. `O(1)`.
+    /// Returns a copy that shares program and automaton. `O(1)`.
+    ///
+    /// # Errors
+    ///
+    /// `Memory`.
     pub fn clone(&self) -> Result<Regex, MatchError>
         ensures same { IfOk result (λ re. re ≡ self.now) }
         ensures refused { IfErr result (λ error. error ≡ MatchError.Memory) }
@@ -168,8 +189,8 @@ impl Regex {
         })
     }
 
-    /// About how many bytes the automaton's states take, of searches forward and backwards: of each
-    /// the nodes, the row in the table, and what is kept of it beside.
+    /// Returns the approximate number of bytes of the automata's states, forward and reverse: their
+    /// nodes, their rows of the tables, and other data of each.
     pub fn memory_usage(&self) -> usize
         ensures { result ≡ counted (self.now.automaton.closed.used
             + used_by self.now.automaton.back.closed) }
@@ -179,10 +200,16 @@ impl Regex {
     }
 }
 
-/// Searches forward: answers the pattern and the end of the match that is found. The one refusal is
-/// `Quit`, with a byte of 128 or more of the slice, where the pattern asks for looks of words:
-/// `dfa` says that `\b` or `\B` stands in the program then. It takes a look-up in a table for each
-/// byte, and no memory.
+/// Searches forward: returns the pattern and the end of the match that is found.
+///
+/// # Errors
+///
+/// `Quit` for a byte of the slice that is 128 or more, if the pattern has word assertions (`dfa`:
+/// the program contains `\b` or `\B` then).
+///
+/// # Complexity
+///
+/// A table lookup for each byte, and no memory.
 pub fn try_search_fwd<C: Cursor>(
     re: &Regex,
     input: &mut Input<C>,
@@ -201,15 +228,19 @@ pub fn try_search_fwd<C: Cursor>(
         .try_search_fwd(re.compiled.program(), &automaton.dfa, input)
 }
 
-/// Searches backwards, on an anchored input: of the matches that end at the end of the span, or of
-/// the content where that comes first, and lie inside span and slice, answers the least start, and
-/// the least pattern with it; with `Anchored::Pattern` of that pattern's alone.
+/// Searches backward on an anchored input. Of the matches that end at the end of the span, or of
+/// the haystack if that is less, and are inside span and slice, returns the least start with the
+/// least pattern for it; with `Anchored::Pattern`, only matches of that pattern count.
 ///
-/// The refusals are `UnsupportedAnchored` where the input isn't anchored, and else `Memory`. It
-/// reads back to the span's start, or to where no match may start any more. It takes a look-up in a
-/// table for each byte, and no memory. Where the automaton can't tell, since it would have to quit
-/// or has too many states, walks through the program are followed side by side, for which it takes
-/// memory in proportion to the program.
+/// # Errors
+///
+/// `UnsupportedAnchored` if the input isn't anchored; `Memory`.
+///
+/// # Complexity
+///
+/// Reads down to the span's start, or until no match can start any more: a table lookup for each
+/// byte, and no memory. If the automaton would quit or has too many states, threads are followed
+/// instead, with memory proportional to the program.
 pub fn try_search_rev<C: Cursor>(
     re: &Regex,
     input: &mut Input<C>,

@@ -1,4 +1,4 @@
-//! Automata all of whose states and steps are made at once. A search takes no memory.
+//! Automata all of whose states and steps are computed at once. A search takes no memory.
 
 ghost use Rattle.std.specs.Prelude.{◌≡◌, ◌<◌, true, Some, length, slice_get, IfSome, IfOk, IfErr, IsTrue, OnOk};
 ghost use Rattle.rx_input.specs.Cursors.{IsSameContent};
@@ -30,8 +30,7 @@ use rx_util::{HalfMatch, MatchError};
 use std::alloc::{AllocError, Global};
 use std::marker::Model;
 
-/// What searches by an automaton go by where all its states and steps are made. Contracts see it as
-/// a cache.
+/// The table of an automaton with all its states and steps. Contracts see it as a cache.
 #[derive(Debug, Drop)]
 pub struct DenseTable {
     cache: Cache,
@@ -45,7 +44,7 @@ impl Model for DenseTable {
     ghost view = { λ c. c.cache };
 }
 
-/// A cache for searches by an automaton.
+/// Returns an empty cache of an automaton.
 fn new_cache(alloc: Global, automaton: &Automaton) -> Result<Cache, AllocError>
     ensures { IfOk result (HoldsBy automaton.now) }
 {
@@ -56,8 +55,8 @@ fn new_cache(alloc: Global, automaton: &Automaton) -> Result<Cache, AllocError>
 }
 
 impl DenseTable {
-    /// The states and steps of an automaton. There are none where it has more states than
-    /// `state_limit`, or they take more room than about `size_limit`, in bytes.
+    /// Computes the states and steps of an automaton. Returns `None` if there are more states than
+    /// `state_limit`, or if they take more than about `size_limit` bytes.
     fn of(
         alloc: Global,
         automaton: &Automaton,
@@ -79,9 +78,20 @@ impl DenseTable {
         }
     }
 
-    /// The states and steps of a program's automaton. There are none where it has more states than
-    /// `state_limit`, or they take more room than about `size_limit`, in bytes. It takes the steps
-    /// of the walks from each state before each class of bytes.
+    /// Computes the states and steps of a program's automaton. Returns `None` if there are more
+    /// states than `state_limit`, or if they take more than about `size_limit` bytes.
+    ///
+    /// # Requires
+    ///
+    /// The alphabet is that of the program.
+    ///
+    /// # Errors
+    ///
+    /// Out of memory.
+    ///
+    /// # Complexity
+    ///
+    /// A step of the program's threads from each state before each class of bytes.
     pub fn new(
         alloc: Global,
         program: &Program,
@@ -101,7 +111,8 @@ impl DenseTable {
         DenseTable::of(alloc, &automaton, state_limit, size_limit)
     }
 
-    /// Those of the automaton of a program turned round, for searches back: as `new` makes them.
+    /// Computes the states and steps of a reverse program's automaton, as `new` does, with the same
+    /// requirement and errors.
     pub fn new_back(
         alloc: Global,
         reverse: &ReverseProgram,
@@ -121,22 +132,21 @@ impl DenseTable {
         DenseTable::of(alloc, &automaton, state_limit, size_limit)
     }
 
-    /// About how many bytes its states take, as those of a cache.
+    /// Returns the approximate number of bytes of the states, as for a cache.
     pub fn memory_usage(&self) -> usize
         ensures { result ≡ self.now.used }
     {
         self.cache.memory_usage()
     }
 
-    /// The states and the steps between them.
+    /// Returns the states and the steps between them.
     fn cache(&self) -> &Cache
         ensures { result.now ≡ self.now }
     {
         &self.cache
     }
 
-    /// Where a column leads from a state: the number of the next state, and none where a search
-    /// can't go on.
+    /// Returns the number of the state to which a column leads, or `None` if a search must quit.
     fn step(&self, automaton: &Automaton, number: usize, column: usize) -> Option<usize>
         requires closed { IsTable true automaton.now self.now }
         requires number { number < length self.now.states }
@@ -151,7 +161,7 @@ impl DenseTable {
         Some(self.cache.number_at(entry))
     }
 
-    /// The number of the state in which a search stands at its first place.
+    /// Returns the number of a start state.
     fn first(&self, automaton: &Automaton, starting: &Starting, side: &Behind) -> usize
         requires closed { IsTable true automaton.now self.now }
         requires begins { IsBeginning automaton.now starting.now side.now }
@@ -166,9 +176,19 @@ impl DenseTable {
         }
     }
 
-    /// Searches forward: answers the pattern and the end of the match that the program finds. The
-    /// one refusal is `Quit`, with a byte of 128 or more of the slice, where the program asks for
-    /// looks of words. It takes a look-up in a table for each byte, and no memory.
+    /// Searches forward: returns the pattern and the end of the match that the program finds.
+    ///
+    /// # Requires
+    ///
+    /// The alphabet is that of the program, and this is the table for both.
+    ///
+    /// # Errors
+    ///
+    /// `Quit` for a byte of the slice that is 128 or more, if the program has word assertions.
+    ///
+    /// # Complexity
+    ///
+    /// A table lookup for each byte, and no memory.
     pub fn try_search_fwd<C: Cursor>(
         &self,
         program: &Program,
@@ -192,15 +212,25 @@ impl DenseTable {
         search(&mut table, &automaton, program, input)
     }
 
-    /// Searches backwards: of the matches that end at the end of the span, or of the content where
-    /// that comes first, and lie inside span and slice, answers the least start, and the least
-    /// pattern with it, as the program that this one was turned from finds them. `utf8_empty`
-    /// passes over an empty match inside a character.
+    /// Searches backward with a reverse program. Of the matches that end at the end of the span, or
+    /// of the haystack if that is less, and are inside span and slice, returns the least start with
+    /// the least pattern for it, as the forward program finds them. `utf8_empty` skips an empty
+    /// match inside a character.
     ///
-    /// The refusals are `UnsupportedAnchored` where the input isn't anchored, and `Quit`, with a
-    /// byte of 128 or more of the slice and its place, where the program asks for looks of words.
-    /// It reads back from the end of the span to its start, or to where no walk lives. It takes a
-    /// look-up in a table for each byte, and no memory.
+    /// # Requires
+    ///
+    /// The alphabet is that of the reverse program, and this is the table for both.
+    ///
+    /// # Errors
+    ///
+    /// - `UnsupportedAnchored` if the input isn't anchored
+    /// - `Quit` for a byte of the slice that is 128 or more, with its offset, if the program has
+    ///   word assertions
+    ///
+    /// # Complexity
+    ///
+    /// Reads from the end of the span to its start, or until no thread is left: a table lookup for
+    /// each byte, and no memory.
     pub fn try_search_back<C: Cursor>(
         &self,
         reverse: &ReverseProgram,

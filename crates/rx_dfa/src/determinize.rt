@@ -1,4 +1,4 @@
-//! Makes all states to which searches may come, and all steps between them.
+//! Computes all states that searches can reach, and all steps between them.
 
 ghost use Rattle.std.specs.Prelude.{◌≡◌, ◌+◌, ◌*◌, ◌<◌, ◌≤◌, ℕ, false, true, Some, length, max, slice_get, IfOk, OnOk};
 ghost use Rattle.rx_dfa.specs.Automata.{IsAutomaton, directed};
@@ -17,7 +17,7 @@ use rx_util::StateID;
 use std::alloc::AllocError;
 
 impl Cache {
-    /// The number of a state, which is added where it isn't found, however much room it takes.
+    /// Returns the number of a state, which is added if it isn't there, whatever its size.
     fn found_or_added(
         &mut self,
         automaton: &Automaton,
@@ -41,7 +41,7 @@ impl Cache {
         }
     }
 
-    /// Adds a state in which a search stands at its first place.
+    /// Adds a start state.
     fn add_first(
         &mut self,
         automaton: &Automaton,
@@ -59,7 +59,8 @@ impl Cache {
         Ok(())
     }
 
-    /// Adds those in which walks may start from a state of the program, where this stands before.
+    /// Adds the start states of a forward search whose threads start in a state of the program, for
+    /// what precedes.
     fn add_all_firsts(
         &mut self,
         automaton: &Automaton,
@@ -77,8 +78,8 @@ impl Cache {
         Ok(())
     }
 
-    /// Adds those in which a search begins with walks that start from a state of the program, where
-    /// this stands before. A search back begins once.
+    /// Adds the start states for threads that start in a state of the program, for what precedes. A
+    /// backward search starts its threads once.
     fn add_starts(
         &mut self,
         automaton: &Automaton,
@@ -97,7 +98,7 @@ impl Cache {
         }
     }
 
-    /// Adds them for whatever may stand before.
+    /// Adds the start states for everything that may precede.
     fn add_sides(&mut self, automaton: &Automaton, start: StateID) -> Result<(), AllocError>
         requires is { IsAutomaton automaton.now }
         requires made { HoldsBy automaton.now self.old }
@@ -113,7 +114,7 @@ impl Cache {
         Ok(())
     }
 
-    /// Adds those in which walks start from the state from which those of a pattern do.
+    /// Adds the start states of each pattern.
     fn add_patterns(&mut self, automaton: &Automaton) -> Result<(), AllocError>
         requires is { IsAutomaton automaton.now }
         requires made { HoldsBy automaton.now self.old }
@@ -129,7 +130,7 @@ impl Cache {
         Ok(())
     }
 
-    /// Adds all states in which searches begin.
+    /// Adds all start states.
     pub(crate) fn add_all_starts(&mut self, automaton: &Automaton) -> Result<(), AllocError>
         requires is { IsAutomaton automaton.now }
         requires made { HoldsBy automaton.now self.old }
@@ -144,8 +145,8 @@ impl Cache {
 }
 
 impl Cache {
-    /// The entry of a state in a column, with the state to which it leads, or one of which nothing
-    /// is known, if there is no room for where that state's row begins.
+    /// Computes the entry of a state in a column and adds the state to which it leads. Returns
+    /// `UNKNOWN` if the offset of that state's row is too large for an entry.
     fn entry_made(
         &mut self,
         automaton: &Automaton,
@@ -199,7 +200,7 @@ impl Cache {
         Ok(())
     }
 
-    /// Enters all steps from a state, where those from the states before it are known.
+    /// Enters all steps from a state; those from the states before it must be known.
     fn fill_row(&mut self, automaton: &Automaton, number: usize) -> Result<(), AllocError>
         requires made { HoldsBy automaton.now self.old }
         requires number { number < length self.old.states }
@@ -215,15 +216,16 @@ impl Cache {
         Ok(())
     }
 
-    /// Whether there are at most so many states, which take about so many bytes at most.
+    /// Returns whether there are at most `state_limit` states that take at most about `size_limit`
+    /// bytes.
     fn is_within(&self, state_limit: usize, size_limit: usize) -> bool
         ensures { result ≡ true → IsWithin state_limit size_limit self.now }
     {
         self.states.len() <= state_limit && self.memory_usage() <= size_limit
     }
 
-    /// Makes all states to which searches come, and enters all steps, unless there are more states
-    /// than so many, or they take more room than about so much: then it tells false.
+    /// Computes all reachable states and all steps. Returns false if there are more than
+    /// `state_limit` states, or if they take more than about `size_limit` bytes.
     pub(crate) fn close(
         &mut self,
         automaton: &Automaton,

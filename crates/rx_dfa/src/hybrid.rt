@@ -1,4 +1,5 @@
-//! The engine that searches by an automaton whose states are made as a search comes to them.
+//! The engine that searches with a lazy automaton, whose states are computed when a search reaches
+//! them.
 
 ghost use Rattle.std.specs.Prelude.{◌≡◌, ◌+◌, true, map, IfErr, IfOk, IsTrue, OnErr, OnOk};
 ghost use Rattle.rx_util.specs.declared.search.MatchError.{MatchError};
@@ -28,19 +29,19 @@ use std::alloc::{AllocError, Global};
 use std::marker::Model;
 use std::rc::Rc;
 
-/// An engine that searches for patterns by an automaton, whose states a cache keeps. Contracts see
-/// the engine that was built of the patterns, the automaton of its program, and the program turned
-/// round with its own, by which it searches backwards.
+/// An engine that searches for patterns with an automaton whose states are in a cache. Contracts
+/// see the engine of the patterns, the alphabet of its program, and the reverse program with its
+/// alphabet for backward searches.
 #[derive(Debug)]
 pub struct Regex {
     compiled: Compiled,
     dfa: Rc<Alphabet>,
-    // The program turned round, and its automaton.
+    // The reverse program and its alphabet.
     reverse: Rc<ReverseProgram>,
     back: Rc<Alphabet>,
 }
 
-// Written out, so that no crate above proves anew how what it holds is let go.
+// Written out, so that crates above needn't prove how the fields are dropped.
 impl Drop for Regex {
     fn drop(self) {
         let Regex {
@@ -72,7 +73,7 @@ impl Model for Regex {
     }) };
 }
 
-/// The automaton of an engine's program, to be shared by an engine and its clones.
+/// Returns the alphabet of an engine's program, which an engine and its clones share.
 fn shared_dfa(
     alloc: Global,
     compiled: &Compiled,
@@ -87,7 +88,7 @@ fn shared_dfa(
 }
 
 impl Regex {
-    /// An engine that searches by the automaton of the patterns' program.
+    /// Builds the engine from compiled patterns.
     fn over(alloc: Global, compiled: Compiled, capacity: usize) -> Result<Regex, AllocError>
         requires { compiled.utf8_empty ≡ true }
         ensures engine { IfOk result (λ re. re.engine ≡ compiled) }
@@ -104,8 +105,12 @@ impl Regex {
         })
     }
 
-    /// The engine for a pattern, under default settings. The states in its caches may take about
-    /// two megabytes. A pattern is refused as by `pikevm::Builder::build`.
+    /// Builds the engine of a pattern with default settings. The states in its caches may take
+    /// about two megabytes.
+    ///
+    /// # Errors
+    ///
+    /// Those of `pikevm::Builder::build`.
     pub fn new(alloc: Global, pattern: &str) -> Result<Regex, BuildError>
         ensures built { IfOk result (λ re. IsBuiltOf pattern.now by_default re.engine) }
         ensures capacity { IfOk result (HasCapacity CACHE_CAPACITY) }
@@ -115,10 +120,13 @@ impl Regex {
         Ok(Regex::over(alloc, compiled, CACHE_CAPACITY)?)
     }
 
-    /// The engine for patterns that are searched for together, under default settings: where
-    /// matches of several start at one place, those of an earlier pattern are preferred. With no
-    /// pattern it never finds a match. The patterns are refused as by
-    /// `pikevm::Builder::build_many`.
+    /// Builds the engine of patterns that are searched for together, with default settings. If
+    /// matches of several start at the same offset, the earliest pattern is preferred. Without a
+    /// pattern there is never a match.
+    ///
+    /// # Errors
+    ///
+    /// Those of `pikevm::Builder::build_many`.
     pub fn new_many(alloc: Global, patterns: &[&str]) -> Result<Regex, BuildError>
         ensures built { IfOk result (λ re.
             IsBuiltOfAll (map (λ text. text.now) patterns.now) by_default re.engine) }
@@ -129,8 +137,8 @@ impl Regex {
         Regex::with_capacity(alloc, patterns, CACHE_CAPACITY)
     }
 
-    /// The same engine, but that the states in its caches may take about so many bytes; whatever
-    /// the capacity, there is room for two.
+    /// Builds the engine of patterns, as `new_many` does and with the same errors, with caches
+    /// whose states may take about `capacity` bytes. There is always room for two states.
     pub fn with_capacity(
         alloc: Global,
         patterns: &[&str],
@@ -146,9 +154,11 @@ impl Regex {
         Ok(Regex::over(alloc, compiled, capacity)?)
     }
 
-    /// The engine for what patterns spell, as `new_many` makes it. They are refused as
-    /// `BuildError::Size` where together they weigh more than 2,147,483,646, and else perhaps as
-    /// `Memory`.
+    /// Builds the engine from syntax trees, as `new_many` does from patterns.
+    ///
+    /// # Errors
+    ///
+    /// `BuildError::Size` if they weigh more than 2,147,483,646 together; `Memory`.
     pub fn build_from_hirs(alloc: Global, hirs: &[&Hir]) -> Result<Regex, BuildError>
         ensures built { IfOk result (λ re. IsBuiltOfTrees
             (map (λ hir. tree_of hir.now) hirs.now) nothing_set re.engine) }
@@ -160,7 +170,11 @@ impl Regex {
         Ok(Regex::over(alloc, compiled, CACHE_CAPACITY)?)
     }
 
-    /// The same engine, which shares program and automaton. The one refusal is `Memory`. `O(1)`.
+    /// Returns a copy that shares program and automaton. `O(1)`.
+    ///
+    /// # Errors
+    ///
+    /// `Memory`.
     pub fn clone(&self) -> Result<Regex, MatchError>
         ensures same { IfOk result (λ re. re ≡ self.now) }
         ensures refused { IfErr result (λ error. error ≡ MatchError.Memory) }
@@ -173,7 +187,11 @@ impl Regex {
         })
     }
 
-    /// A cache for searches with it. The one refusal is `Memory`.
+    /// Returns a cache for searches with this engine.
+    ///
+    /// # Errors
+    ///
+    /// `Memory`.
     pub fn create_cache(&self) -> Result<Cache, MatchError>
         ensures made { IfOk result (IsHybridCacheOf self.now) }
         ensures refused { IfErr result (λ error. error ≡ MatchError.Memory) }
@@ -182,16 +200,16 @@ impl Regex {
     }
 }
 
-/// What searches with an engine keep from one to the next: the states that they have come to,
-/// forward and backwards. It serves the engine that it was made for or reset for, after each search
-/// again, refused or not. Contracts see both.
+/// What searches with an engine keep between searches: the states that they reached, forward and
+/// backward. It can be used with the engine that it was made or reset for, also after an error.
+/// Contracts see both.
 #[derive(Debug)]
 pub struct Cache {
     states: states::Cache,
     back: BackCache,
 }
 
-// Written out, so that no crate above proves anew how what it holds is let go.
+// Written out, so that crates above needn't prove how the fields are dropped.
 impl Drop for Cache {
     fn drop(self) {
         let Cache {
@@ -210,7 +228,10 @@ impl Model for Cache {
 }
 
 impl Cache {
-    /// A cache for searches with an engine, as `create_cache` makes it. The one refusal is
+    /// Returns a cache for searches with an engine, as `create_cache` does.
+    ///
+    /// # Errors
+    ///
     /// `Memory`.
     pub fn new(alloc: Global, re: &Regex) -> Result<Cache, MatchError>
         ensures made { IfOk result (IsHybridCacheOf re.now) }
@@ -222,8 +243,11 @@ impl Cache {
         })
     }
 
-    /// A cache for searches with the same engine, which knows what this one knows. The one refusal
-    /// is `Memory`. It takes as much memory as this one has taken for that.
+    /// Returns a copy with all known states, which takes as much memory as these.
+    ///
+    /// # Errors
+    ///
+    /// `Memory`.
     pub fn clone(&self) -> Result<Cache, MatchError>
         ensures same { IfOk result (λ cache. cache ≡ self.now) }
         ensures refused { IfErr result (λ error. error ≡ MatchError.Memory) }
@@ -234,8 +258,11 @@ impl Cache {
         })
     }
 
-    /// Makes the cache one for searches with this engine. The one refusal is `Memory`; the cache is
-    /// then as it was.
+    /// Makes the cache one for searches with this engine.
+    ///
+    /// # Errors
+    ///
+    /// `Memory`; the cache is unchanged then.
     pub fn reset(&mut self, re: &Regex) -> Result<(), MatchError>
         ensures made { OnOk result (IsHybridCacheOf re.now self.new) }
         ensures kept { OnErr result (self.new ≡ self.old) }
@@ -247,9 +274,9 @@ impl Cache {
         Ok(())
     }
 
-    /// About how many bytes its states take, of searches forward and backwards: of each the nodes,
-    /// the row in the table, and what is kept of it beside. Where there are more than two states of
-    /// one kind, these take at most the capacity.
+    /// Returns the approximate number of bytes of the states, forward and backward: their nodes,
+    /// their rows of the tables, and other data of each. If there are more than two states of one
+    /// direction, these take at most the capacity.
     pub fn memory_usage(&self) -> usize
         ensures { result ≡ counted (self.now.states.used + self.now.back.states.used) }
     {
@@ -259,10 +286,15 @@ impl Cache {
     }
 }
 
-/// Searches forward: answers the pattern and the end of the match that is found. The cache must be
-/// one for the engine, and still is one afterwards, whatever is answered: it keeps two states, or
-/// as many as the capacity has room for. Refusals and cost are those of the crate's
-/// `try_search_fwd`: `dfa` says that `\b` or `\B` stands in the program where a byte makes it quit.
+/// Searches forward: returns the pattern and the end of the match that is found.
+///
+/// Errors and complexity are those of the crate's `try_search_fwd` (`dfa`: the program contains
+/// `\b` or `\B` if a byte makes it quit).
+///
+/// # Requires
+///
+/// The cache is for this engine, for which it remains one, also after an error: it has at most two
+/// states, or as many as the capacity has room for.
 pub fn try_search_fwd<C: Cursor>(
     re: &Regex,
     cache: &mut Cache,
@@ -282,15 +314,22 @@ pub fn try_search_fwd<C: Cursor>(
     search::try_search_fwd(re.compiled.program(), &re.dfa, &mut cache.states, input)
 }
 
-/// Searches backwards, on an anchored input: of the matches that end at the end of the span, or of
-/// the content where that comes first, and lie inside span and slice, answers the least start, and
-/// the least pattern with it; with `Anchored::Pattern` of that pattern's alone. The cache must be
-/// one for the engine, and still is one afterwards, whatever is answered.
+/// Searches backward on an anchored input. Of the matches that end at the end of the span, or of
+/// the haystack if that is less, and are inside span and slice, returns the least start with the
+/// least pattern for it; with `Anchored::Pattern`, only matches of that pattern count.
 ///
-/// The refusals are `UnsupportedAnchored` where the input isn't anchored, and else `Memory`. It
-/// reads back to the span's start, or to where no match may start any more, and takes a look-up in
-/// a table for each byte of which the step is known. Where the automaton can't tell, since it would
-/// have to quit or to give up, walks through the program are followed side by side.
+/// # Requires
+///
+/// The cache is for this engine, for which it remains one, also after an error.
+///
+/// # Errors
+///
+/// `UnsupportedAnchored` if the input isn't anchored; `Memory`.
+///
+/// # Complexity
+///
+/// Reads down to the span's start, or until no match can start any more: a table lookup for each
+/// byte whose step is known. If the automaton would quit or give up, threads are followed instead.
 pub fn try_search_rev<C: Cursor>(
     re: &Regex,
     cache: &mut Cache,

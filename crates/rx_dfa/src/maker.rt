@@ -1,4 +1,4 @@
-//! The steps by which states are made.
+//! Computes states from states.
 
 ghost use Rattle.std.specs.Prelude.{◌≡◌, ◌++◌, All, IfOk, IfErr, OnOk};
 ghost use Rattle.rx_util.specs.declared.search.MatchError.{MatchError};
@@ -30,7 +30,7 @@ fn push_all(threads: &mut ThreadList, others: &ThreadList) -> Result<(), AllocEr
     Ok(())
 }
 
-/// The looks of a place whose sides have changed places.
+/// Returns the assertions that hold at a position, with its two sides swapped.
 fn turned(looks: Looks) -> Looks
     ensures { result ≡ turned_looks looks }
 {
@@ -44,7 +44,7 @@ fn turned(looks: Looks) -> Looks
     }
 }
 
-/// The looks that hold at a place where a state's step is made.
+/// Returns the assertions that hold for a state's step.
 fn looks_of(way: &Way, state: &AutomatonState, ahead: &Ahead) -> Looks
     ensures { result ≡ looks_by (directed_by way.now).is_back
         (looks_of (directed_by way.now).bytes.line_terminator state.now.behind ahead.now.seen) }
@@ -56,7 +56,7 @@ fn looks_of(way: &Way, state: &AutomatonState, ahead: &Ahead) -> Looks
     }
 }
 
-/// The place at which a state's step is made.
+/// Returns the position of a state's step.
 fn place_of(way: &Way, state: &AutomatonState, ahead: &Ahead) -> Place
     ensures { result ≡ place_of_step (directed_by way.now) state.now ahead.now }
 {
@@ -67,7 +67,7 @@ fn place_of(way: &Way, state: &AutomatonState, ahead: &Ahead) -> Place
     }
 }
 
-/// Room for the steps of a program's walks.
+/// Returns room for the steps of a program's threads.
 fn stepper_of(alloc: Global, way: &Way) -> Result<Stepper, MatchError>
     ensures made { IfOk result
         (λ stepper. stepper.widths ≡ widths_of (directed_by way.now).bytes) }
@@ -79,18 +79,22 @@ fn stepper_of(alloc: Global, way: &Way) -> Result<Stepper, MatchError>
     }
 }
 
-/// What it takes to make states.
+/// Room for computing states.
 #[derive(Debug, Drop)]
 pub(crate) struct Maker {
     alloc: Global,
     stepper: Stepper,
-    // Room for a step.
+    // The threads before and after a step.
     from: ThreadList,
     next: ThreadList,
 }
 
 impl Maker {
-    /// Room for the steps of a program. The one refusal is `Memory`.
+    /// Returns room for the steps of a program.
+    ///
+    /// # Errors
+    ///
+    /// `Memory`.
     pub(crate) fn new(alloc: Global, way: &Way) -> Result<Maker, MatchError>
         ensures made { IfOk result
             (λ maker. maker.stepper.widths ≡ widths_of (directed_by way.now).bytes) }
@@ -104,7 +108,11 @@ impl Maker {
         })
     }
 
-    /// Room for the steps of the same program. The one refusal is `Memory`.
+    /// Returns room for the steps of the same program.
+    ///
+    /// # Errors
+    ///
+    /// `Memory`.
     pub(crate) fn another(&self) -> Result<Maker, MatchError>
         ensures made { IfOk result (λ maker. maker.stepper.widths ≡ self.now.stepper.widths) }
         ensures refused { IfErr result (λ error. error ≡ MatchError.Memory) }
@@ -117,12 +125,12 @@ impl Maker {
         })
     }
 
-    /// Where it takes memory from.
+    /// Returns the allocator.
     pub(crate) fn allocator(&self) -> Global {
         self.alloc
     }
 
-    /// Takes over threads, and after them one of a walk that starts at a state, if one does.
+    /// Copies the threads to step from, followed by a thread that starts in a state, if given.
     fn begin(&mut self, threads: &ThreadList, start: Option<StateID>) -> Result<(), AllocError>
         requires { AreBare threads.now.threads }
         ensures from { OnOk result
@@ -138,7 +146,7 @@ impl Maker {
         Ok(())
     }
 
-    /// Makes the step of the threads that were taken over, which have no slots.
+    /// Makes the step of the copied threads, which have no slots.
     fn step(&mut self, way: &Way, place: &Place) -> Result<Option<PatternID>, MatchError>
         requires made { self.old.stepper.widths ≡ widths_of (directed_by way.now).bytes }
         requires threads { All (IsThreadOf (directed_by way.now).bytes.states)
@@ -162,7 +170,11 @@ impl Maker {
         }
     }
 
-    /// The state to which a state leads before what stands ahead. The one refusal is `Memory`.
+    /// Computes the state to which a state leads.
+    ///
+    /// # Errors
+    ///
+    /// `Memory`.
     pub(crate) fn next_state(
         &mut self,
         automaton: &Automaton,
@@ -183,7 +195,7 @@ impl Maker {
         let ended = self.step(&automaton.way, &place)?;
         let mut threads = ThreadList::new(self.alloc, 0);
         self.stepper.thin(&self.next, &mut threads)?;
-        // A law, for the proof alone.
+        // A law, for the proof only.
         threads.are_bare();
         Ok(AutomatonState {
             threads,

@@ -1,4 +1,4 @@
-//! Bytes that lie in one piece.
+//! The loop over the bytes of one chunk.
 
 ghost use Rattle.std.specs.Prelude.{◌≡◌, ◌+◌, ◌/◌, ◌<◌, ◌≤◌, ◌^◌, ◌∷◌, [], true, Option, Some, length, take, slice_get, IfOk, IfErr};
 ghost use Rattle.rx_util.specs.Search.{HalfFound};
@@ -16,16 +16,16 @@ use crate::states::last_met;
 use crate::table::Table;
 use rx_util::{HalfMatch, MatchError, PatternID};
 
-/// An end that was met on the way.
+/// A match end that the loop passed.
 #[derive(Clone, Copy)]
 struct PassedEnd {
-    // Where the row of the state behind it begins.
+    // The offset of the row of the state after it.
     row: usize,
     at: usize,
 }
 
 impl Cache {
-    /// The pattern whose end was met before a state.
+    /// Returns the pattern whose match ended just before a state.
     pub(crate) fn end_before(&self, number: usize) -> Option<PatternID>
         requires { number < length self.now.states }
         ensures { (y : AutomatonState) → slice_get self.now.states number ≡ Some y
@@ -34,7 +34,7 @@ impl Cache {
         self.states[number].ended
     }
 
-    /// The match whose end was met last, once a place is passed by a step to a state.
+    /// Returns the last match end after a step to a state.
     pub(crate) fn met_behind(
         &self,
         number: usize,
@@ -48,7 +48,7 @@ impl Cache {
         last_met(at, &self.end_before(number), met)
     }
 
-    /// The match whose end was met last: this end on the way, or the one before, if there is none.
+    /// Returns the last match end: that of this row, or else the earlier one.
     fn met_last(&self, end: Option<PassedEnd>, met: Option<HalfMatch>) -> Option<HalfMatch>
         requires width { 0 < self.now.width }
         requires inside { (passed : PassedEnd) → end ≡ Some passed
@@ -62,9 +62,8 @@ impl Cache {
         }
     }
 
-    /// Follows bytes that stand from a place on as far as entries are known and the search isn't
-    /// over, and notes the last end that is met: the state behind them, and how many bytes were
-    /// followed.
+    /// Follows bytes as long as their entries are known and the search isn't over, and notes the
+    /// last match end. Returns the state after them and their number.
     #[inline(always)]
     pub(crate) fn run(
         &self,
@@ -105,7 +104,7 @@ impl Cache {
         (row / self.width, len)
     }
 
-    /// Whether no walk lives at a state, and none will start.
+    /// Returns whether a state is dead: it has no thread, and none will start.
     pub(crate) fn is_over(&self, number: usize) -> bool
         requires { number < length self.now.states }
         ensures { result ≡ true → IsDeadState self.now.states number }
@@ -114,7 +113,7 @@ impl Cache {
     }
 }
 
-/// Passes a byte that stands at a place, and notes an end that is met there.
+/// Reads one byte and notes a match end before it.
 fn pass<T: Table>(
     table: &mut T,
     automaton: &Automaton,
@@ -146,9 +145,8 @@ fn pass<T: Table>(
     }
 }
 
-/// Passes bytes that stand from a place on, up to a state at which the search is over, and notes
-/// the last end that is met: the state behind them, and how many bytes were passed, which is at
-/// least one, if there is one.
+/// Reads bytes up to a state at which the search is over, and notes the last match end. Returns the
+/// state after them and the number of bytes read, which is at least one if there are any.
 #[inline(always)]
 pub(crate) fn scan<T: Table>(
     table: &mut T,

@@ -1,4 +1,4 @@
-//! Searches by an automaton.
+//! Forward searches with an automaton.
 
 ghost use Rattle.std.specs.Prelude.{◌≡◌, ◌↔◌, ◌+◌, ◌<◌, ℕ, Bool, IsTrue, true, false, Option, Some, None, length, slice_get, IfSome, IfOk, IfErr, OnOk};
 ghost use Rattle.std.specs.Str.{IsCharBoundary};
@@ -31,7 +31,7 @@ use rx_program::Program;
 use rx_steps::{enter, last_place, start_state};
 use rx_util::{HalfMatch, MatchError, PatternID, StateID};
 
-/// The bytes that stand where an input stands, in the piece that is shown and up to the last place.
+/// Returns the bytes from the input's position on, to the end of its chunk or of the search.
 fn bytes_ahead<C: Cursor>(input: &Input<C>) -> &[u8]
     ensures stand { (utf8_empty : Bool)
         → IsInside (search_of utf8_empty input.now) input.now.position
@@ -46,7 +46,7 @@ fn bytes_ahead<C: Cursor>(input: &Input<C>) -> &[u8]
     &ahead[..left.min(ahead.len())]
 }
 
-/// Whether an input stands at the last place.
+/// Returns whether the input is at the highest offset of the search.
 fn is_at_last<C: Cursor>(input: &Input<C>) -> bool
     ensures last { result ≡ true → (utf8_empty : Bool)
         → IsInside (search_of utf8_empty input.now) input.now.position
@@ -58,7 +58,7 @@ fn is_at_last<C: Cursor>(input: &Input<C>) -> bool
     input.position() >= last_place(input) || input.chunk_pos() >= input.chunk().len()
 }
 
-/// The byte of the slice that stands where an input stands, if there is one.
+/// Returns the byte of the slice at the input's position, if there is one.
 pub(crate) fn byte_seen<C: Cursor>(input: &Input<C>) -> Option<u8>
     ensures { (utf8_empty : Bool)
         → result ≡ byte_after (search_of utf8_empty input.now) input.now.position }
@@ -70,8 +70,7 @@ pub(crate) fn byte_seen<C: Cursor>(input: &Input<C>) -> Option<u8>
     }
 }
 
-/// Whether a match may begin where an input stands, if empty ones inside a character are passed
-/// over or not.
+/// Returns whether a match may begin at the input's position.
 pub(crate) fn may_begin<C: Cursor>(input: &Input<C>, utf8_empty: bool) -> bool
     ensures { IsTrue result
         ↔ (IsTrue utf8_empty → IsCharBoundary input.now.cursor.content input.now.position) }
@@ -79,7 +78,7 @@ pub(crate) fn may_begin<C: Cursor>(input: &Input<C>, utf8_empty: bool) -> bool
     !utf8_empty || input.is_char_boundary()
 }
 
-/// The class of a byte that is seen.
+/// Returns the class of a byte.
 pub(crate) fn seen_class(alphabet: &Alphabet, byte: u8) -> usize
     ensures class { result ≡ class_of alphabet.now.classes byte }
     ensures byte { byte < 256 }
@@ -87,8 +86,8 @@ pub(crate) fn seen_class(alphabet: &Alphabet, byte: u8) -> usize
     alphabet.class(byte)
 }
 
-/// The column in which a state is told the end that it meets where an input stands, at the last
-/// place, ahead of which this byte of the slice stands, or none.
+/// Returns the column whose step gives the match end at the highest offset, before this byte of the
+/// slice.
 fn last_column<C: Cursor>(automaton: &Automaton, input: &Input<C>, seen: Option<u8>) -> usize
     requires is { IsAutomaton automaton.now }
     requires forward { ReadsForward automaton.now }
@@ -105,7 +104,7 @@ fn last_column<C: Cursor>(automaton: &Automaton, input: &Input<C>, seen: Option<
     }
 }
 
-/// Where walks of a search start from the first place on.
+/// Returns how threads start from the lowest offset on.
 fn first_starting<C: Cursor>(input: &Input<C>, start: StateID) -> Starting
     ensures { (utf8_empty : Bool)
         → input.now.position ≡ lowest (search_of utf8_empty input.now)
@@ -120,8 +119,7 @@ fn first_starting<C: Cursor>(input: &Input<C>, start: StateID) -> Starting
     }
 }
 
-/// The byte of the slice before the place at which an input stands, where the slice starts before
-/// it and the piece that is shown has it.
+/// Returns the byte of the slice before the input's position, if its current chunk has it.
 fn byte_shown_behind<C: Cursor>(input: &Input<C>) -> Option<u8>
     requires { input.now.asked.slice.start < input.now.position }
     ensures { IfSome result (λ byte. (utf8_empty : Bool)
@@ -134,8 +132,8 @@ fn byte_shown_behind<C: Cursor>(input: &Input<C>) -> Option<u8>
     input.chunk().get(index - 1).copied()
 }
 
-/// The byte of the slice before the place at which an input stands, if there is one. The piece that
-/// is shown may be another afterwards.
+/// Returns the byte of the slice before the input's position, if there is one. The current chunk
+/// may be another one afterwards.
 fn byte_looked_behind<C: Cursor>(input: &mut Input<C>) -> Option<u8>
     ensures byte { (utf8_empty : Bool)
         → IsInside (search_of utf8_empty input.old) input.old.position
@@ -145,8 +143,8 @@ fn byte_looked_behind<C: Cursor>(input: &mut Input<C>) -> Option<u8>
     input.look_around().before().last().copied()
 }
 
-/// The byte of the slice before the place at which an input stands, if looks are asked for. The
-/// piece that is shown may be another afterwards.
+/// Returns the byte of the slice before the input's position, if there is one and the program has
+/// assertions. The current chunk may be another one afterwards.
 pub(crate) fn byte_behind<C: Cursor>(input: &mut Input<C>, asks_looks: bool) -> Option<u8>
     ensures asked { asks_looks ≡ true → (utf8_empty : Bool)
         → IsInside (search_of utf8_empty input.old) input.old.position
@@ -163,8 +161,8 @@ pub(crate) fn byte_behind<C: Cursor>(input: &mut Input<C>, asks_looks: bool) -> 
     byte_looked_behind(input)
 }
 
-/// Passes the bytes that stand where an input stands, in the piece that is shown, up to a state at
-/// which the search is over: the state behind them.
+/// Reads the bytes from the input's position on, in its chunk, up to a state at which the search is
+/// over. Returns the state after them.
 fn pass_piece<T: Table, C: Cursor>(
     table: &mut T,
     automaton: &Automaton,
@@ -204,7 +202,8 @@ fn pass_piece<T: Table, C: Cursor>(
     }
 }
 
-/// The pattern whose end a state meets before what stands in a column, in which a search can go on.
+/// Returns the pattern whose match ends before the column's byte, which must not make the search
+/// quit.
 pub(crate) fn last_end<T: Table>(
     table: &mut T,
     automaton: &Automaton,
@@ -232,7 +231,7 @@ pub(crate) fn last_end<T: Table>(
     }
 }
 
-/// The step at the last place, where an input has to stand: the match whose end was met last.
+/// Makes the step at the highest offset, where the input must be, and returns the last match end.
 fn finish<T: Table, C: Cursor>(
     table: &mut T,
     automaton: &Automaton,
@@ -269,7 +268,7 @@ fn finish<T: Table, C: Cursor>(
     }
 }
 
-/// Searches from a state, from where an input stands.
+/// Searches from a state, starting at the input's position.
 fn follow<T: Table, C: Cursor>(
     table: &mut T,
     automaton: &Automaton,
@@ -307,7 +306,7 @@ fn follow<T: Table, C: Cursor>(
     }
 }
 
-/// Searches from the first place, at which an input has to stand.
+/// Searches from the lowest offset, where the input must be.
 fn start<T: Table, C: Cursor>(
     table: &mut T,
     automaton: &Automaton,
@@ -346,8 +345,8 @@ fn start<T: Table, C: Cursor>(
     }
 }
 
-/// Searches forward by a table of an automaton: answers the pattern and the end of the match that
-/// the program finds.
+/// Searches forward with a table: returns the pattern and the end of the match that the program
+/// finds.
 pub(crate) fn search<T: Table, C: Cursor>(
     table: &mut T,
     automaton: &Automaton,
@@ -376,16 +375,23 @@ pub(crate) fn search<T: Table, C: Cursor>(
     start(table, automaton, input, first)
 }
 
-/// Searches forward by the automaton of a program: answers the pattern and the end of the match
-/// that the program finds. The cache must be one for searches by that automaton, and still is one
-/// afterwards, whatever is answered.
+/// Searches forward with the automaton of a program: returns the pattern and the end of the match
+/// that the program finds.
 ///
-/// Refusals are `Memory`; `Quit`, with a byte of 128 or more of the slice, where the program asks
-/// for looks of words; and `GaveUp`, with a place inside, at which the cache would have been
-/// cleared for the fourth time in this search.
+/// # Requires
 ///
-/// It takes a look-up in a table for each byte of which the step is known, and a step of the walks
-/// side by side where it isn't.
+/// The cache is for this program and alphabet, for which it remains one, also after an error.
+///
+/// # Errors
+///
+/// - `Memory`
+/// - `Quit` for a byte of the slice that is 128 or more, if the program has word assertions
+/// - `GaveUp`, with an offset inside, if the cache would be cleared for the fourth time in this
+///   search
+///
+/// # Complexity
+///
+/// A table lookup for each byte whose step is known, and else a step of all threads.
 pub fn try_search_fwd<C: Cursor>(
     program: &Program,
     alphabet: &Alphabet,

@@ -13,19 +13,19 @@ use rx_steps::{Node, ThreadList};
 use rx_util::{HalfMatch, PatternID, StateID};
 use std::alloc::{AllocError, Global};
 
-/// Whether walks start at a place and at those behind it, and from which state of the program.
+/// Whether threads start at an offset and at those after it, and in which state of the program.
 #[derive(Clone, Copy, Debug, PartialEq, Eq)]
 pub(crate) enum Starting {
-    /// Nowhere: an end was met, or the search is anchored at a place before.
+    /// Nowhere: a match end was met, or the search is anchored at an earlier offset.
     Never,
-    /// At this place alone.
+    /// Only at this offset.
     Once(StateID),
-    /// At this place and at each one behind it, until an end is met.
+    /// At this offset and at each following one, until a match end is met.
     Always(StateID),
 }
 
 impl Starting {
-    /// The state from which a walk starts at a place, where one may begin.
+    /// Returns the state in which a thread starts at an offset, if a match may begin there.
     pub(crate) fn at(&self, may_begin: bool) -> Option<StateID>
         ensures { result ≡ start_at self.now may_begin }
     {
@@ -37,7 +37,7 @@ impl Starting {
         }
     }
 
-    /// A number by which states are looked up.
+    /// Returns the hash of this value.
     fn hash(&self) -> u64
         ensures { result ≡ starting_hash self.now }
     {
@@ -48,7 +48,7 @@ impl Starting {
         }
     }
 
-    /// Whether walks start behind a place, at which an end was met or not.
+    /// Returns how threads start after an offset, by whether a match ended there.
     pub(crate) fn after(&self, ended: &Option<PatternID>) -> Starting
         ensures { result ≡ starting_after self.now ended.now }
     {
@@ -59,19 +59,19 @@ impl Starting {
     }
 }
 
-/// What a step has to know of what stands behind a place.
+/// What a step needs to know of the text after an offset.
 #[derive(Clone, Copy, Debug)]
 pub(crate) struct Ahead {
-    /// The byte that is read, and none where walks may go no further.
+    /// The byte to read, or `None` at the end of the span or slice.
     pub(crate) read: Option<u8>,
-    /// The byte that looks see, and none where the slice ends.
+    /// The byte that assertions see, or `None` at the end of the slice.
     pub(crate) seen: Option<u8>,
-    /// Whether a match may begin at the place.
+    /// Whether a match may begin at the offset.
     pub(crate) may_begin: bool,
 }
 
 impl Ahead {
-    /// A byte that is read.
+    /// Returns this for a byte that is read.
     pub(crate) fn of(utf8_empty: bool, byte: u8) -> Ahead
         ensures { result ≡ ahead_of utf8_empty byte }
     {
@@ -82,7 +82,7 @@ impl Ahead {
         }
     }
 
-    /// The end of the slice, where a match may begin or not.
+    /// Returns this for the end of the slice, by whether a match may begin there.
     pub(crate) fn of_end(may_begin: bool) -> Ahead
         ensures { result ≡ ahead_of_end may_begin }
     {
@@ -94,8 +94,7 @@ impl Ahead {
     }
 }
 
-/// The match whose end was met last, once a place is passed at which that of this pattern was met,
-/// or none.
+/// Returns the last match end after an offset, by the pattern whose match ended there.
 pub(crate) fn last_met(
     at: usize,
     ended: &Option<PatternID>,
@@ -109,7 +108,7 @@ pub(crate) fn last_met(
     }
 }
 
-/// Whether both have the same nodes.
+/// Returns whether two lists of threads have the same nodes.
 fn same_nodes(threads: &ThreadList, others: &ThreadList) -> bool
     requires bare { AreBare threads.now.threads }
     requires bare_others { AreBare others.now.threads }
@@ -127,8 +126,8 @@ fn same_nodes(threads: &ThreadList, others: &ThreadList) -> bool
     true
 }
 
-/// A hash with a further number mixed in. The addend keeps small hashes and numbers from cancelling
-/// each other out, so that states which differ have the same hash by chance alone.
+/// Returns a hash with a number mixed in. The addend keeps small hashes and numbers from cancelling
+/// each other out.
 fn mixed(hash: u64, number: usize) -> u64
     ensures { result ≡ mixed hash number }
 {
@@ -138,7 +137,7 @@ fn mixed(hash: u64, number: usize) -> u64
         .wrapping_mul(0x9E37_79B9_7F4A_7C15)
 }
 
-/// A hash with the pattern mixed in whose end was met.
+/// Returns a hash with the pattern mixed in whose match ended.
 fn with_end(hash: u64, ended: &Option<PatternID>) -> u64
     ensures { result ≡ with_end hash ended.now }
 {
@@ -148,14 +147,14 @@ fn with_end(hash: u64, ended: &Option<PatternID>) -> u64
     }
 }
 
-/// A hash with a node mixed in.
+/// Returns a hash with a node mixed in.
 fn with_node(hash: u64, node: Node) -> u64
     ensures { result ≡ mixed (mixed hash node.0) node.1 }
 {
     mixed(mixed(hash, node.state().as_usize()), node.within())
 }
 
-/// A hash with the nodes of threads mixed in.
+/// Returns a hash with the nodes of threads mixed in.
 fn with_nodes(mut hash: u64, threads: &ThreadList) -> u64
     ensures { result ≡ with_nodes hash threads.now.threads }
 {
@@ -165,22 +164,22 @@ fn with_nodes(mut hash: u64, threads: &ThreadList) -> u64
     hash
 }
 
-/// What a search knows where it stands.
+/// What a search knows at an offset: a state of the automaton.
 #[derive(Debug, Drop)]
 pub(crate) struct AutomatonState {
-    /// Where walks stand, in order of preference, before empty edges are followed. They have no
+    /// The threads in order of preference, before epsilon transitions are followed. They have no
     /// slots.
     pub(crate) threads: ThreadList,
-    /// Whether walks start.
+    /// How threads start.
     pub(crate) starting: Starting,
-    /// What stands before the place.
+    /// What precedes the offset.
     pub(crate) behind: Behind,
-    /// The pattern whose end was met at the place before.
+    /// The pattern whose match ended at the offset before.
     pub(crate) ended: Option<PatternID>,
 }
 
 impl AutomatonState {
-    /// The state in which a search stands at its first place.
+    /// Returns the start state for how threads start and what precedes.
     pub(crate) fn first(alloc: Global, starting: Starting, behind: Behind) -> AutomatonState
         ensures { IsFirstState starting behind result }
     {
@@ -192,7 +191,7 @@ impl AutomatonState {
         }
     }
 
-    /// The same state.
+    /// Returns a copy.
     pub(crate) fn clone(&self) -> Result<AutomatonState, AllocError>
         ensures { IfOk result (λ state. state ≡ self.now) }
     {
@@ -204,7 +203,7 @@ impl AutomatonState {
         })
     }
 
-    /// Whether it is the state in which a search stands at its first place.
+    /// Returns whether this is the start state for how threads start and what precedes.
     pub(crate) fn is_first(&self, starting: &Starting, behind: &Behind) -> bool
         ensures yes { result ≡ true → IsFirstState starting.now behind.now self.now }
         ensures no { result ≡ false → IsFirstState starting.now behind.now self.now → ⊥ }
@@ -215,7 +214,7 @@ impl AutomatonState {
             && self.ended.is_none()
     }
 
-    /// Whether no walk lives, and none will start.
+    /// Returns whether the state is dead: it has no thread, and none will start.
     pub(crate) fn is_over(&self) -> bool
         ensures threads { result ≡ true → self.now.threads.threads ≡ [] }
         ensures starting { result ≡ true → self.now.starting ≡ Never }
@@ -223,7 +222,7 @@ impl AutomatonState {
         self.threads.len() == 0 && self.starting == Starting::Never
     }
 
-    /// Whether both are the same state.
+    /// Returns whether both are equal.
     pub(crate) fn is_same(&self, other: &AutomatonState) -> bool
         requires bare { AreBare self.now.threads.threads }
         requires bare_other { AreBare other.now.threads.threads }
@@ -236,7 +235,7 @@ impl AutomatonState {
             && same_nodes(&self.threads, &other.threads)
     }
 
-    /// A number by which states are looked up: same states have the same.
+    /// Returns the hash by which states are found; equal states have equal hashes.
     pub(crate) fn hash(&self) -> u64
         ensures { result ≡ hash_of self.now }
     {

@@ -1,4 +1,4 @@
-//! Tables by which searches go from state to state.
+//! Tables that searches look up steps in.
 
 ghost use Rattle.std.specs.Prelude.{◌≡◌, ◌<◌, ◌≤◌, Bool, Some, false, length, slice_get, IfOk, IfErr};
 ghost use Rattle.rx_dfa.specs.declared.states.AutomatonState.{AutomatonState};
@@ -12,21 +12,20 @@ use crate::cache::Cache;
 use crate::states::Starting;
 use rx_util::MatchError;
 
-/// What searches by an automaton go by: the states that are known, by number, and the steps between
-/// them.
+/// The states and steps that a search uses: the known states by number, and the steps between them.
 pub(crate) trait Table {
-    // Whether all states are known, and all steps.
+    // Whether all states and all steps are known.
     ghost is_whole: { Bool };
 
-    // Those that are known.
+    // The known states and steps.
     ghost shown: { Self → CacheView };
 
-    /// Shows the states and the steps that are known.
+    /// Returns the known states and steps.
     fn known(&self) -> &Cache
         ensures { result.now ≡ shown self.now };
 
-    /// Where a column leads from a state: the number of the next state, and none where a search
-    /// can't go on. `at` is the place, for a refusal.
+    /// Returns the number of the state to which a column leads, or `None` if the search must quit.
+    /// `at` is the offset for an error.
     fn step(
         &mut self,
         automaton: &Automaton,
@@ -44,8 +43,8 @@ pub(crate) trait Table {
         ensures refused { IfErr result (IsLack is_whole at) }
         ensures late { IfErr result (GivesUpLate (shown self.new)) };
 
-    /// The number of the state in which a search stands at its first place, where walks start so
-    /// and this stands before. `at` is the place, for a refusal.
+    /// Returns the number of the start state for how threads start and what precedes. `at` is the
+    /// offset for an error.
     fn first(
         &mut self,
         automaton: &Automaton,

@@ -1,4 +1,4 @@
--- What stands between brackets is decided.
+-- The contents of brackets are decidable.
 use Rattle.std.proofs.Common.{◌≡◌, ◌⊎◌, inl, inr, ℕ, zero, suc, ◌≤◌, Bool, true, false, List, [], ◌∷◌, length, refl, sym, ap, subst, ◌∙◌, arith, true≢false}
 use Rattle.std.proofs.lemmas.Bool.{cases_eq, cases_Bool}
 use Rattle.rx_sets.specs.declared.items.ClassPerlKind.{ClassPerlKind}
@@ -15,7 +15,7 @@ use Rattle.rx_grammar.proofs.ClassLaws.{class_character_unique, escaped_read, ra
 use Rattle.rx_grammar.proofs.InputDecisions.{begins_or_not}
 use Rattle.rx_grammar.proofs.EscapeDecisions.{character_or_none}
 
--- a character that doesn't stand in a class by itself
+-- a character that isn't an item of a class by itself
 no_literal : {b c : ℕ} {v u : List ℕ} → is_class_literal b ≡ false → (b ≡ 92 → ⊥) → ClassCharacter (b ∷ v) c u → ⊥
 no_literal fails no_escape (itself e literal single) = told_apart is_class_literal e refl literal fails
 no_literal fails no_escape (escaped e one) = no_escape (first_is refl e)
@@ -124,7 +124,7 @@ item_or_none t = elim (letter_class_or_none t) [
   ]
 ]
 
--- where no item stands, the class closes or isn't one
+-- without an item, the class closes or isn't one
 end_or_none : (t : List ℕ) → NoItem t → ((items : List ClassItem) × (u : List ℕ) × ClassItems t items u) ⊎ NoItems t
 end_or_none t none = elim (begins_or_not 93 t) [
   | inl here ↦ inl ([], here.0, closed here.1)

@@ -35,7 +35,7 @@ pub perl_or_character : {t u v : List ℕ} {c : ℕ} (k : ClassPerlKind) (n : Bo
 perl_or_character k n e (itself e' literal single) = told_apart is_class_literal e' e literal refl
 perl_or_character k n e (escaped e' escape) = perl_letter-no_character k n (rest_is e' e) escape
 
--- before the - of a range no character stands alone
+-- before the - of a range there is no single character
 pub no_lone_character : {t v v' w x : List ℕ} {c low high : ℕ} → ClassCharacter t c v → (GoesOnAsRange v → ⊥) → ClassCharacter t low v' → v' ≡ 45 ∷ w → ClassCharacter w high x → ⊥
 no_lone_character {v = v} {w = w} one alone one' e high =
     let same : v ≡ 45 ∷ w = (class_character_unique one one').1 ∙ e in
@@ -120,7 +120,7 @@ pub escaped_read : {t u v : List ℕ} {c : ℕ} → t ≡ 92 ∷ v → ClassChar
 escaped_read e (itself e' literal single) = absurd (told_apart is_class_literal e' e literal refl)
 escaped_read e (escaped e' escape) = along (rest_is e e') escape
 
--- where a range goes on behind a character, an item is a range
+-- if a range follows a character, an item is a range
 pub range_read : {t u v w : List ℕ} {low : ℕ} {item : ClassItem} → NoLetterClass t → ClassCharacter t low v → RangeGoesOn v w → OneItem t item u
     → (high : ℕ) × ClassCharacter w high u × (low ≤ high)
 range_read {w = w} none one goes_on (character one' alone) =
@@ -131,8 +131,8 @@ range_read {low = low} none one goes_on (range {high = high} one' e second order
     (high, character_along (rest_is goes_on.hyphen (same.1 ∙ e)) second, subst (λ x. x ≤ high) (sym same.0) order)
 range_read none one goes_on (letter_class k n e) = absurd (none k n _ e)
 
--- items that were read from a text up to a rest: what is read there comes after them, and where nothing is
--- read there nothing is read from the text
+-- items that were read from a text up to a rest: what is read there comes after them, and if
+-- nothing is read there, nothing is read from the text
 pub record ReadsUpTo (before all : List ClassItem) (text rest : List ℕ) : Type 0 where
   pub items : List ClassItem
   pub whole : all ≡ before ++ items
@@ -164,7 +164,7 @@ ReadsUpTo-more {before = before} {text = text} {item = item} so_far one is = rec
     no_items one none items u (further one' others) =
         none _ u (items_along (one_item_unique one one').1 others)
 
--- where no item stands, the class closes, perhaps after a -
+-- without an item, the class closes, perhaps after a -
 pub ends_read : {text : List ℕ} → NoItem text → (Begins 93 text → ⊥) → ((v u : List ℕ) → text ≡ 45 ∷ v → v ≡ 93 ∷ u → ⊥) → NoItems text
 ends_read none no_close no_hyphen items u (closed e) = no_close (Begins-from e)
 ends_read none no_close no_hyphen items u (last_hyphen e f) = no_hyphen _ u e f
@@ -186,7 +186,7 @@ ReadsUpTo-hyphen {before = before} {u = u} so_far e f is = record {
   reads = so_far.reads (Span 45 45 ∷ []) u (last_hyphen e f);
 }
 
--- an item takes some of the text
+-- an item has some characters
 number_shorter : {n c : ℕ} {t u : List ℕ} → NumberAfter n t c u → length u ≤ length t
 number_shorter {u = u} (unbraced number) = omega (arith, ap length number.whole, length-append number.digits u)
 number_shorter {u = u} (braced e number) = omega (arith, ap length e, ap length number.whole, length-append number.digits (125 ∷ u))

@@ -37,7 +37,7 @@ itself_alone e f e' fails = told_apart is_escapable e e' f fails
 control_or_itself : {t u v : List ℕ} {c l b : ℕ} → t ≡ l ∷ u → control_of l ≡ Some c → t ≡ b ∷ v → is_escapable b ≡ true → ⊥
 control_or_itself {l = l} e f e' passes = told_apart is_escapable e' e passes (is_escapable-control l (ap is_some f))
 
--- a number has one length, and stands in braces or not
+-- a number has one length, and is in braces or not
 length_unique : {t u u' : List ℕ} {n c c' : ℕ} → NumberOfLength n t c u → NumberOfLength n t c' u' → (c ≡ c') × (u ≡ u')
 length_unique {u = u} {u' = u'} a b =
     let parts = fronts_of_length a.digits b.digits u u' (a.long ∙ sym b.long) (sym a.whole ∙ b.whole) in
@@ -81,7 +81,7 @@ escape_unique (four_digits e n) (itself e' f') = absurd (itself_alone e' f' e re
 escape_unique (four_digits e n) (two_digits e' n') = absurd (apart e e' refl)
 escape_unique (four_digits e n) (four_digits e' n') = number_after_unique (omega arith) n (number_after_along (rest_is e e') n')
 
--- the letter of a letter class tells which one it is
+-- the letter of a letter class determines which one it is
 pub perl_letter-unique : (k k' : ClassPerlKind) (n n' : Bool) → perl_letter k n ≡ perl_letter k' n' → (k ≡ k') × (n ≡ n')
 perl_letter-unique Digit Digit true true e = (refl, refl)
 perl_letter-unique Digit Digit true false e = absurd (eqb-false (perl_letter Digit true) (perl_letter Digit false) refl e)
@@ -156,7 +156,7 @@ perl_letter-not_117 Word false = refl
 abbrev pub is_look : ℕ → Bool
 is_look c = is_some (look_of c)
 
--- the letters of letter classes and looks spell no character
+-- the letters of letter classes and assertions spell no character
 pub perl_letter-no_character : {t u v : List ℕ} {c : ℕ} (k : ClassPerlKind) (n : Bool) → t ≡ perl_letter k n ∷ v → EscapedCharacter t c u → ⊥
 perl_letter-no_character k n e (control l e' f') = control_alone e' f' e (perl_letter-no_control k n)
 perl_letter-no_character k n e (itself e' f') = itself_alone e' f' e (perl_letter-no_escapable k n)

@@ -1,4 +1,4 @@
--- How many groups a text spells: each takes some of its characters.
+-- The number of groups that a text spells: each has some of its characters.
 use Rattle.std.proofs.Common.{◌≡◌, ℕ, ◌+◌, ◌≤◌, List, ◌∷◌, length, append-nil, length-append, ap, ◌∙◌, arith}
 use Rattle.std.specs.List.{flat_map}
 use Rattle.std.proofs.lemmas.Str.{length-le-encodes}

@@ -88,7 +88,7 @@ pub flags_begin : {t u v : List ℕ} {on off : List Flag} {b : ℕ} → Flags t 
 flags_begin {on = on} (turning_on letters some stop once) e fails = letters_begin on letters some e fails
 flags_begin {on = on} (turning_off letters minus off some once) e fails = letters_or_minus on letters minus e fails
 
--- what stands behind `(?`
+-- the text after `(?`
 pub behind : {t u v : List ℕ} → t ≡ 40 ∷ 63 ∷ u → t ≡ 40 ∷ 63 ∷ v → u ≡ v
 behind e f = rest_is refl (rest_is e f)
 

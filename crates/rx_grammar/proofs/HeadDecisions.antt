@@ -54,7 +54,7 @@ decided_flag f g = elim (cases_eq (letter_of f) (letter_of g)) [
 abbrev StandOnce : List Flag → Type 0
 StandOnce flags = AllPairs (λ a b. a ≢ b) flags
 
--- flags that nothing is turned off behind
+-- flags without a part that is turned off
 only_on : {t u v : List ℕ} {flags on off : List Flag} → FlagLetters t flags u → (Begins 45 u → ⊥) → Flags t on off v → (1 ≤ length flags) × StandOnce flags
 only_on letters stop (turning_on letters' some stop' once) =
     let same = letters_unique letters letters' in

@@ -53,7 +53,7 @@ ReadFlags-end {rest = rest} read none = record {
   once = read.once;
 }
 
--- letters that end where no flag stands go on where one stands
+-- letters that end without a flag go on with one
 record GoesOn (flags fs : List Flag) (flag : Flag) : Type 0 where
   more : List Flag
   is : flags ≡ fs ++ flag ∷ more
@@ -67,7 +67,7 @@ goes_on_with (g ∷ gs) (f ∷ fs) flag u v stops e =
     let rest = goes_on_with gs fs flag u v stops tails in
     record { more = rest.more; is = ap₂ (λ a l. a ∷ l) (letter_of-unique g f (first_is refl e)) rest.is }
 
--- an element of the front of a list isn't the one behind the front
+-- an element of the start of a list isn't the one after the start
 get_or-behind : {A : Type 0} (xs : List A) (y : A) (ys : List A) (d : A) → get_or (xs ++ y ∷ ys) (length xs) d ≡ y
 get_or-behind [] y ys d = refl
 get_or-behind (x ∷ xs) y ys d = get_or-behind xs y ys d
@@ -98,7 +98,7 @@ no_first_flags {t = t} none = λ on off u flags. at flags
     at {on = on} (turning_on letters some stop once) = none on _ letters once
     at {on = on} {off = off} (turning_off letters minus letters' some once) = none on _ letters (once_front on off once)
 
--- no flag stands at the start of the text, and no - follows
+-- no flag is at the start of the text, and no - follows
 pub no_flags : {t v : List ℕ} {all : List Flag} → FlagsAfter [] all t v → (Begins 45 v → ⊥) → length all ≡ 0 → NoFlags t
 no_flags {t = t} read stop none = λ on off u flags. at flags
   where

@@ -33,7 +33,7 @@ decided_all test (c ∷ cs) = elim (decided_true (test c)) [
   ]
 ]
 
--- the longest front of a text that passes a test
+-- the longest start of a text that passes a test
 pub front_of : (test : CharacterTest) (t : List ℕ) → (front : List ℕ) × (rest : List ℕ) × SplitsFront test t front rest
 front_of test [] = ([], [], record { whole = refl; all = tt; ends = tt })
 front_of test (c ∷ u) = elim (cases_Bool (passes test c)) [
@@ -43,7 +43,7 @@ front_of test (c ∷ u) = elim (cases_Bool (passes test c)) [
   | inr fails ↦ ([], c ∷ u, record { whole = refl; all = tt; ends = fails })
 ]
 
--- an element stands at some place of a list, or at none
+-- an element is at some index of a list, or at none
 place_or_none : (A : Type 0) → ((a b : A) → Decided (a ≡ b)) → (x : A) (xs : List A)
     → ((k : ℕ) × (k < length xs) × ((d : A) → get_or xs k d ≡ x)) ⊎ ((k : ℕ) (d : A) → k < length xs → get_or xs k d ≢ x)
 place_or_none A each x [] = inr (λ k d within. absurd (omega (arith, within)))
@@ -59,7 +59,7 @@ place_or_none A each x (y ∷ ys) = elim (each y x) [
     apart ys other nowhere zero d within = other
     apart ys other nowhere (suc k) d within = nowhere k d (omega (arith, within))
 
--- no element stands twice, or one does
+-- the elements are distinct, or aren't
 pub decided_once : (A : Type 0) → ((a b : A) → Decided (a ≡ b)) → (xs : List A) → Decided (AllPairs (λ (a b : A). a ≢ b) xs)
 decided_once A each [] = inl (λ i j d less within. absurd (omega (arith, within)))
 decided_once A each (x ∷ xs) = elim (decided_once A each xs) [

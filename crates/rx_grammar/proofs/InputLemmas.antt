@@ -14,7 +14,7 @@ rest_is e f = cc
 pub apart : {t u v : List ℕ} {a b : ℕ} → t ≡ a ∷ u → t ≡ b ∷ v → (a == b) ≡ false → ⊥
 apart {a = a} {b = b} e f different = eqb-false a b different (first_is e f)
 
--- nor with two that a test tells apart
+-- nor with two that a test distinguishes
 pub told_apart : {t u v : List ℕ} {a b : ℕ} (p : ℕ → Bool) → t ≡ a ∷ u → t ≡ b ∷ v → p a ≡ true → p b ≡ false → ⊥
 told_apart p e f passes fails = true≢false (sym passes ∙ ap p (first_is e f) ∙ fails)
 
@@ -26,7 +26,7 @@ Stops-not {a = a} p stops e passes =
 pub Begins-from : {t u : List ℕ} {a : ℕ} → t ≡ a ∷ u → Begins a t
 Begins-from {u = u} {a = a} e = subst (Begins a) (sym e) refl
 
--- a text has one longest front that passes a test
+-- a text has one longest start that passes a test
 pub fronts : (p : ℕ → Bool) (xs ys u v : List ℕ) → AllByRecursion (λ c. p c ≡ true) xs → AllByRecursion (λ c. p c ≡ true) ys → Stops p u → Stops p v → xs ++ u ≡ ys ++ v → (xs ≡ ys) × (u ≡ v)
 fronts p [] [] u v all all' stops stops' e = (refl, e)
 fronts p [] (y ∷ ys) u v all all' stops stops' e = absurd (Stops-not p stops e all'.0)

@@ -26,7 +26,7 @@ names_of-alternation [] = refl
 names_of-alternation (branch ∷ []) = sym (append-nil (names_of branch))
 names_of-alternation (first ∷ second ∷ others) = all_names first second others
 
--- the names of trees in a row, of which the last one stands first
+-- the names of trees in a row, the last one first
 abbrev row_names : List Tree → List Name
 row_names trees = flat_map names_of (reverse trees)
 

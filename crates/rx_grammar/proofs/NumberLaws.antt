@@ -50,7 +50,7 @@ length-numbers : (xs : List Tree) → length (flat_map numbers_of xs) ≡ groups
 length-numbers [] = refl
 length-numbers (x ∷ xs) = length-append (numbers_of x) (flat_map numbers_of xs) ∙ ap (λ n. length (numbers_of x) + n) (length-numbers xs)
 
--- a tree that is made of the last trees has their groups
+-- a tree of the last trees has their groups
 joined_groups : (tree : Tree) (n : ℕ) (trees : List Tree) → numbers_of tree ≡ flat_map numbers_of (reverse (take n trees)) → groups_of (tree ∷ drop n trees) ≡ groups_of trees
 joined_groups tree n trees is =
     let made : length (numbers_of tree) ≡ groups_of (take n trees) =
@@ -80,7 +80,7 @@ after_nodes-groups : (trees : List Tree) (nodes : List NodeKind) → groups_of (
 after_nodes-groups trees [] = omega arith
 after_nodes-groups trees (node ∷ nodes) = omega (arith, after_nodes-groups (after_node trees node) nodes, after_node-groups trees node)
 
--- nodes that make one tree are as many groups as it has
+-- the nodes of one tree are as many groups as it has
 pub groups_in-tree : {tree : Tree} (nodes : List NodeKind) → trees_of nodes ≡ tree ∷ [] → groups_in nodes ≡ length (numbers_of tree)
 groups_in-tree {tree = tree} nodes one =
     let all : groups_of (trees_of nodes) ≡ 0 + groups_in nodes = after_nodes-groups [] nodes in

@@ -1,4 +1,4 @@
--- Why a text is refused, both ways.
+-- Why a text is refused, in both directions.
 use Rattle.std.proofs.Common.{◌≡◌, ◌≢◌, ◌↔◌, ℕ, ◌≤◌, List, Result, Ok, Err, IfOk, IfErr, refl}
 use Rattle.rx_grammar.specs.declared.error.SyntaxError.{SyntaxError}
 use Rattle.rx_grammar.specs.declared.error.SyntaxError.TheVariants.{TooLong, Nesting, Outside, Memory}
@@ -29,7 +29,7 @@ outside_exactly text settings tree size (Err Nesting) fits spells reason some = 
 outside_exactly text settings tree size (Err Outside) fits spells reason some = (λ e. (fits, reason), λ never. refl)
 outside_exactly text settings tree size (Err Memory) fits spells reason some = absurd (some refl)
 
--- a reader's refusal is a reason
+-- a reader's error is a reason
 pub reason_of : (text : List ℕ) (settings : Settings) {P : Type 0} (e : SyntaxError) → (P → NeverSpells text settings) → IsRefusedWhere e P → IsReason e text settings
 reason_of text settings TooLong f h = absurd h
 reason_of text settings Nesting f h = absurd h

@@ -17,14 +17,14 @@ use Rattle.rx_grammar.proofs.RepetitionDecisions.{postfixes_or_none}
 use Rattle.rx_grammar.proofs.HeadDecisions.{head_or_none}
 use Rattle.rx_grammar.proofs.AtomDecisions.{plain_or_none}
 
--- a part of the text leads on to a later place
+-- a part of the text leads to a later position
 record LeadsOn (place : PatternPlace) (t : List ℕ) : Type 0 where
   next : PatternPlace
   rest : List ℕ
   same : SameEnds place t next rest
   shorter : length rest < length t
 
--- the whole text leads to a place where no group is open
+-- the whole text leads to a position without open groups
 record LeadsToEnd (place : PatternPlace) (t : List ℕ) : Type 0 where
   next : PatternPlace
   same : SameEnds place t next []
@@ -91,7 +91,7 @@ end_read : (place : PatternPlace) (around : List OpenGroup) → place.around ≡
 end_read place [] is = inl (record { next = place; same = SameEnds-none place []; closed = is })
 end_read place (o ∷ os) is = inr (group_open_at_end place (λ none. let e : o ∷ os ≡ [] = sym is ∙ none in absurd (cc)))
 
--- from a place on a text completes the pattern, or doesn't
+-- from a position on a text completes the pattern, or doesn't
 text_read : (fuel : ℕ) (place : PatternPlace) (t : List ℕ) → length t ≤ fuel → LeadsToEnd place t ⊎ NoEnds place t
 text_read fuel place [] long = end_read place place.around refl
 text_read zero place (c ∷ v) long = absurd (omega (arith, long))

@@ -89,7 +89,7 @@ spells_deeper text settings next tree same closed is once size =
       size = size;
     }
 
--- what a text spells, at whatever limit, completes it from its start
+-- what a text spells, at any limit, completes it from its start
 completes_from : {text : List ℕ} {settings : Settings} {tree : Tree} (limit : ℕ) → (spells : Spells text (with_limit limit settings) tree) → Completes (place_at_start settings) text tree spells.depth
 completes_from {text = text} {settings = settings} limit spells =
     subst (λ x. Resumes [] no_level settings 0 text x spells.depth) (sym spells.tree_is) (whole (ends_branches (branches_limit settings.nest_limit spells.whole)))

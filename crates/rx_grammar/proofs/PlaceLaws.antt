@@ -1,4 +1,4 @@
--- How the parser's place goes on with what it reads.
+-- How the parser's position advances with what it reads.
 use Rattle.std.proofs.Common.{◌≡◌, ℕ, ◌+◌, ◌≤◌, ◌<◌, List, [], ◌∷◌, ◌++◌, length, reverse, min, max, ◌-◌, ◌^◌, Result, Ok, Err, MatchResult, IsErrAnd, refl, sym, ap, ap₂, subst, ◌∙◌, arith, length-append}
 use Rattle.std.proofs.lemmas.List.{reverse-append, length-reverse}
 use Rattle.rx_grammar.specs.declared.error.SyntaxError.{SyntaxError}
@@ -31,7 +31,7 @@ pub result_map : {T E : Type 0} (P P' : T → Type 0) (Q Q' : E → Type 0) (r :
 result_map P P' Q Q' (Ok x) f g h = f x h
 result_map P P' Q Q' (Err e) f g h = g e h
 
--- an error that `?` passes on
+-- an error that `?` returns
 pub err_map : {T : Type 0} (P : T → Type 0) (Q : Type 0) (r : Result T SyntaxError) → IsErrAnd r (λ e. e ≡ Memory) → MatchResult r P (λ e. IsRefusedWhere e Q)
 err_map P Q (Ok x) h = absurd h
 err_map P Q (Err e) h = subst (λ x. IsRefusedWhere x Q) (sym h) tt
@@ -61,7 +61,7 @@ level_item {level = level} {below = below} made deep is group branch depth kept_
   depth_is = depth ∙ ap₂ (λ x y. max x y) is.depth_is kept_is ∙ held-max level.depth deep;
 }
 
--- the groups around a place
+-- the groups around a position
 pub record Innermost (around : Around) (arounds : List Around) (groups : List OpenGroup) (trees : List Tree) : Type 0 where
   pub group : OpenGroup
   pub others : List OpenGroup
@@ -124,7 +124,7 @@ pub captured_grouped : (number n : ℕ) (k : Capture) (tree : Tree) → number �
 captured_grouped number n (numbered name) tree e = ap (λ x. captured x (numbered name) tree) e
 captured_grouped number n unnumbered tree e = refl
 
--- how a place and the text there go on to the next place
+-- how a position and the text there lead to the next position
 pub same_setting : {t u : List ℕ} {s' : Settings} (place : PatternPlace) → Setting place.settings t s' u → SameEnds place t (record place { settings = s' }) u
 same_setting place one = record { on = λ tree depth r. setting_on one r; back = λ tree depth r. setting_back one r }
 
@@ -140,7 +140,7 @@ same_atom place one postfixes = record {
   back = λ tree depth r. item_back (plain_atom one) postfixes r;
 }
 
--- the place after a group
+-- the position after a group
 abbrev pub behind_group : PatternPlace → OpenGroup → List OpenGroup → PatternPlace
 behind_group place group others = record { settings = group.settings; groups = place.groups; level = group.level; around = others }
 

@@ -1,4 +1,4 @@
--- What a reader that finds nothing knows: the readings of a text, turned round.
+-- What a reader that finds nothing knows: the readings of a text, negated.
 use Rattle.std.proofs.Common.{◌≡◌, ℕ, ◌+◌, ◌≤◌, Bool, true, false, List, ◌∷◌, length, take, drop, Option, Some, None, MatchOption, Result, Ok, Err, IfOk, is_some, refl, sym, ap, subst, ◌∙◌, arith, length-append}
 use Rattle.std.proofs.lemmas.Bool.{cond-true, cond-false}
 use Rattle.std.proofs.lemmas.List.{take_at, drop_at}

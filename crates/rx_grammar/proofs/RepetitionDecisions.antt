@@ -1,4 +1,4 @@
--- What stands after an atom is decided.
+-- What follows an atom is decidable.
 use Rattle.std.proofs.Common.{◌≡◌, ◌⊎◌, inl, inr, ℕ, zero, suc, ◌+◌, ◌≤◌, Bool, not, List, [], ◌∷◌, length, Option, Some, None, refl, sym, ap, subst, arith}
 use Rattle.std.proofs.lemmas.Bool.{cases_eq}
 use Rattle.rx_sets.proofs.Decisions.{decided_le, decided_both}

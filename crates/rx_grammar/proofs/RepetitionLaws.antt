@@ -1,4 +1,4 @@
--- What stands after an atom has one reading.
+-- What follows an atom has one reading.
 use Rattle.std.proofs.Common.{◌≡◌, ℕ, ◌≤◌, Bool, true, false, not, List, [], ◌∷◌, ◌++◌, length, Option, Some, refl, sym, ap, ap₂, subst, ◌∙◌, arith}
 use Rattle.std.specs.List.{AllByRecursion}
 use Rattle.rx_grammar.specs.declared.hir.Repetition.{Repetition}
@@ -111,19 +111,19 @@ postfixes_unique {h = h} (further postfix others) (further postfix' others') =
     let same = postfix_unique postfix postfix' in
     postfixes_unique others (postfixes_along (ap (λ r. repeated r h) same.0) refl same.1 others')
 
--- what is in braces begins with a number
+-- the text in braces starts with a number
 pub no_count : {t u : List ℕ} {n : ℕ} {m : Option ℕ} → ((k : ℕ) (v : List ℕ) → Number t k v → ⊥) → CountInBraces t n m u → ⊥
 no_count none (exactly number close) = none _ _ number
 no_count none (at_least number comma close) = none _ _ number
 no_count none (between number comma second close order) = none _ _ number
 
--- with } or a comma behind it
+-- with } or a comma after it
 pub no_end : {t u v : List ℕ} {k n : ℕ} {m : Option ℕ} → Number t k v → (Begins 125 v → ⊥) → (Begins 44 v → ⊥) → CountInBraces t n m u → ⊥
 no_end here no_close no_comma (exactly number close) = no_close (Begins-from ((number_unique here number).1 ∙ close))
 no_end here no_close no_comma (at_least number comma close) = no_comma (Begins-from ((number_unique here number).1 ∙ comma))
 no_end here no_close no_comma (between number comma second close order) = no_comma (Begins-from ((number_unique here number).1 ∙ comma))
 
--- and behind the comma } or a second number, no smaller than the first, and then }
+-- and after the comma } or a second number, no smaller than the first, and then }
 pub second_number : {t u v w : List ℕ} {k n : ℕ} {m : Option ℕ} → Number t k v → v ≡ 44 ∷ w → (Begins 125 w → ⊥) → CountInBraces t n m u
     → (j : ℕ) × (x : List ℕ) × Number w j x × Begins 125 x × (k ≤ j)
 second_number here e no_close (exactly number close) = absurd (apart e ((number_unique here number).1 ∙ close) refl)
@@ -140,7 +140,7 @@ braces_read e (plus e') = absurd (apart e e' refl)
 braces_read e (question e') = absurd (apart e e' refl)
 braces_read e (in_braces e' inside) = in_braces_along (rest_is e e') inside
 
--- where no count stands no postfix does
+-- without a count there is no postfix
 pub no_postfix : {swap : Bool} {t u : List ℕ} {r : Repetition} → ((n : ℕ) (m : Option ℕ) (v : List ℕ) → Count t n m v → ⊥) → Postfix swap t r u → ⊥
 no_postfix none (alone count stop) = none _ _ _ count
 no_postfix none (marked count mark) = none _ _ _ count

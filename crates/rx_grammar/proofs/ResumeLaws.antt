@@ -1,4 +1,4 @@
--- How each part of a pattern brings the place in it further.
+-- How each part of a pattern advances the position in it.
 use Rattle.std.proofs.Common.{◌≡◌, ℕ, ◌+◌, Bool, false, List, [], ◌∷◌, ◌++◌, append-nil, append_assoc, max, refl, sym, ap, ap₂, subst, ◌∙◌, arith}
 use Rattle.std.proofs.lemmas.Bool.Decides.{nat_tests}
 use Rattle.rx_grammar.specs.Settings.{Settings}
@@ -424,7 +424,7 @@ pub close_back : {o : OpenGroup} {os : List OpenGroup} {l : Level} {s : Settings
 close_back {l = l} {s = s} {m = m} {v = v} is postfixes resumes =
     within (ends_here l s m (Stops-from goes_on_in_branches is refl)) (record { behind = v; parenthesis = is; postfixes = postfixes }) resumes
 
--- refusals
+-- errors
 record FirstPostfixes (swap : Bool) (h : Tree) (d : ℕ) (v : List ℕ) : Type 0 where
   g : Tree
   e : ℕ
@@ -451,7 +451,7 @@ no_close is none resumes =
     let found = parts resumes in
     none found.g found.e found.v (closes_with is found.ends found.closes)
 
--- the end of a group where none is open
+-- the end of a group without an open one
 pub no_open_group : {l : Level} {s : Settings} {m depth : ℕ} {t v : List ℕ} {tree : Tree} → t ≡ 41 ∷ v → Resumes [] l s m t tree depth → ⊥
 no_open_group is (whole ends) =
     let end = ended_here (Stops-from goes_on_in_branches is refl) ends in

@@ -1,4 +1,4 @@
--- What is known of trees in a row, and of the tree that they become.
+-- Properties of trees in a row, and of the tree that they become.
 use Rattle.std.proofs.Common.{◌≡◌, ℕ, suc, ◌+◌, ◌-◌, ◌≤◌, ◌<◌, ◌^◌, min, Bool, true, false, ◌&&◌, ◌||◌, List, [], ◌∷◌, ◌++◌, length, get_or, take, drop, map, reverse, append_assoc, refl, sym, ap, ap₂, subst, ◌∙◌, arith, length-append, Option}
 use Rattle.std.specs.List.{flat_map}
 use Rattle.std.proofs.lemmas.List.{reverse-append, map-append, take_more, length-map, get_or-append-add, get_or_append_left}
@@ -238,7 +238,7 @@ pub alternation-empty-at : {row : RowProperties} {node : NodeKind} (trees : List
 alternation-empty-at {row = row} trees count e =
     subst (λ n. MayFollow trees n → AreRowProperties row (take (child_count n) trees) → row.any_may_be_empty ≡ may_be_empty (first_of (after_node trees n))) (sym e) (alternation-empty trees count)
 
--- what is known of the last part of a row
+-- properties of the last part of a row
 subtrees-end : (tree : Tree) → (front : List Tree) × (subtrees_of tree ≡ front ++ tree ∷ [])
 subtrees-end empty = ([], refl)
 subtrees-end (one_of ranges) = ([], refl)
@@ -258,7 +258,7 @@ last_part tree d =
 some_nodes : (tree : Tree) → 1 ≤ length (subtrees_of tree)
 some_nodes tree = let end = subtrees-end tree in omega (arith, ap length end.1, length-append end.0 (tree ∷ []))
 
--- before the last k trees stands the next one
+-- before the last k trees is the next one
 pub next_part : (trees : List Tree) (k : ℕ) (d : Properties) → k < length trees
     → (length (row_subtrees (take k trees)) < length (row_subtrees trees))
     × (get_or (map properties_of (row_subtrees trees)) (length (row_subtrees trees) - length (row_subtrees (take k trees)) - 1) d ≡ properties_of (get_or trees k empty))

@@ -1,4 +1,4 @@
--- What is left of a text after a part of it is shorter.
+-- The rest of a text after a part of it is shorter.
 use Rattle.std.proofs.Common.{ℕ, ◌≤◌, ◌<◌, Bool, List, ◌∷◌, length, map, Option, ap, arith, length-append}
 use Rattle.rx_grammar.specs.declared.flags.Flag.{Flag}
 use Rattle.rx_sets.specs.declared.items.ClassItem.{ClassItem}

@@ -73,7 +73,7 @@ pub PostfixesSoFar-end : {swap : Bool} {tree : Tree} {depth deep kept : ℕ} {t 
     → Stops is_postfix_start u → kept ≡ held deep → PostfixesRead swap tree depth t trees below kept u
 PostfixesSoFar-end so_far stops is = record { made = so_far.made; deep = _; postfixes = so_far.on _ _ _ (repetitions.ended stops); trees_are = so_far.trees_are; kept_is = is }
 
--- where a postfix should stand, none does
+-- if there is a postfix start but no postfix
 pub PostfixesSoFar-none_here : {swap : Bool} {tree : Tree} {depth deep : ℕ} {t u : List ℕ} {trees below : List Tree} → PostfixesSoFar swap tree depth t trees below deep u
     → (Stops is_postfix_start u → ⊥) → NoPostfix swap u → NoPostfixes swap tree depth t
 PostfixesSoFar-none_here {swap = swap} {u = u} so_far starts none = λ made deep w postfixes. no_more (so_far.back made deep w postfixes)

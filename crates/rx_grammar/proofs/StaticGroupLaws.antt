@@ -1,4 +1,4 @@
--- How many groups stand in each match: of trees in a row, and never more than there are nodes.
+-- The number of groups in each match: of trees in a row, and never more than there are nodes.
 use Rattle.std.proofs.Common.{◌≡◌, ℕ, zero, suc, ◌+◌, ◌≤◌, ◌<◌, ◌==◌, cond, Bool, true, false, List, [], ◌∷◌, ◌++◌, length, reverse, take, Option, Some, None, refl, sym, ap, subst, ◌∙◌, arith, length-append}
 use Rattle.std.proofs.lemmas.List.{reverse-append}
 use Rattle.std.specs.Option.{SomeIff}
@@ -212,7 +212,7 @@ group-groups trees (node.Concat count) one may is = absurd one
 group-groups trees (node.Alternation count) one may is = absurd one
 group-groups trees (node.Repeat repetition) one may is = absurd one
 
--- a sum that fits is told
+-- a sum that fits is returned
 pub told_some : (sum : Option ℕ) (Fits : Type 0) (value : ℕ) → SomeIff sum Fits value → Fits → sum ≡ Some value
 told_some None Fits value not fits = absurd (not fits)
 told_some (Some n) Fits value told fits = ap Some told.1

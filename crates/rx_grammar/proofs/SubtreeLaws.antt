@@ -1,4 +1,4 @@
--- The parts of trees that are made of nodes.
+-- The parts of trees that are built from nodes.
 use Rattle.std.proofs.Common.{◌≡◌, ℕ, ◌+◌, ◌≤◌, List, [], ◌∷◌, ◌++◌, length, take, drop, map, reverse, append_assoc, append-nil, refl, sym, ap, ap₂, ◌∙◌, arith, length-drop}
 use Rattle.std.specs.List.{flat_map}
 use Rattle.std.proofs.lemmas.List.{reverse-append, take-append-drop, map-append, length-reverse, length-take-le}

@@ -22,14 +22,14 @@ pub record IsLevel (heights : Heights) (level : Level) (trees below : List Tree)
   pub branch_is : heights.branch ≡ length (reverse level.branches ++ below)
   pub depth_is : heights.depth ≡ held level.depth
 
--- the groups around a place, the innermost one first
+-- the groups around a position, the innermost one first
 pub data Surround : List Around → List OpenGroup → List Tree → Type 0 where
   outermost : Surround [] [] []
   further : {around : Around} {group : OpenGroup} {arounds : List Around} {groups : List OpenGroup} {trees below : List Tree}
       → IsLevel around.heights group.level trees below → around.config ≡ group.settings → around.number ≡ opened group.groups group.capture
       → capture_of around.captures ≡ group.capture → Surround arounds groups below → Surround (around ∷ arounds) (group ∷ groups) trees
 
--- the parser is at a place, with more trees that are no items yet, the last one first
+-- the parser is at a position, with more trees that are no items yet, the last one first
 pub record ParserIsAt (parser : Parser) (pending : List Tree) (place : PatternPlace) : Type 0 where
   pub trees : List Tree
   pub below : List Tree

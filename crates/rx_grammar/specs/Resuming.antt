@@ -23,8 +23,8 @@ pub record OpenGroup : Type 0 where
   pub groups : ℕ
   pub capture : Capture
 
--- a place between two items of a pattern: its settings, the number of groups opened before it, what
--- was read of the innermost group, and the groups around that, the innermost one first
+-- a position between two items of a pattern: its settings, the number of groups opened before it,
+-- what was read of the innermost group, and the groups around that, the innermost one first
 pub record PatternPlace : Type 0 where
   pub settings : Settings
   pub groups : ℕ
@@ -80,7 +80,8 @@ pub data Resumes : List OpenGroup → Level → Settings → ℕ → List ℕ �
 abbrev pub Completes : PatternPlace → List ℕ → Tree → ℕ → Type 0
 Completes place t tree depth = Resumes place.around place.level place.settings place.groups t tree depth
 
--- a text at one place completes the pattern to the same trees as another text at another place
+-- a text at one position completes the pattern to the same trees as another text at another
+-- position
 pub record SameEnds (place : PatternPlace) (t : List ℕ) (place' : PatternPlace)
     (t' : List ℕ) : Type 0 where
   pub on : (tree : Tree) (depth : ℕ) → Completes place t tree depth → Completes place' t' tree depth

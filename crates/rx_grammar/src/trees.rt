@@ -120,7 +120,7 @@ impl TreeStack {
     {
         let width = node.width();
         let properties = node.properties(self.last_row(width));
-        self.properties.reserve(1)?; // so that both lists grow or none does
+        self.properties.reserve(1)?; // so that both lists grow or neither does
         self.nodes.push(node)?;
         self.properties.push(properties)?;
         self.height = self.height - width + 1;
@@ -158,7 +158,7 @@ impl TreeStack {
         let count = self.height() - height;
         match count {
             0 => self.push(Node::Empty),
-            1 => Ok(()), // an item by itself
+            1 => Ok(()), // a single item
             _ => self.push(Node::Concat(count)),
         }
     }
@@ -172,7 +172,7 @@ impl TreeStack {
         let count = self.height() - height;
         match count {
             0 => self.push(Node::Empty),
-            1 => Ok(()), // a branch by itself
+            1 => Ok(()), // a single branch
             _ => self.push(Node::Alternation(count)),
         }
     }

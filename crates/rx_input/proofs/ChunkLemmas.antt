@@ -1,4 +1,4 @@
--- Chunks one after the other.
+-- Chunks in sequence.
 use Rattle.std.proofs.Common.{◌≡◌, ℕ, zero, suc, List, [], ◌∷◌, ◌++◌, ◌<◌, ◌≤◌, ◌⊎◌, inl, inr, get_or, ◌+◌, ◌-◌, ◌^◌, length, take, drop, refl, ap, sym, ◌∙◌, append_assoc, append-nil, arith}
 use Rattle.std.specs.Prelude.{MatchOption, Option, Some, None, unwrap_or}
 use Rattle.std.proofs.lemmas.List.{take_all, length-append, take-append-drop}
@@ -21,7 +21,7 @@ chunk_past [] i past = refl
 chunk_past (chunk ∷ chunks) zero past = absurd (omega (arith, past))
 chunk_past (chunk ∷ chunks) (suc i) past = chunk_past chunks i (omega (arith, past))
 
--- one chunk more
+-- one more chunk
 joined-next : (chunks : Chunks) (i : ℕ) → i < length chunks → joined (take (suc i) chunks) ≡ joined (take i chunks) ++ chunk_at chunks i
 joined-next [] i inside = absurd (omega (arith, inside))
 joined-next (chunk ∷ chunks) zero inside = append-nil chunk.now
@@ -41,7 +41,7 @@ length-more chunks i = elim (inside_or i (length chunks)) [
       omega (arith, same, ap length (chunk_past chunks i past))
 ]
 
--- the bytes up to a chunk and those behind it
+-- the bytes up to a chunk and those after it
 joined-halves : (chunks : Chunks) (i : ℕ) → joined chunks ≡ joined (take i chunks) ++ joined (drop i chunks)
 joined-halves chunks i = ap joined (sym (take-append-drop i chunks)) ∙ flat_map-append (λ (c : Bor (List ℕ)). c.now) (take i chunks) (drop i chunks)
 
@@ -51,7 +51,7 @@ length-part chunks i = let e : length (joined chunks) ≡ length (joined (take i
 pub joined_all : (chunks : Chunks) (i : ℕ) → length chunks ≤ i → joined (take i chunks) ≡ joined chunks
 joined_all chunks i past = ap joined (take_all i chunks past)
 
--- behind the last chunk
+-- after the last chunk
 pub all_before : (chunks : Chunks) (i from : ℕ) → length chunks ≤ i → SameBefore chunks i from → SameBefore chunks (length chunks) from
 all_before chunks i from past same = joined_all chunks (length chunks) (omega arith) ∙ sym (joined_all chunks i past) ∙ same
 
@@ -63,7 +63,7 @@ no_bytes (x ∷ xs) e = absurd (omega (arith, e))
 pub skip : (chunks : Chunks) (i : ℕ) → i < length chunks → length (chunk_at chunks i) ≡ 0 → SameBefore chunks (i + 1) i
 skip chunks i inside e = joined-more chunks i inside ∙ ap (λ xs. joined (take i chunks) ++ xs) (no_bytes (chunk_at chunks i) e) ∙ append-nil (joined (take i chunks))
 
--- the chunk that is shown
+-- the current chunk
 pub shown_fits : (chunks : Chunks) (i start total : ℕ) → IsShowing chunks i start total → start + length (chunk_at chunks i) ≤ length (joined chunks)
 shown_fits chunks i start total shows = omega (arith, shows.starts, length-more chunks i, length-part chunks (i + 1))
 
@@ -138,6 +138,6 @@ pub starts_at : (chunks : Chunks) (total : ℕ) → total ≡ length (joined chu
 starts_at chunks total is bound None same = starts_empty chunks total is bound same
 starts_at chunks total is bound (Some j) f = starts_filled chunks j total is bound f.0 f.1 f.2
 
--- one chunk more is counted
+-- one more chunk is counted
 pub counts_more : (chunks : Chunks) (i : ℕ) (d : Bor (List ℕ)) → i < length chunks → length (joined (take i chunks)) + length (get_or chunks i d).now ≤ length (joined chunks)
 counts_more chunks i d inside = omega (arith, length-more chunks i, length-part chunks (i + 1), ap length (chunk_is chunks i d inside))

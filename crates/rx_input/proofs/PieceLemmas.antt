@@ -1,4 +1,4 @@
--- Parts of a piece are parts of the content.
+-- Parts of a chunk are parts of the haystack.
 use Rattle.std.proofs.Common.{◌≡◌, ℕ, zero, suc, List, [], ◌∷◌, ◌<◌, ◌≤◌, ◌⊎◌, inl, inr, ◌+◌, ◌-◌, length, take, drop, min, refl, ap, sym, ◌∙◌, arith}
 use Rattle.std.proofs.lemmas.List.{drop-take, take-take, drop-drop, length-take-le, length-drop, length-take}
 use Rattle.rx_input.specs.Inputs.{between}
@@ -15,7 +15,7 @@ part_of xs start end index n few inside =
 none_or_some : (n : ℕ) → (n ≡ 0) ⊎ (0 < n)
 none_or_some n = grind arith
 
--- bytes of the piece from the place on, or from the content's end
+-- bytes of the chunk from the offset on, or from the haystack's end
 pub read_part : (c : CursorState) (from index n : ℕ) → IsLawful c → c.start + index ≡ min from (length c.content) → n ≤ c.end - c.start - index → take n (drop index (piece_of c)) ≡ take n (drop from c.content)
 read_part c from index n lawful at few = elim (none_or_some n) [
   | inl none ↦ ap (λ k. take k (drop index (piece_of c))) none ∙ sym (ap (λ k. take k (drop from c.content)) none)
@@ -30,7 +30,7 @@ part_len index n xs = let e : index + n - index ≡ n = omega arith in ap (λ k.
 pub piece_len : (c : CursorState) → IsLawful c → length (piece_of c) ≡ c.end - c.start
 piece_len c lawful = omega (arith, length-take-le (c.end - c.start) (drop c.start c.content) (omega (arith, lawful.within, lawful.ordered, length-drop c.start c.content)))
 
--- bytes between two places
+-- bytes between two offsets
 ordered_or : (from to : ℕ) → (from ≤ to) ⊎ (to < from)
 ordered_or from to = grind arith
 

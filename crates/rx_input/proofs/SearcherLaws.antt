@@ -1,4 +1,4 @@
--- Steps of a searcher, by what a finder tells.
+-- Steps of a searcher, from the results of a finder.
 use Rattle.std.proofs.Common.{◌≡◌, ◌≢◌, ℕ, ◌+◌, ◌-◌, ◌≤◌, ◌<◌, Bool, true, false, ◌==◌, Option, Some, None, Result, Ok, Err, refl, sym, ap, subst, ◌∙◌, arith}
 use Rattle.std.proofs.lemmas.Bool.{eq-eqb, eqb-true}
 use Rattle.std.specs.Iterator.{size}
@@ -39,7 +39,7 @@ module _ {F A : Type 0} (tells : Finder F A) (end : A → ℕ) (passes : Option 
 
 -- ---- the span's start
 
--- a match that a finder tells ends where the span may start
+-- a match of a finder ends where the span may start
 pub may_start : {F A : Type 0} (tells : Finder F A) (end : A → ℕ) (p q : F) (i j : InputState) (o : Option A) (a : A) → StaysInside tells end → tells p q i (Ok o) j → o ≡ Some a → EndsInside j (end a)
 may_start tells end p q i j o a stays told some =
     let told' = subst (λ x. tells p q i (Ok x) j) some told in
@@ -51,7 +51,7 @@ may_start tells end p q i j o a stays told some =
       fits = ends.fits;
     }
 
--- ---- how many half matches come
+-- ---- the number of half matches
 
 fewer_behind : (is_at_last : Bool) (start stop end : ℕ) → start ≤ end → end ≤ stop → (is_at_last ≡ true → start < end) → items_at_most false true (stop - end) < items_at_most false is_at_last (stop - start)
 fewer_behind true start stop end on within beyond = omega (arith, beyond refl, within)
@@ -71,7 +71,7 @@ last_end_here : (last : Option ℕ) (end start : ℕ) → last ≡ Some end → 
 last_end_here last end start last_is here = ap (λ o. is_last_end o start) last_is ∙ eq-eqb end start (sym here)
 
 module _ {F : Type 0} (tells : Finder F HalfFound) (p q : F) (old new : SearcherState) (a : HalfFound) (stays : StaysInside tells end_of_half) where
-  -- what is left, by where the span starts and ends
+  -- what is left, from the span's start and end
   left_is : (left : InputState) → left.asked.span.end ≡ old.input.asked.span.end → HasPassedMatch left a.offset new
       → items_at_most false true (old.input.asked.span.end - a.offset) ≡ items_at_most false (is_last_end new.last_match_end new.input.asked.span.start) (new.input.asked.span.end - new.input.asked.span.start)
   left_is left same passed =
@@ -97,7 +97,7 @@ module _ {F : Type 0} (tells : Finder F HalfFound) (p q : F) (old new : Searcher
       subst (λ n. n < items_at_most false (is_last_end old.last_match_end old.input.asked.span.start) (old.input.asked.span.end - old.input.asked.span.start)) (left_is left same passed)
       (fewer_further (is_last_end old.last_match_end old.input.asked.span.start) old.input.asked.span.start old.input.asked.span.end a.offset (omega (arith, ends.behind_start, start)) (omega (arith, ends.before_end, end)))
 
-  -- fewer are left behind a half match
+  -- fewer are left after a half match
   pub half_fewer : Advances tells end_of_half IsAtLast p q old (Ok (Some a)) new → size (half_matches_left new false) < size (half_matches_left old false)
   half_fewer advances = fewer_by advances.left advances.next advances.goes_on
 
@@ -105,6 +105,6 @@ at_least_one : (is_at_last : Bool) (n : ℕ) → 0 < items_at_most false is_at_l
 at_least_one true n = omega arith
 at_least_one false n = omega arith
 
--- some may be left where it isn't over
+-- some may be left unless it has ended
 pub some_left : (old new : SearcherState) → size (half_matches_left new true) < size (half_matches_left old false)
 some_left old new = at_least_one (is_last_end old.last_match_end old.input.asked.span.start) (old.input.asked.span.end - old.input.asked.span.start)

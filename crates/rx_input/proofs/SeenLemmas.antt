@@ -1,4 +1,4 @@
--- What is seen around a place.
+-- What is seen around an offset.
 use Rattle.std.proofs.Common.{◌≡◌, ℕ, List, ◌++◌, ◌≤◌, ◌+◌, ◌-◌, length, take, drop, min, max, ap, sym, ◌∙◌, arith}
 use Rattle.std.proofs.lemmas.List.{length-take-le, take-append-le}
 use Rattle.rx_util.specs.declared.search.Span.{Span}

@@ -7,7 +7,8 @@ use Rattle.rx_util.specs.declared.search.MatchError.{MatchError}
 use Rattle.rx_util.specs.Search.{Found, HalfFound}
 use Rattle.rx_input.specs.Inputs.{InputState, HasSpan}
 
--- an input, and the end of the last match, if there was one; the span starts there
+-- an input, and the end of the last match, if there was one; the span starts there, unless it was
+-- moved since
 pub record SearcherState : Type 0 where
   pub input : InputState
   pub last_match_end : Option ℕ
@@ -45,8 +46,8 @@ pub record StaysInside {F A : Type 0} (tells : Finder F A) (end : A → ℕ) : T
   pub inside : (p q : F) (i j : InputState) (a : A) → tells p q i (Ok (Some a)) j
       → EndsInside i (end a)
 
--- the next result: what the finder returns, or, if that is a match to skip, what it returns from
--- one byte further on
+-- the next result: what the finder returns, or, if that is a match to skip, what it returns with
+-- the span starting one byte later
 pub data TellsNext {F A : Type 0} (tells : Finder F A) (passes : A → Type 0) (p q : F)
     (i : InputState) (r : Result (Option A) MatchError) (j : InputState) : Type 0 where
   at_once : tells p q i r j → ((a : A) → r ≡ Ok (Some a) → passes a → ⊥)
@@ -90,9 +91,9 @@ module _ {F I : Type 0}
     pub inside : StaysInside (finder_of calls state) end_of_match
 
   -- the next match of a searcher: what the finder returns, or, if that is an empty match at the end
-  -- of the last one, what it returns from one byte further on. After a match the span starts at its
-  -- end, which is then the last one. After none, and after an error, the searcher keeps its last
-  -- end.
+  -- of the last one, what it returns with the span starting one byte later. After a match the span
+  -- starts at its end, which is then the last one. After none, and after an error, the searcher
+  -- keeps its last end.
   pub record GivesNextMatch (finder : F) (old : SearcherState)
       (r : Result (Option Found) MatchError) (new : SearcherState) : Type 0 where
     pub left : F
@@ -117,7 +118,8 @@ module _ {F I : Type 0}
     pub inside : StaysInside (finder_of calls state) end_of_half
 
   -- the next half match, with the finder after it: like the next match, but the first one is
-  -- skipped whenever it ends at the end of the last one, because its start isn't known
+  -- skipped if it ends at the end of the last one, because its start isn't known. The one found
+  -- with the span starting one byte later isn't skipped, wherever it ends.
   abbrev pub GivesHalfMatchBy : F → F → SearcherState → Result (Option HalfFound) MatchError
       → SearcherState → Type 0
   GivesHalfMatchBy finder left old r new =

@@ -50,7 +50,7 @@ impl<C: Cursor> Searched for Input<C> {
 ///
 /// Each match comes from a finder, which searches the span of the input; then the span starts at
 /// the match's end. An empty match at the end of the previous one is skipped: the search is
-/// repeated from one byte further on.
+/// repeated once with the span starting one byte later.
 #[derive(Drop)]
 pub struct Searcher<I: Searched> {
     input: I,
@@ -83,8 +83,8 @@ impl<I: Searched> Searcher<I> {
     }
 
     /// Returns the input of the next search, which may be changed. The end of the last match is
-    /// kept: if the next search finds an empty match there, or any half match that ends there, it
-    /// is repeated once from one byte further on.
+    /// kept: if the next search finds an empty match there, or any half match that ends there, that
+    /// one is skipped, and the search is repeated once with the span starting one byte later.
     pub fn input(&mut self) -> &mut I
         ensures* writes_back { sem 𝓛 (LendsInput I.row I.Searched self.entry result) }
         ensures input { I.state result.now ≡ self.old.input }
@@ -92,7 +92,8 @@ impl<I: Searched> Searcher<I> {
         &mut self.input
     }
 
-    /// Returns the next match. The same as [`try_advance`](Self::try_advance).
+    /// Returns the next match. The same as [`try_advance`](Self::try_advance), with the same
+    /// requirements and errors.
     pub fn advance<F>(&mut self, finder: F) -> Result<Option<Match>, MatchError>
     where
         F: FnMut(&mut I) -> Result<Option<Match>, MatchError>,
@@ -105,8 +106,8 @@ impl<I: Searched> Searcher<I> {
     /// Returns the next match, or `None` if the finder finds none.
     ///
     /// This is what the finder returns for the input. If that is an empty match at the end of the
-    /// last one, it is what the finder returns from one byte further on. After a match the span
-    /// starts at its end.
+    /// last one, it is skipped: the result is then what the finder returns with the span starting
+    /// one byte later. Nothing else is skipped. After a match the span starts at its end.
     ///
     /// # Requires
     ///
@@ -144,7 +145,9 @@ impl<I: Searched> Searcher<I> {
     /// same requirements and errors.
     ///
     /// A half match has no start, so the first one is skipped if it ends at the end of the last
-    /// one, whether it is empty or not. The one found from one byte further on isn't.
+    /// one. It is empty then, unless the span's start was moved back through
+    /// [`input`](Self::input). The one found with the span starting one byte later isn't skipped,
+    /// wherever it ends.
     pub fn try_advance_half<F>(&mut self, mut finder: F) -> Result<Option<HalfMatch>, MatchError>
     where
         F: FnMut(&mut I) -> Result<Option<HalfMatch>, MatchError>,
@@ -225,7 +228,7 @@ impl<I: Searched> Searcher<I> {
         self.last_match_end = Some(end);
     }
 
-    /// Continues one byte further on.
+    /// Moves the start of the span one byte further.
     fn step(&mut self)
         requires inside { self.old.input.asked.span.start ≤ self.old.input.asked.span.end }
         requires fits { self.old.input.asked.span.start + 1 < 2 ^ 64 }

@@ -1,4 +1,4 @@
--- Empty edges, by where they lead.
+-- Epsilon transitions, by the states to which they lead.
 use Rattle.std.proofs.Common.{◌≡◌, ℕ, zero, suc, ◌<◌, ◌⊎◌, Bool, true, false, List, [], ◌∷◌, ◌++◌, length, map, set, get_or, Option, Some, None, Vec, slice_get, Contains, refl, sym, ap, subst, ◌∙◌, arith, inl, inr}
 use Rattle.std.proofs.lemmas.Bool.{cases_eq}
 use Rattle.std.proofs.lemmas.List.Elements.{Contains-append_left, Contains-append_right}
@@ -17,7 +17,7 @@ use Rattle.rx_lists.specs.Arrivals.{edges_of, nodes_in, IsInList, AreTold}
 use Rattle.rx_lists.specs.Leading.{GoesTo}
 use Rattle.rx_lists.proofs.FillLaws.{edge_of}
 
--- ---- which nodes an empty edge leads from and to
+-- ---- from where and to where an epsilon transition leads
 
 read_goes : (q next i : ℕ) (o : Option (Option ℕ)) (r : ℕ × ℕ) → GoesTo (read_on q next i o) r → ⊥
 read_goes q next i None r (n, e) = absurd (cc e)
@@ -52,7 +52,7 @@ edge_in place i q (state.Union alternates) r to less = with_first alternates.ite
 edge_in place i q (state.Capture slot next) r to less = with_first (next ∷ []) r q less (goes_in (next ∷ []) r to)
 edge_in place i q (state.Match pattern) r to less = absurd to
 
--- ---- lists of which some get a node
+-- ---- lists to which a node is added
 
 pub told_part : (from : ℕ × ℕ) (ons ons' : List ℕ) (old new : List (List (ℕ × ℕ))) → ons ≡ ons' → AreTold from ons old new → AreTold from ons' old new
 told_part from ons ons' old new same told = subst (λ xs. AreTold from xs old new) same told
@@ -122,6 +122,6 @@ told_put lists at from old new within was more = record {
         same f = cc f
     the_on (suc k) on e = absurd (cc e)
 
--- the edges of the states so far are told of
+-- the lists have the transitions of the states so far
 abbrev pub TellSoFar : List State → ℕ → List (List (ℕ × ℕ)) → Type 0
 TellSoFar states number lists = (q k on : ℕ) (x : State) → q < number → slice_get states q ≡ Some x → slice_get (edges_of x) k ≡ Some on → on < length states → IsInList lists on (q, 0)

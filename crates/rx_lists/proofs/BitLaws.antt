@@ -1,4 +1,4 @@
--- Sets of numbers in bits: what comes in.
+-- Sets of numbers in bits: what is added.
 use Rattle.std.proofs.Common.{◌≡◌, ◌≢◌, ℕ, ◌*◌, ◌/◌, ◌%◌, ◌^◌, ◌<◌, true, eqb, List, length, get_or, set, get_or-set_same, get_or-set_other, sym, ap, ◌∙◌, arith, w64, inl, inr}
 use Rattle.std.proofs.lemmas.Bool.{cases_eq, eq-eqb}
 use Rattle.std.proofs.lemmas.Nat.Bits.{bit_at_set_same, bit_at_set_other}

@@ -1,4 +1,4 @@
--- A set that is filled with the nodes that lead at a place.
+-- A set that is filled with the leading nodes at an offset.
 use Rattle.std.proofs.Common.{◌≡◌, ℕ, zero, suc, ◌↔◌, Bool, IsTrue, List, [], ◌∷◌, ◌++◌, map, Some, option_map, slice_get, Contains, refl, sym, ap, subst, ◌∙◌, arith, inl, inr}
 use Rattle.std.proofs.lemmas.List.Elements.{Contains-push_cases}
 use Rattle.std.proofs.lemmas.Option.{slice_get-map}
@@ -34,7 +34,7 @@ sound_more p place beyond old new q x more at on sound m i moves r c = elim (Con
       (led_by m i old beyond q x (move_at place i q x) (moves.at_state q x at) (stays_at place i q x) (sound m i moves) (on i))
 ]
 
--- where no node that leads on is left out all that lead are there
+-- if no node that leads on is left out, all leading nodes are there
 all_there : (p : ByteProgram) (place : Place) (beyond here : Nodes) (those : ℕ × ℕ → Type 0) → AreClosed p place beyond here those
     → ((q : ℕ × ℕ) (k : ℕ) → index_from 0 (widths_of p) q.0 q.1 ≡ Some k → those q) → (m : Machine (ℕ × ℕ) Slots) (i : ℕ) → Moves m i p.states place
     → {q : ℕ × ℕ} → IsNodeIn p.states q → LeadsBy m i (λ r. Contains beyond r) q → Contains here q

@@ -1,4 +1,4 @@
--- The list of matches, from place to place.
+-- The list of matches, offset by offset.
 use Rattle.std.proofs.Common.{◌≡◌, ℕ, ◌+◌, ◌-◌, ◌*◌, ◌<◌, ◌≤◌, ◌++◌, Bool, true, false, cond, max, IfSome, IsSomeAnd, IfOk, Result, Ok, Err, List, [], ◌∷◌, length, map, Option, Some, None, refl, sym, ap, ap₂, subst, ◌∙◌, arith, inl, inr}
 use Rattle.std.proofs.lemmas.Bool.{cases_eq}
 use Rattle.std.proofs.lemmas.List.{append-nil}
@@ -40,7 +40,7 @@ module _ (p : ByteProgram) (s : Search) (q len : ℕ) where
   begins_inside : (from i : ℕ) → begins_from s from i → i ≤ highest s
   begins_inside from i b = omega (arith, b.0.0.1, b.0.0.3, b.0.0.4)
 
-  -- no start counts at a place: the list goes on at the next one
+  -- no start counts at an offset: the list goes on at the next one
   pub pass_none : (found : List Listed) (after : Bool) (from i : ℕ) → (after ≡ true → from ≡ i) → from ≤ i → Never from i → AreListedTo p s q len found after from i → AreListedTo p s q len found false from (i + 1)
   pass_none found true from i at le never so_far ms on = so_far ms (no_start never (behind_end (machine_in p s) (begins_from s) (λ j. no_slots len) (first_node q) (omega (arith, le)) on))
   pass_none found false from i at le never so_far ms on = so_far ms (no_start never on)
@@ -58,7 +58,7 @@ module _ (p : ByteProgram) (s : Search) (q len : ℕ) where
   pub over_none : (found : List Listed) (after : Bool) (from i : ℕ) → highest s < i + 1 → Never from i → AreListedTo p s q len found after from i → Lists p s q len false s.start s.start (map outcome_of_listed found)
   over_none found after from i past never so_far = all_listed found (so_far [] (over (last_over from i past never)))
 
-  -- an empty match where one ended is passed over
+  -- an empty match where one ended is skipped
   pub pass_empty : (found : List Listed) (from i : ℕ) (t : Outcome Slots) → from ≡ i → t.end ≡ i → begins_from s from i → Follows (machine_in p s) i [] ((no_slots len, first_node q) ∷ []) (Some t)
       → AreListedTo p s q len found true from i → AreListedTo p s q len found false (i + 1) (i + 1)
   pass_empty found from i t at end b follows so_far ms on =
@@ -81,7 +81,7 @@ module _ (p : ByteProgram) (s : Search) (q len : ℕ) where
       (subst (λ xs. Lists p s q len false s.start s.start xs) (with_last found x ms)
       (so_far (outcome_of_listed x ∷ ms) (listed b follows (λ is at at'. not is at') (subst (λ e. Lists p s q len true e e ms) (sym same) on))))
 
-  -- and so is one that is told of by what was found
+  -- and so is the one that was found
   pub list_told : (found found' : List Listed) (after : Bool) (from i : ℕ) (x : Listed) (t : Outcome Slots) → found' ≡ found ++ x ∷ [] → Some (outcome_of_listed x) ≡ Some t → (after ≡ true → t.end ≡ i → ⊥) → IsFoundOnward p s q len from i (Some t)
       → AreListedTo p s q len found after from i → AreListedTo p s q len found' true t.end t.end
   list_told found found' after from i x t more told not is so_far =
@@ -98,7 +98,7 @@ module _ (p : ByteProgram) (s : Search) (q len : ℕ) where
       (λ j above below b leads. omega (arith, first, above, below, b.0.0.0))
       (subst (λ j. Lists p s q len false s.start j ms) (omega (arith, first)) on)
 
-  -- and there is nothing where no place is inside
+  -- nothing if no offset is inside
   pub none_inside : ((i : ℕ) → IsInside s i → ⊥) → Lists p s q len false s.start s.start []
   none_inside never = over (λ j above b leads. never j b.0.0)
 
@@ -132,7 +132,7 @@ are_all p s q len found reads law starts lists =
     (subst (λ xs. Listing (machine_in p s) (begins_from s) (λ j. xs) (first_node q) false s.start s.start (map outcome_of_listed found)) empty lists) in
     record { matches = on.0; are_all = on.2; found_are = sym (back found) ∙ ap (λ ms. map listed_from ms) (sym on.1) ∙ forth len on.0 }
 
--- where no walk starts there is no match
+-- if no walk starts, there is no match
 pub no_walks : (p : ByteProgram) (s : Search) (len : ℕ) (found : List Listed) → found ≡ [] → start_node (character_program p) s.anchoring ≡ None → AreAllMatches p s len found
 no_walks p s len found none starts = record {
   matches = [];
@@ -140,7 +140,7 @@ no_walks p s len found none starts = record {
   found_are = none;
 }
 
--- ---- how many places are left
+-- ---- the number of offsets left
 
 pub fewer_none : (content : List ℕ) (i : ℕ) (after : Bool) → i ≤ length content → places_left content (i + 1) false < places_left content i after
 fewer_none content i true within = omega (arith, within)
@@ -150,7 +150,7 @@ pub fewer_listed : (content : List ℕ) (i end : ℕ) (after : Bool) → i ≤ l
 fewer_listed content i end true within on not = elim (cases_eq end i) [ inl same ↦ absurd (not refl same) | inr other ↦ omega (arith, within, on, other) ]
 fewer_listed content i end false within on not = omega (arith, within, on)
 
--- ---- how many places were read
+-- ---- the number of offsets read
 
 two_at_most : (after : Bool) → cond after 2 0 ≤ 2
 two_at_most true = omega arith
@@ -183,7 +183,7 @@ pub found_reached : (p : ByteProgram) (s : Search) (q len i : ℕ) (found : Opti
 found_reached p s q len i None slots block leads follows reaches = absurd (follows_never pair_told follows leads)
 found_reached p s q len i (Some x) slots block leads follows reaches = reaches
 
--- ---- what is found at a place
+-- ---- what is found at an offset
 
 pub found_by : (p : ByteProgram) (s : Search) (q len from i : ℕ) (out : Option (Outcome Slots)) → begins_from s from i → Follows (machine_in p s) i [] ((no_slots len, first_node q) ∷ []) out → IsFoundOnward p s q len from i out
 found_by p s q len from i None b follows = λ b'. follows_never pair_told follows
@@ -215,7 +215,7 @@ module _ (p : ByteProgram) (s : Search) (q len : ℕ) where
   went_less content i pos found after after' from (Some e) taken at next on further within =
       subst (λ b. places_left content pos b < places_left content i after) (sym taken.0) (subst (λ j. places_left content j true < places_left content i after) (sym at) (fewer_listed content i e after within on further))
 
-  -- and how many places were read until then
+  -- and the number of offsets read until then
   pub read_on : (s' : Search) (r r' r'' i pos : ℕ) (found : List Listed) (after after' : Bool) (from : ℕ) (out : Option Ending) (end : Option ℕ) → IsTaken p s q len i found after' from end → r' ≤ r + read_before s' i after → r'' ≤ r' + reads_for i out → lowest s' ≤ i
       → IfSome end (λ e. pos ≡ e) → (end ≡ None → pos ≡ i + 1) → IfSome end (λ e. IsSomeAnd out (λ x. x.end ≡ e)) → (end ≡ None → IfSome out (λ x. x.end ≡ i)) → IfSome end (λ e. i ≤ e) → IfSome end (λ e. after ≡ true → e ≡ i → ⊥)
       → r'' ≤ r + read_before s' pos after'
@@ -225,7 +225,7 @@ module _ (p : ByteProgram) (s : Search) (q len : ℕ) where
   read_on s' r r' r'' i pos found after after' from (Some x) (Some e) taken so_far more above at next is passed on further =
       subst (λ b. r'' ≤ r + read_before s' pos b) (sym taken.0) (subst (λ j. r'' ≤ r + read_before s' j true) (sym at) (read_found s' r r' r'' i e after so_far (subst (λ j. r'' ≤ r' + (1 + (j + 1 - i))) is more) above on further))
 
-  -- the block at hand reaches back there
+  -- the current block reaches back there
   pub reached_on : (i pos : ℕ) (out : Option Ending) (end : Option ℕ) (block : Block) → BlockReaches block (end_or out i) → IfSome end (λ e. pos ≡ e) → (end ≡ None → pos ≡ i + 1) → IfSome end (λ e. IsSomeAnd out (λ x. x.end ≡ e)) → (end ≡ None → IfSome out (λ x. x.end ≡ i)) → BlockReaches block pos
   reached_on i pos None None block reaches at next is passed = omega (arith, reaches, next refl)
   reached_on i pos (Some x) None block reaches at next is passed = omega (arith, reaches, next refl, passed refl)
@@ -236,7 +236,7 @@ module _ (p : ByteProgram) (s : Search) (q len : ℕ) where
   ended_list i found after from None taken none past = taken.3 past
   ended_list i found after from (Some e) taken none past = absurd (cc none)
 
-  -- what was found at a place is taken there
+  -- what was found at an offset is taken there
   pub taken_at : (s' : Search) (from i at : ℕ) (out : Option Ending) (slots slots' : Slots) (found found' : List Listed) (after after' : Bool) (from' : ℕ) (end : Option ℕ)
       → ((p : ByteProgram) → (s : Search) → (q : ℕ) → (len : ℕ) → IsFoundOnward p s q len from at (outcome_of out slots') → from ≤ at → (after ≡ true → from ≡ at) → AreListedTo p s q len found after from at → IsTaken p s q len at found' after' from' end)
       → s' ≡ s → at ≡ i → slots' ≡ slots → IsFoundOnward p s' q len from i (outcome_of out slots) → from ≤ i → (after ≡ true → from ≡ i) → AreListedTo p s q len found after from i → IsTaken p s q len i found' after' from' end
@@ -246,7 +246,7 @@ module _ (p : ByteProgram) (s : Search) (q len : ℕ) where
       subst (λ j. IsTaken p s q len j found' after' from' end) there
       (taken p s q len here (omega (arith, le, there)) (λ yes'. stands yes' ∙ sym there) (subst (λ j. AreListedTo p s q len found after from j) (sym there) so_far))
 
--- it stands inside then, if it does where nothing was listed
+-- the input is inside then, if it is when nothing was listed
 pub inside_on : (s : Search) (end : Option ℕ) (pos : ℕ) → IfSome end (λ e. pos ≡ e) → IfSome end (λ e. IsInside s e) → (end ≡ None → IsInside s pos) → IsInside s pos
 inside_on s None pos at inside on = on refl
 inside_on s (Some e) pos at inside on = subst (λ j. IsInside s j) (sym at) inside

@@ -1,4 +1,4 @@
--- Sets that were come to, and from which of them the pass back comes to which other one.
+-- Known sets, and the backward steps between them.
 use Rattle.std.proofs.Common.{◌≡◌, ℕ, ◌+◌, ◌*◌, ◌<◌, ◌≤◌, ◌⊎◌, zero, suc, Result, Ok, Err, IfOk, IfSome, List, [], ◌∷◌, ◌++◌, length, take, replicate, set, Option, Some, None, slice_get, Contains, refl, sym, ap, subst, ◌∙◌, arith, inl, inr}
 use Rattle.rx_walks.specs.Looks.{Look}
 use Rattle.rx_walks.specs.Machines.{Machine}
@@ -28,7 +28,7 @@ filled_before p place order beyond here widths widths' words words' same same' o
     leading_set p s i widths here words' same at.0 at.1
     (leading_by p s i place beyond here moves filled (loaded_set p s (i + 1) order beyond widths widths' words same same' ordered these all leading)) is
 
--- ---- a place with the same byte
+-- ---- an offset with the same byte
 
 same_move : (states : List State) (place place' : Place) → ((l : Look) → Asks states l → ⊥) → place.byte ≡ place'.byte → (i : ℕ) (q : ℕ × ℕ) (x : State) → slice_get states q.0 ≡ Some x → move_at place i q x ≡ move_at place' i q x
 same_move states place place' none same i q (state.Ranges automaton r) at = ap (λ b. read_next (step_of automaton.value) q.0 r q.1 i b) same
@@ -45,14 +45,14 @@ same_moves m i states place place' none same moves = record {
   elsewhere = moves.elsewhere;
 }
 
--- what is before a set at one place is so at each with that byte, where no looks are asked for
+-- what is before a set at one offset is before it at each with that byte, without assertions
 pub always_before : (p : ByteProgram) (place : Place) (byte : ℕ) (words words' : List ℕ) → ((l : Look) → Asks p.states l → ⊥) → place.byte ≡ Some byte → IsSetBefore p place words words' → IsAlwaysBefore p byte words words'
 always_before p place byte words words' none is before place' is' s i inside moves leading =
     before s i inside (same_moves _ i p.states place' place none (is' ∙ sym is) moves) leading
 
--- ---- what is told
+-- ---- the numbers
 
--- what is read of a list in which one member was put is that one, or was there
+-- an element of a list in which one was set is that one, or was there
 got_set : {X : Type 0} (xs : List X) (i : ℕ) (v : X) (j : ℕ) (z : X) → slice_get (set xs i v) j ≡ Some z → ((j ≡ i) × (v ≡ z)) ⊎ (slice_get xs j ≡ Some z)
 got_set [] i v j z at = inr at
 got_set (x ∷ xs) zero v zero z at = inl (refl, one at)
@@ -71,7 +71,7 @@ got_filled (suc n) v zero z at = one at
     one e = cc e
 got_filled (suc n) v (suc j) z at = got_filled n v j z at
 
--- and of one that was cut or filled up, likewise
+-- and of one that was cut or filled up, too
 got_resized : {X : Type 0} (xs : List X) (n m : ℕ) (v : X) (j : ℕ) (z : X) → slice_get (take n xs ++ replicate m v) j ≡ Some z → (slice_get xs j ≡ Some z) ⊎ (v ≡ z)
 got_resized xs zero m v j z at = inr (got_filled m v j z at)
 got_resized [] (suc n) m v j z at = inr (got_filled m v j z at)
@@ -95,7 +95,7 @@ got_within (x ∷ xs) ys (suc j) z within at = got_within xs ys j z (omega (arit
 pub some_same : {X : Type 0} {a b : X} → Some a ≡ Some b → a ≡ b
 some_same e = cc e
 
--- one number more is told
+-- one more number is noted
 pub tell_more : (p : ByteProgram) (k k' : KnownView) (number byte to : ℕ) → byte < 256 → k'.sets ≡ k.sets → k'.before ≡ set k.before (column_of number byte) (Some to) → TellsTruly p k
     → ((beyond here : List ℕ) → slice_get k.sets number ≡ Some beyond → slice_get k.sets to ≡ Some here → IsAlwaysBefore p byte beyond here) → TellsTruly p k'
 tell_more p k k' number byte to low same more told one number' byte' to' beyond here low' get from there =
@@ -111,14 +111,14 @@ tell_more p k k' number byte to low same more told one number' byte' to' beyond 
       | inr old ↦ told number' byte' to' beyond here low' old from' there'
     ]
 
--- of lists of which more is kept, and no more is told
+-- lists with more sets and no more numbers
 pub more_known : (p : ByteProgram) (k k' : KnownView) → HasColumns k → ((number : ℕ) (other : List ℕ) → number < length k.sets → slice_get k'.sets number ≡ Some other → slice_get k.sets number ≡ Some other)
     → ((column to : ℕ) → slice_get k'.before column ≡ Some (Some to) → slice_get k.before column ≡ Some (Some to)) → TellsTruly p k → TellsTruly p k'
 more_known p k k' columns kept less told number byte to beyond here low get from there =
     let get' = less (column_of number byte) to get in
     told number byte to beyond here low get' (kept number beyond (omega (arith, columns.from (column_of number byte) to get', low)) from) (kept to here (columns.to (column_of number byte) to get') there)
 
--- a list of numbers that is filled up tells no more
+-- a list of numbers that is filled up has no more numbers
 pub less_told : (before before' : List (Option ℕ)) (n m : ℕ) → before' ≡ take n before ++ replicate m None → (column to : ℕ) → slice_get before' column ≡ Some (Some to) → slice_get before column ≡ Some (Some to)
 less_told before before' n m filled column to get = elim (got_resized before n m None column (Some to) (ap (λ xs. slice_get xs column) (sym filled) ∙ get)) [
   | inl e ↦ e
@@ -134,7 +134,7 @@ still_there sets sets' more is number other get = ap (λ xs. slice_get xs number
 pub put_there : (sets sets' : List (List ℕ)) (more : List ℕ) → sets' ≡ sets ++ more ∷ [] → slice_get sets' (length sets) ≡ Some more
 put_there sets sets' more is = ap (λ xs. slice_get xs (length sets)) is ∙ got_last sets more
 
--- what is read of the numbers
+-- an element of the numbers
 pub before_told : (p : ByteProgram) (k : KnownView) (number byte : ℕ) (o : Option ℕ) → byte < 256 → slice_get k.before (column_of number byte) ≡ Some o → TellsTruly p k
     → IfSome o (λ to. (beyond here : List ℕ) → slice_get k.sets number ≡ Some beyond → slice_get k.sets to ≡ Some here → IsAlwaysBefore p byte beyond here)
 before_told p k number byte None low get told = tt
@@ -154,7 +154,7 @@ columns_more k k' more columns is room less = let len = count_more k.sets k'.set
   to = λ column to get. omega (arith, columns.to column to (less column to get), len);
 }
 
--- ---- in answers
+-- ---- in results
 
 pub if_some : {A : Type 0} (o : Option A) (B C : A → Type 0) → ((x : A) → B x → C x) → IfSome o B → IfSome o C
 if_some (Some x) B C f has = f x has
@@ -164,7 +164,7 @@ pub if_ok : {A E : Type 0} (r : Result A E) (B C : A → Type 0) → ((x : A) �
 if_ok (Ok x) B C f has = f x has
 if_ok (Err e) B C f has = tt
 
--- the number of the set at hand, where it is told
+-- the number of the current set, if there is one
 pub numbered_is : (o : Option ℕ) (number : ℕ) (sets : List (List ℕ)) (words : List ℕ) → o ≡ Some number → IfSome o (λ n. slice_get sets n ≡ Some words) → slice_get sets number ≡ Some words
 numbered_is None number sets words is has = absurd (cc is)
 numbered_is (Some n) number sets words is has = subst (λ x. slice_get sets x ≡ Some words) (some_same is) has

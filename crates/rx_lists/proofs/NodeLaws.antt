@@ -1,4 +1,4 @@
--- The moves of a program's nodes, whatever the place.
+-- The moves of a program's nodes, whatever the offset.
 use Rattle.std.proofs.Common.{◌≡◌, ℕ, zero, suc, ◌+◌, ◌⊎◌, Bool, true, false, List, [], ◌∷◌, map, Option, Some, None, slice_get, refl, sym, ap, subst, ◌∙◌, inl, inr}
 use Rattle.rx_program.specs.declared.states.State.{State}
 use Rattle.rx_program.specs.declared.states.State.TheVariants as state
@@ -28,7 +28,7 @@ first_may (Some (state.Union alternates)) = refl
 first_may (Some (state.Capture slot next)) = refl
 first_may (Some (state.Match pattern)) = refl
 
--- to which nodes a move leads
+-- the nodes to which a move leads
 abbrev pub Stays : ℕ → ℕ × ℕ → State → Move (ℕ × ℕ) → Type 0
 Stays i q x (ends k) = Unit {0}
 Stays i q x (goes rs) = (k : ℕ) (r : ℕ × ℕ) → slice_get rs k ≡ Some r → r.1 ≡ 0
@@ -111,7 +111,7 @@ module _ (p : ByteProgram) (place : Place) (m : Machine (ℕ × ℕ) Slots) (i :
     | inr none ↦ absurd (cc none)
   ]
 
-  -- a node with something to do has an index, and a state
+  -- a node with a move has an index, and a state
   pub node_index : (q : ℕ × ℕ) → IsNodeIn p.states q → (m.move i q ≡ goes [] → ⊥) → (k : ℕ) × (x : State) × (index_from 0 (widths_of p) q.0 q.1 ≡ Some k) × (slice_get p.states q.0 ≡ Some x)
   node_index q may some = by_state (slice_get p.states q.0) refl
     where
@@ -123,7 +123,7 @@ module _ (p : ByteProgram) (place : Place) (m : Machine (ℕ × ℕ) Slots) (i :
       by_state None at = absurd (some (moves.elsewhere q at))
       by_state (Some x) at = by_index x at (index_from 0 (widths_of p) q.0 q.1) refl
 
--- an edge is something to do
+-- an edge is a move
 pub edge_does : (rs : List (ℕ × ℕ)) (k : ℕ) (r : ℕ × ℕ) → slice_get rs k ≡ Some r → goes rs ≡ goes [] → ⊥
 edge_does rs k r at e = no_edge (same e)
   where
@@ -133,7 +133,7 @@ edge_does rs k r at e = no_edge (same e)
     no_edge : rs ≡ [] → ⊥
     no_edge f = let g : slice_get [] k ≡ Some r = ap (λ xs. slice_get xs k) (sym f) ∙ at in cc g
 
--- and so is what a path begins with
+-- and so is the start of a path
 pub path_does : {N : Type 0} {m : Machine (ℕ × ℕ) N} {i p e : ℕ} {q : ℕ × ℕ} → Path m q i p e → m.move i q ≡ goes [] → ⊥
 path_does (at_end is) f = absurd (cc (sym is ∙ f))
 path_does (by_edge rs r k is at path) f = edge_does rs k r at (sym is ∙ f)

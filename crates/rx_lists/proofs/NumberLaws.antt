@@ -1,10 +1,10 @@
--- Places at distances, by their numbers.
+-- Offsets at distances, by their numbers.
 use Rattle.std.proofs.Common.{◌≡◌, ℕ, suc, ◌+◌, ◌-◌, ◌*◌, ◌/◌, ◌%◌, ◌<◌, ◌≤◌, sym, ap, subst, ◌∙◌, arith, inl, inr}
 use Rattle.std.proofs.lemmas.Bool.{cases_lt}
 use Rattle.std.proofs.Math.Nat.{mul-le-mul_right, mod-lt}
 use Rattle.std.proofs.lemmas.Nat.{div-add-mod'}
 
--- a multiple of a distance lies a distance before a further one
+-- a multiple of a distance is at least a distance less than a greater one
 pub one_less : (a b e : ℕ) → a < b → a * e + e ≤ b * e
 one_less a b e below =
     let le : suc a * e ≤ b * e = mul-le-mul_right e (omega (arith, below)) in
@@ -23,7 +23,8 @@ number_less n k d e le less = elim (cases_lt n k) [
   | inr above ↦ let more : k * e ≤ n * e = mul-le-mul_right e (omega (arith, above)) in omega (arith, le, less, more)
 ]
 
--- the block of a place lies a distance behind the one that was at hand, if that ended before the place
+-- the block of an offset is at least a distance after the current one, if that ends before the
+-- offset
 pub further_top : (last at top e k n : ℕ) → 0 < e → top + k * e ≡ last → top < at → at ≤ last → n ≡ (last - at) / e
     → (n < k) × (n * e ≤ last) × (at ≤ last - n * e) × (last - n * e + n * e ≡ last) × (last - n * e - e < at) × (top + e ≤ last - n * e)
 further_top last at top e k n spaced numbered past within is =

@@ -1,4 +1,4 @@
--- The pass back: from the nodes that lead at a place to those that lead at the one before.
+-- The backward pass: from the leading nodes at an offset to those at the one before.
 use Rattle.std.proofs.Common.{◌≡◌, ℕ, zero, suc, ◌+◌, ◌-◌, ◌*◌, ◌<◌, ◌≤◌, ◌⊎◌, false, List, [], ◌∷◌, ◌++◌, length, Some, slice_get, refl, sym, ap, subst, ◌∙◌, arith, inl, inr}
 use Rattle.std.proofs.lemmas.Bool.{cases_eq}
 use Rattle.std.proofs.lemmas.Bool.Decides.{nat_tests}
@@ -32,7 +32,7 @@ leading_by p s i place beyond here moves filled next = let m = machine_in p s in
 is_past : (low high i : ℕ) → high < i → is_within low high i ≡ false
 is_past low high i past = grind (arith, nat_tests)
 
--- no node leads from behind the last place
+-- no node leads after the last offset
 pub none_past : (p : ByteProgram) (s : Search) (i : ℕ) → highest s < i → AreLeading p s i []
 none_past p s i past = record {
   leads = λ q c. absurd (none_in q c);
@@ -49,7 +49,7 @@ got_pushed [] y (suc k) z at = absurd (cc at)
 got_pushed (x ∷ xs) y zero z at = inl at
 got_pushed (x ∷ xs) y (suc k) z at = elim (got_pushed xs y k z at) [ inl e ↦ inl e | inr both ↦ inr (ap suc both.0, both.1) ]
 
--- the empty set is that of a place behind the last one
+-- the empty set is that of an offset after the last one
 pub none_leads_past : (p : ByteProgram) (s : Search) (i : ℕ) (set : List ℕ) → highest s < i → ((q : ℕ × ℕ) → HasNode (widths_of p) set q → ⊥) → IsLeadingSet p s i set
 none_leads_past p s i set past none = record {
   leads = λ q has. absurd (none q has);
@@ -63,7 +63,7 @@ sets_more p s last distance sets sets' set more each leading k other get = elim 
   | inr both ↦ subst (λ j. IsLeadingSet p s (last - j * distance) other) (sym both.0) (subst (λ xs. IsLeadingSet p s (last - length sets * distance) xs) both.1 leading)
 ]
 
--- one more, of the place whose turn it is
+-- one more, of the offset that is due
 pub kept_more : (p : ByteProgram) (s : Search) (last distance i : ℕ) (sets sets' : List (List ℕ)) (set : List ℕ) → sets' ≡ sets ++ set ∷ [] → IsLeadingSet p s i set → last - length sets * distance ≡ i → AreLeadingSets p s last distance sets
     → AreLeadingSets p s last distance sets'
 kept_more p s last distance i sets sets' set more leading here each = sets_more p s last distance sets sets' set more each (subst (λ j. IsLeadingSet p s j set) (sym here) leading)
@@ -74,7 +74,7 @@ no_sets p s last distance sets none k set get = let e : slice_get [] k ≡ Some 
 pub count_more : (sets sets' : List (List ℕ)) (set : List ℕ) → sets' ≡ sets ++ set ∷ [] → length sets' ≡ length sets + 1
 count_more sets sets' set more = ap (λ xs. length xs) more ∙ length-append sets (set ∷ [])
 
--- one more place is known
+-- one more offset is known
 pub known_more : (p : ByteProgram) (s : Search) (i : ℕ) (set : List ℕ) → HasLeadingSets p s (i + 1) → IsLeadingSet p s i set → HasLeadingSets p s i
 known_more p s i set known leading j above below = elim (cases_eq j i) [
   | inl same ↦ (set, subst (λ k. IsLeadingSet p s k set) (sym same) leading)

@@ -21,7 +21,7 @@ pub marked_by : (p : ByteProgram) (place : Place) (q : ℕ × ℕ) (beyond old n
 marked_by p place q beyond old new widths x true same at on added = (added.0, subst (λ w. length new ≤ end_from 0 w) same added.1, (x, at, on))
 marked_by p place q beyond old new widths x false same at on added = (added.0, λ k i y idx at' on'. added.1 k (subst (λ w. index_from 0 w q.0 q.1 ≡ Some k) (sym same) idx))
 
--- what leads on by some nodes here does so by more
+-- what leads on because of some nodes here does so because of more
 leads_more : (old new beyond : Nodes) (move : Move (ℕ × ℕ)) → ((q : ℕ × ℕ) → Contains old q → Contains new q) → LeadsOn old beyond move → LeadsOn new beyond move
 leads_more old new beyond (ends k) more on = tt
 leads_more old new beyond (goes rs) more (n, r, get, c) = (n, r, get, more r c)
@@ -102,9 +102,9 @@ index_state first (y ∷ states) (suc q) s k e = index_state (first + width_of y
 pub in_order : (p : ByteProgram) (order : Nodes) → AreAllNodes p.states order → (q : ℕ × ℕ) (k : ℕ) → index_from 0 (widths_of p) q.0 q.1 ≡ Some k → Contains order q
 in_order p order all q k idx = let at = index_state 0 p.states q.0 q.1 k idx in all q.0 q.1 at.0 at.1 at.2
 
--- ---- back along empty edges
+-- ---- backward along epsilon transitions
 
--- the nodes with an empty edge to a node that lead on came in
+-- the nodes with an epsilon transition to a node that lead on were added
 abbrev pub IsBack : ByteProgram → Place → List (List (ℕ × ℕ)) → ℕ × ℕ → Nodes → Type 0
 IsBack p place lists r here = (q : ℕ × ℕ) → (r.1 ≡ 0) × IsInList lists r.0 q → (k i : ℕ) (x : State) → index_from 0 (widths_of p) q.0 q.1 ≡ Some k → slice_get p.states q.0 ≡ Some x
     → GoesTo (move_at place i q x) r → Contains here q
@@ -120,7 +120,7 @@ back_now p place lists beyond old new r round c q told k i x idx at to = round.r
 pub back_still : (p : ByteProgram) (place : Place) (lists : List (List (ℕ × ℕ))) (old new : Nodes) (r : ℕ × ℕ) → IsStill old new → IsBack p place lists r old → IsBack p place lists r new
 back_still p place lists old new r kept back q told k i x idx at to = held old new kept q (back q told k i x idx at to)
 
--- a node that stands so far to the front stood there
+-- a node that far in front was there
 pub still_there : (old new : Nodes) (j : ℕ) (r : ℕ × ℕ) → IsStill old new → j < length old → slice_get new j ≡ Some r → slice_get old j ≡ Some r
 still_there old new j r kept below e =
     let was : slice_get old j ≡ Some (get_or old j r) = slice_get-get_or old j r below in
@@ -152,7 +152,7 @@ fills p place lists order beyond here all tell sound real begun back = are_fille
     closed : AreClosed p place beyond here (λ q. Contains order q)
     closed q c k i x idx at on = by_move q c k i x idx at (move_at place i q x) refl on
 
--- ---- the list of nodes that were looked at
+-- ---- the list of nodes that were checked
 
 pub take_one_more : {X : Type 0} (xs : List X) (n : ℕ) (x : X) → slice_get xs n ≡ Some x → take (n + 1) xs ≡ take n xs ++ x ∷ []
 take_one_more {X} xs n x at = let more : n + 1 ≡ suc n = omega arith in ap (λ k. take k xs) more ∙ by_suc xs n at

@@ -7,7 +7,7 @@ use Rattle.rx_walks.specs.Leading.{LeadsToMatch, Follows, nothing, entered, lead
 use Rattle.rx_walks.proofs.FollowLaws.{leads_on}
 use Rattle.rx_walks.proofs.WalkLaws.{Contains-head, Contains-tail, Contains-cases}
 
--- of the threads that a step puts out at a place, what the first one that leads is followed to; where none leads, what the step met
+-- what the first leading thread of a step is followed to; if none leads, the step's match end
 pub data Chosen {Q N : Type 0} (m : Machine Q N) (i : ℕ) : List (N × Q) → Option (Outcome N) → Option (Outcome N) → Type 0 where
   none_leads : {end : Option (Outcome N)} → Chosen m i [] end end
   other_leads : {n : N} {q : Q} {others : List (N × Q)} {end out : Option (Outcome N)} → (LeadsToMatch m q i → ⊥) → Chosen m i others end out → Chosen m i ((n, q) ∷ others) end out
@@ -102,6 +102,6 @@ module _ {Q N : Type 0} (m : Machine Q N) (i : ℕ) (Here : Q → Type 0) (known
   step_follows {seen = seen} {seen' = seen'} (puts {q = q} r new is on) (dropped never d) part covers here chosen =
       step_follows on d (one_more seen seen' q part) (covers_never seen seen' q never covers) here.1 (not_first (read_never q r is never) chosen)
 
-  -- of one thread alone
+  -- for a single thread
   pub thread_follows : (n : N) (q : Q) (next : List (N × Q)) (end out : Option (Outcome N)) → Here q → Steps m i [] ((n, q) ∷ []) next end → Chosen m (i + 1) next end out → Follows m i [] ((n, q) ∷ []) out
   thread_follows n q next end out here steps chosen = step_follows steps (kept no_more) (λ x c. c) (λ x c. inl c) (here, tt) chosen

@@ -1,4 +1,4 @@
--- The walk that is followed alone, from place to place.
+-- The walk with a single thread, offset by offset.
 use Rattle.std.proofs.Common.{◌≡◌, ℕ, zero, suc, ◌+◌, ◌-◌, ◌<◌, ◌≤◌, ◌⊎◌, Bool, true, false, All, IfSome, IsSomeAnd, List, [], ◌∷◌, Option, Some, None, slice_get, Contains, refl, sym, ap, subst, ◌∙◌, arith, inl, inr}
 use Rattle.std.proofs.lemmas.Option.{slice_get_within, get_or_from_slice_get}
 use Rattle.std.proofs.lemmas.List.Elements.{All-get_or}
@@ -35,7 +35,7 @@ use Rattle.rx_lists.proofs.PassLaws.{none_past}
 use Rattle.rx_lists.proofs.RoundLaws.{in_order}
 use Rattle.rx_lists.proofs.SetLaws.{none_in}
 
--- ---- a place of a search
+-- ---- an offset of a search
 
 place_at : Haystack Look → ℕ → Place
 place_at h i = record {
@@ -63,14 +63,14 @@ is_place states h i inside = record { at = refl; inside = inside; byte = refl; l
     holds word_boundary = refl
     holds no_word_boundary = refl
 
--- a program's moves at a place inside are those of some place
+-- a program's moves at an offset inside are those of some position
 pub moves_inside : (p : ByteProgram) (s : Search) (i : ℕ) → lowest s ≤ i → i ≤ highest s → (place : Place) × Moves (machine_in p s) i p.states place
 moves_inside p s i above below = let h = haystack_in p.line_terminator s in (place_at h i, moves_of (moves_at_place p h i (place_at h i) (is_place p.states h i (within_is (lowest s) (highest s) i above below))))
 
 pub inside_is : (s : Search) (i : ℕ) → IsInside s i → (lowest s ≤ i) × (i ≤ highest s)
 inside_is s i inside = (omega (arith, inside.0, inside.2), omega (arith, inside.1, inside.3, inside.4))
 
--- ---- the nodes that lead are known
+-- ---- the leading nodes are known
 
 pub set_at : (p : ByteProgram) (s : Search) (top at i : ℕ) (sets : List (List ℕ)) (set : List ℕ) → AreLeadingSets p s top 1 sets → slice_get sets (top - at) ≡ Some set → at ≤ top → at ≡ i → IsLeadingSet p s i set
 set_at p s top at i sets set leading get within same = subst (λ j. IsLeadingSet p s j set) (omega (arith, within, same)) (leading (top - at) set get)
@@ -81,7 +81,7 @@ below_inside p s b i blocks inside = omega (arith, blocks.first_is, (inside_is s
 pub top_within : (p : ByteProgram) (s : Search) (b : Blocks) → AreBlocks p s b → b.block.top ≤ highest s
 top_within p s b blocks = omega (arith, blocks.numbered.2, blocks.last_is)
 
--- a block that reached back to a place reaches back to it and to the next one
+-- a block that reached back to an offset reaches back to it and to the next one
 pub reached : (p : ByteProgram) (s : Search) (b : Blocks) (block : Block) (at next : ℕ) → AreBlocks p s b → next ≡ at + 1 → ((i : ℕ) → b.first ≤ i → next ≤ i + 1 → BlockReaches b.block i → BlockReaches block i) → lowest s ≤ at → BlockReaches b.block at
     → BlockReaches block at × BlockReaches block next
 reached p s b block at next blocks is so above reaches =
@@ -104,7 +104,7 @@ leads_or_not p s i set leading q may = by_index (index_from 0 (widths_of p) q.0 
     by_index (Some k) at = by_bit k at (has_bit set k) refl
     by_index None at = inr (λ leads. let has = leading.all q may leads in absurd (cc (sym at ∙ has.1)))
 
--- a set in bits of nodes that lead
+-- a set in bits of leading nodes
 pub leading_set : (p : ByteProgram) (s : Search) (i : ℕ) (widths : List ℕ) (nodes : Nodes) (set : List ℕ) → widths ≡ widths_of p → lowest s ≤ i → i ≤ highest s → AreLeading p s i nodes → IsNodeSetOf widths nodes set → IsLeadingSet p s i set
 leading_set p s i widths nodes set same above below leading is = record {
   leads = λ q has. leading.leads q (is.these q (subst (λ w. HasNode w set q) (sym same) has));
@@ -124,7 +124,7 @@ loaded_set p s i order nodes widths widths' set same same' ordered these all lea
       all q has.0 (in_order p order ordered q has.0 has.1) (subst (λ w. HasNode w set q) (sym same) has) (subst (λ w. index_from 0 w q.0 q.1 ≡ Some has.0) (sym same') has.1);
 }
 
--- ---- a step, and the first thread that leads
+-- ---- a step, and the first leading thread
 
 pub some_and : {X : Type 0} (P : X → Type 0) (o : Option X) → IsSomeAnd o P → (x : X) × (o ≡ Some x) × P x
 some_and P (Some x) has = (x, refl, has)
@@ -155,7 +155,7 @@ walk_on p s i n q next end out known inside may steps chosen =
     let m = machine_in p s in
     thread_follows m i (λ r. IsNodeIn p.states r) (leads_or_not p s i here.0 here.1) (λ x r rs k may' is get. edge_stays p moves.0 m i moves.1 x r rs k is get) n q next end out may steps chosen
 
--- behind the last place nothing leads
+-- after the last offset nothing leads
 pub never_past : (p : ByteProgram) (s : Search) (i : ℕ) (t : Thread) → highest s < i → IsThreadOf p.states t → LeadsToMatch (machine_in p s) t.1 i → ⊥
 never_past p s i t past may leads = none_in t.1 ((none_past p s i past).all t.1 may leads)
 
@@ -179,7 +179,7 @@ chosen_nobody p s i next set end leading all none = chosen_none (machine_in p s)
 pub chosen_past : (p : ByteProgram) (s : Search) (i : ℕ) (next : List Thread) (end : Option (Outcome Slots)) → highest s < i → All (IsThreadOf p.states) next → Chosen (machine_in p s) i next end end
 chosen_past p s i next end past all = chosen_none (machine_in p s) i next end (λ k t get leads. never_past p s i t past (thread_at p.states next k t all get) leads)
 
--- an end that was met is at its place
+-- a match end is at its offset
 pub ends_there : (found : Option Ending) (met : Option ℕ) (at : ℕ) (slots : Slots) (P : ℕ → Type 0) → outcome_of found slots ≡ met_at at met slots → P at → IfSome found (λ e. P e.end)
 ends_there None met at slots P e has = tt
 ends_there (Some x) None at slots P e has = absurd (cc e)

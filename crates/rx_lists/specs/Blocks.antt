@@ -1,4 +1,4 @@
--- The nodes that lead, place by place, in sets that are made a block at a time.
+-- The leading nodes, offset by offset, in sets that are computed one block at a time.
 use Rattle.std.specs.Prelude.{◌≡◌, ℕ, ◌+◌, ◌*◌, ◌<◌, ◌≤◌, length}
 use Rattle.rx_walks.specs.Finds.{Search}
 use Rattle.rx_walks.specs.ProgramFinds.{lowest, highest}
@@ -8,12 +8,12 @@ use Rattle.rx_lists.specs.declared.blocks.Blocks.{Blocks}
 use Rattle.rx_lists.specs.LeadingSets.{HasLeadingSets, AreLeadingSets}
 use Rattle.rx_lists.specs.Passes.{IsReady}
 
--- the sets of a block go back to a place
+-- the sets of a block reach back to an offset
 abbrev pub BlockReaches : Block → ℕ → Type 0
 BlockReaches b i = b.top < i + length b.sets
 
--- sets that were kept at distances from the last place of a search, and those of the block at hand,
--- which begins at one of these places, are of the nodes that lead
+-- the sets kept at distances from the last offset of a search, and those of the current block,
+-- which ends at one of these offsets, are of the leading nodes
 pub record AreBlocks (p : ByteProgram) (s : Search) (b : Blocks) : Type 0 where
   pub ready : IsReady p b.pass
   pub first_is : b.first ≡ lowest s

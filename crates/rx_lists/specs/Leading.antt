@@ -1,4 +1,4 @@
--- The nodes that lead to a match, place by place from the last one back.
+-- The leading nodes, offset by offset from the last one back.
 use Rattle.std.specs.Prelude.{◌≡◌, ℕ, ◌<◌, ◌≤◌, ◌++◌, Bool, true, false, List, [], ◌∷◌}
 use Rattle.std.specs.Prelude.{length, Some, None, slice_get, Contains}
 use Rattle.rx_walks.specs.Machines.{Machine, Move, ends, goes, reads}
@@ -12,29 +12,29 @@ use Rattle.rx_steps.specs.Threads.{Slots}
 use Rattle.rx_steps.specs.Lists.{move_at}
 use Rattle.rx_steps.specs.Coming.{machine_in}
 
--- these are the nodes of a program that lead to a match from a place of a search
+-- these are the nodes of a program that lead to a match from an offset of a search
 pub record AreLeading (p : ByteProgram) (s : Search) (i : ℕ) (nodes : List (ℕ × ℕ)) : Type 0 where
   pub leads : (q : ℕ × ℕ) → Contains nodes q → LeadsToMatch (machine_in p s) q i
   pub all : (q : ℕ × ℕ) → IsNodeIn p.states q → LeadsToMatch (machine_in p s) q i
       → Contains nodes q
 
--- ---- a place, by the one behind it
+-- ---- an offset, from the one after it
 
--- what there is to do leads on: a match ends, or an edge leads to one of the nodes here, or a read
--- to one of those beyond
+-- a move leads on: a match ends, or an edge leads to one of the nodes here, or a read to one of
+-- those beyond
 abbrev pub LeadsOn : List (ℕ × ℕ) → List (ℕ × ℕ) → Move (ℕ × ℕ) → Type 0
 LeadsOn here beyond (ends k) = Unit {0}
 LeadsOn here beyond (goes rs) = (k : ℕ) × (r : ℕ × ℕ) × (slice_get rs k ≡ Some r) × Contains here r
 LeadsOn here beyond (reads r j) = Contains beyond r
 
--- a machine moves at a place as the states of a program do
+-- a machine makes the moves of a program's states at a position
 pub record Moves (m : Machine (ℕ × ℕ) Slots) (i : ℕ) (states : List State) (place : Place)
     : Type 0 where
   pub at_state : (q : ℕ × ℕ) (x : State) → slice_get states q.0 ≡ Some x
       → m.move i q ≡ move_at place i q x
   pub elsewhere : (q : ℕ × ℕ) → slice_get states q.0 ≡ None → m.move i q ≡ goes []
 
--- the nodes here are those that lead by those beyond
+-- the nodes here are those that lead because of those beyond
 pub record AreFilled (p : ByteProgram) (place : Place) (beyond here : List (ℕ × ℕ)) : Type 0 where
   pub leads : (m : Machine (ℕ × ℕ) Slots) (i : ℕ) → Moves m i p.states place
       → (q : ℕ × ℕ) → Contains here q → LeadsBy m i (λ r. Contains beyond r) q
@@ -42,9 +42,9 @@ pub record AreFilled (p : ByteProgram) (place : Place) (beyond here : List (ℕ 
       → (q : ℕ × ℕ) → IsNodeIn p.states q → LeadsBy m i (λ r. Contains beyond r) q
       → Contains here q
 
--- ---- one node after the other
+-- ---- node by node
 
--- a node was looked at: it came into the set, since it leads on, or did not
+-- a node was checked: it was added because it leads on, or it was not
 abbrev pub IsLookedAt : ByteProgram → Place → ℕ × ℕ → List (ℕ × ℕ) → List (ℕ × ℕ) → List (ℕ × ℕ)
     → Bool → Type 0
 IsLookedAt p place q beyond old new true = (new ≡ old ++ q ∷ []) × (length new ≤ node_count p)
@@ -55,28 +55,28 @@ IsLookedAt p place q beyond old new false = (new ≡ old)
     → slice_get p.states q.0 ≡ Some x → LeadsOn old beyond (move_at place i q x)
     → Contains old q)
 
--- what leads by one set leads by another one too, if all that is new leads on
+-- each node here leads because of those beyond
 abbrev pub AreSound : ByteProgram → Place → List (ℕ × ℕ) → List (ℕ × ℕ) → Type 0
 AreSound p place beyond here = (m : Machine (ℕ × ℕ) Slots) (i : ℕ) → Moves m i p.states place
     → (q : ℕ × ℕ) → Contains here q → LeadsBy m i (λ r. Contains beyond r) q
 
--- each of these nodes that leads on is among those here
+-- each of these nodes that leads on is here
 abbrev pub AreClosed : ByteProgram → Place → List (ℕ × ℕ) → List (ℕ × ℕ) → (ℕ × ℕ → Type 0) → Type 0
 AreClosed p place beyond here those = (q : ℕ × ℕ) → those q → (k i : ℕ) (x : State)
     → index_from 0 (widths_of p) q.0 q.1 ≡ Some k → slice_get p.states q.0 ≡ Some x
     → LeadsOn here beyond (move_at place i q x) → Contains here q
 
--- a move is an empty edge to a node, or one of them is
+-- a move has an epsilon transition to a node
 abbrev pub GoesTo : Move (ℕ × ℕ) → ℕ × ℕ → Type 0
 GoesTo (ends k) r = ⊥
 GoesTo (goes rs) r = (n : ℕ) × (slice_get rs n ≡ Some r)
 GoesTo (reads next j) r = ⊥
 
--- nodes are of states of a program
+-- the nodes are of states of a program
 abbrev pub AreReal : ByteProgram → List (ℕ × ℕ) → Type 0
 AreReal p nodes = (q : ℕ × ℕ) → Contains nodes q → q.0 < length p.states
 
--- those nodes were looked at, and each that leads on came into the set, and no other one
+-- those nodes were checked, and exactly those that lead on were added
 pub record IsRound (p : ByteProgram) (place : Place) (those : ℕ × ℕ → Type 0)
     (beyond old new : List (ℕ × ℕ)) : Type 0 where
   pub sound : AreSound p place beyond old → AreSound p place beyond new

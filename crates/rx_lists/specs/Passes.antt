@@ -1,4 +1,4 @@
--- The two passes over a content.
+-- The two passes over a haystack.
 use Rattle.std.specs.Prelude.{◌≡◌, ℕ, ◌<◌, Bool, false, List, length, Option, Some, None, option_map, slice_get, IfSome}
 use Rattle.rx_walks.specs.Looks as walks
 use Rattle.rx_walks.specs.Machines.{Outcome}
@@ -12,7 +12,7 @@ use Rattle.rx_lists.specs.Arrivals.{TellEdges}
 use Rattle.rx_lists.specs.Known.{TellsTruly}
 use Rattle.rx_lists.specs.Sets.{AreAllNodes}
 
--- the room of a pass back is one for a program
+-- room for a backward pass with a program
 pub record IsReady (p : ByteProgram) (b : PassBack) : Type 0 where
   pub order_is : AreAllNodes p.states b.order.items
   pub index_is : b.index ≡ widths_of p
@@ -23,18 +23,18 @@ pub record IsReady (p : ByteProgram) (b : PassBack) : Type 0 where
   pub here_are : b.here.widths ≡ widths_of p
   pub beyond_are : b.beyond.widths ≡ widths_of p
 
--- the first of threads that stands at such a node, by its number
+-- the index of the first thread at such a node
 abbrev pub IsFirstAmong : List Thread → (ℕ × ℕ → Type 0) → Option ℕ → Type 0
 IsFirstAmong threads Is None = (k : ℕ) (t : Thread) → slice_get threads k ≡ Some t → Is t.1 → ⊥
 IsFirstAmong threads Is (Some n) = (t : Thread) × (slice_get threads n ≡ Some t) × Is t.1
     × ((k : ℕ) (u : Thread) → k < n → slice_get threads k ≡ Some u → Is u.1 → ⊥)
 
--- the room of a pass forward is one for a program
+-- room for a forward pass with a program
 pub record IsWalking (p : ByteProgram) (widths : List ℕ) (asks_looks : Bool) : Type 0 where
   pub widths_are : widths ≡ widths_of p
   pub looks : asks_looks ≡ false → (l : walks.Look) → Asks p.states l → ⊥
 
--- what a walk came to, by where it ends and its slots
+-- the outcome of a walk, from its end and its slots
 abbrev pub outcome_of : Option Ending → Slots → Option (Outcome Slots)
 outcome_of found slots =
     option_map (λ e. record { pattern = e.pattern; end = e.end; notes = slots }) found

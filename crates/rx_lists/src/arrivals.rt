@@ -1,4 +1,4 @@
-//! The empty edges of a program, by where they lead.
+//! The epsilon transitions of a program, by the states to which they lead.
 
 ghost use Rattle.std.specs.Prelude.{◌≡◌, ◌∷◌, [], Some, None, MatchOption, IfOk, OnOk, length, slice_get};
 ghost use Rattle.rx_lists.specs.Arrivals.{AreTold, TellEdges, edges_of, nodes_in};
@@ -9,7 +9,7 @@ use rx_util::StateID;
 use std::alloc::{AllocError, Global};
 use std::marker::Model;
 
-/// For each state of a program the nodes with an empty edge to its first node.
+/// For each state of a program the nodes with an epsilon transition to its first node.
 #[derive(Debug, Drop)]
 pub(crate) struct Arrivals {
     lists: Vec<Vec<Node>>,
@@ -24,7 +24,7 @@ impl Model for Arrivals {
     ghost view = { λ s. nodes_in s.lists.items };
 }
 
-/// So many empty lists.
+/// Returns `count` empty lists.
 fn empty_lists(alloc: Global, count: usize) -> Result<Vec<Vec<Node>>, AllocError>
     ensures { IfOk result (λ lists. length (nodes_in lists.items) ≡ count) }
 {
@@ -35,7 +35,7 @@ fn empty_lists(alloc: Global, count: usize) -> Result<Vec<Vec<Node>>, AllocError
     Ok(lists)
 }
 
-/// Puts a node into the list of a state, if there is one.
+/// Adds a node to the list of a state, if there is one.
 fn put_at(lists: &mut Vec<Vec<Node>>, on: StateID, from: Node) -> Result<(), AllocError>
     ensures { OnOk result (AreTold from (on ∷ []) (nodes_in lists.old.items)
         (nodes_in lists.new.items)) }
@@ -46,7 +46,7 @@ fn put_at(lists: &mut Vec<Vec<Node>>, on: StateID, from: Node) -> Result<(), All
     Ok(())
 }
 
-/// Puts a node into the lists of these states.
+/// Adds a node to the lists of these states.
 fn put_at_all(lists: &mut Vec<Vec<Node>>, ons: &[StateID], from: Node) -> Result<(), AllocError>
     ensures { OnOk result (AreTold from ons.now (nodes_in lists.old.items)
         (nodes_in lists.new.items)) }
@@ -57,7 +57,7 @@ fn put_at_all(lists: &mut Vec<Vec<Node>>, ons: &[StateID], from: Node) -> Result
     Ok(())
 }
 
-/// Puts a node into the lists of the states to which a state has empty edges.
+/// Adds a node to the lists of the states to which a state has epsilon transitions.
 fn put_edges(lists: &mut Vec<Vec<Node>>, state: &State, from: Node) -> Result<(), AllocError>
     ensures { OnOk result (AreTold from (edges_of state.now) (nodes_in lists.old.items)
         (nodes_in lists.new.items)) }
@@ -77,7 +77,7 @@ fn put_edges(lists: &mut Vec<Vec<Node>>, state: &State, from: Node) -> Result<()
 }
 
 impl Arrivals {
-    /// The edges of these states.
+    /// Returns the epsilon transitions of these states.
     pub(crate) fn new(alloc: Global, states: &[State]) -> Result<Arrivals, AllocError>
         ensures { IfOk result (λ arrivals. TellEdges states.now (length states.now) arrivals) }
     {
@@ -89,7 +89,7 @@ impl Arrivals {
         Ok(Arrivals { lists })
     }
 
-    /// The nodes with an empty edge to the first node of a state.
+    /// Returns the nodes with an epsilon transition to the first node of a state.
     pub(crate) fn at(&self, state: StateID) -> Option<&Vec<Node>>
         ensures { MatchOption result (slice_get self.now state ≡ None)
             (λ list. slice_get self.now state ≡ Some list.now.items) }

@@ -6,7 +6,7 @@ ghost use Rattle.rx_lists.specs.Bits.{has_bit};
 use std::alloc::{AllocError, Global};
 use std::marker::Model;
 
-/// A set of numbers below a bound, a bit each. Contracts see the words.
+/// A set of numbers below a bound, one bit for each. Contracts see the words.
 #[derive(Debug, Drop)]
 pub(crate) struct Bits {
     words: Vec<u64>,
@@ -21,7 +21,7 @@ impl Model for Bits {
 }
 
 impl Bits {
-    /// The empty set, with room for the numbers below a bound.
+    /// Returns the empty set, with room for the numbers below a bound.
     pub(crate) fn new(alloc: Global, bound: usize) -> Result<Bits, AllocError>
         ensures room { IfOk result (λ bits. bound ≤ 64 * length bits) }
         ensures none { IfOk result (λ bits. (n : ℕ) → has_bit bits n ≡ false) }
@@ -31,7 +31,7 @@ impl Bits {
         Ok(Bits { words })
     }
 
-    /// Puts a number into it that it has room for.
+    /// Adds a number for which there is room.
     pub(crate) fn insert(&mut self, number: usize)
         requires { number < 64 * length self.old }
         ensures there { has_bit self.new number ≡ true }
@@ -42,7 +42,7 @@ impl Bits {
         self.words[number / 64] = word | 1_u64 << (number % 64);
     }
 
-    /// Whether a number is there.
+    /// Returns whether a number is a member.
     pub(crate) fn has(&self, number: usize) -> bool
         ensures { result ≡ has_bit self.now number }
     {
@@ -52,7 +52,7 @@ impl Bits {
         }
     }
 
-    /// Whether it has the same words as another one.
+    /// Returns whether both sets have the same words.
     pub(crate) fn is_same(&self, other: &Bits) -> bool
         ensures { IsTrue result → self.now ≡ other.now }
     {

@@ -1,4 +1,4 @@
-//! The nodes that lead from each place of a span, a block of places at a time.
+//! The leading nodes at each offset of a span, one block of offsets at a time.
 
 ghost use Rattle.std.specs.Prelude.{◌≡◌, ◌+◌, ◌-◌, ◌<◌, ◌≤◌, Bool, ℕ, [], Some, IfOk, IfErr, OnOk, max, slice_get};
 ghost use Rattle.rx_util.specs.declared.search.MatchError.{MatchError};
@@ -19,31 +19,34 @@ use rx_program::Program;
 use rx_util::MatchError;
 use std::alloc::{AllocError, Global};
 
-// The least distance at which sets are kept.
+// The least distance of kept sets.
 const LEAST: usize = 4096;
 
-/// The nodes that lead from each place of a span: those of places at distances are kept, and those
-/// of the places between are made from these, a block at a time. A block's last place is one of
-/// those whose set is kept, and so is its first one, but in the block at the span's start.
+/// The leading nodes at each offset of a span: the sets at regular distances are kept, and those
+/// between are recomputed from these, one block at a time. A block's last offset is one whose set
+/// is kept, and so is its first one, except for the block at the span's start.
 #[derive(Debug, Drop)]
 pub(crate) struct Blocks {
-    // Room for passes back.
+    // Room for the backward pass.
     pub(crate) pass: PassBack,
-    // The first and the last place of the span.
+    // The first and the last offset of the span.
     pub(crate) first: usize,
     pub(crate) last: usize,
     // The distance.
     pub(crate) every: usize,
-    // The nodes that lead from the last place, from the one that lies the distance before it, and
-    // so on.
+    // The leading nodes at the last offset, at the one a distance before it, and so on.
     pub(crate) kept: Sets,
-    // The block at hand.
+    // The current block.
     pub(crate) block: Block,
 }
 
 impl Blocks {
-    /// Passes all places from the last one inside, at which an input stands, back to the first one,
-    /// and has the block there at hand. The one refusal is `Memory`.
+    /// Makes the backward pass from the last offset inside, where the input must be, to the first
+    /// one, whose block becomes the current one.
+    ///
+    /// # Errors
+    ///
+    /// `Memory`.
     pub(crate) fn new<C: Cursor>(
         alloc: Global,
         program: &Program,
@@ -83,14 +86,14 @@ impl Blocks {
         Ok(blocks)
     }
 
-    /// The first place of the block that ends at a place.
+    /// Returns the first offset of the block that ends at an offset.
     fn bottom(&self, top: usize) -> usize
         ensures { result ≡ max self.now.first (top - self.now.every) }
     {
         self.first.max(top.saturating_sub(self.every))
     }
 
-    /// Passes all blocks back to the first one, from the place at which an input stands.
+    /// Makes the backward pass over all blocks from the input's position.
     fn pass_all<C: Cursor>(
         &mut self,
         program: &Program,
@@ -130,8 +133,8 @@ impl Blocks {
         }
     }
 
-    /// Comes to the place at which an input stands, to which the block at hand reaches back: makes
-    /// the block of that place anew, from the set that is kept behind it, unless it is at hand.
+    /// Makes the input's position part of the current block, which must reach back to it:
+    /// recomputes its block from the kept set after it, unless it is the current one.
     pub(crate) fn come_to<C: Cursor>(
         &mut self,
         program: &Program,
@@ -168,7 +171,7 @@ impl Blocks {
         Ok(())
     }
 
-    /// The nodes that lead from a place of the block at hand.
+    /// Returns the leading nodes at an offset of the current block.
     pub(crate) fn set(&self, at: usize) -> &Bits
         requires there { at ≤ self.now.block.top }
         requires reaches { BlockReaches self.now.block at }

@@ -1,4 +1,4 @@
-//! Sets of nodes that were come to, and how a pass back goes from one of them to another.
+//! Known sets of nodes, and the backward steps between them.
 
 ghost use Rattle.std.specs.Prelude.{◌≡◌, ◌<◌, ◌++◌, ◌∷◌, [], ℕ, List, Some};
 ghost use Rattle.std.specs.Prelude.{IfOk, IfSome, OnOk, OnErr, length, slice_get};
@@ -10,20 +10,20 @@ use std::alloc::{AllocError, Global};
 use std::marker::Model;
 use std::rc::Rc;
 
-/// How many sets are known at most. For each there are four kilobytes of numbers.
+/// The greatest number of known sets. Each has four kilobytes of numbers.
 const MOST: usize = 500;
 
-/// How many bytes there are.
+/// The number of bytes.
 const BYTES: usize = 256;
 
-/// A set that may be shared.
+/// Returns a set that can be shared.
 pub(crate) fn shared(alloc: Global, set: Bits) -> Result<Rc<Bits>, AllocError>
     ensures { IfOk result (λ shared. shared.value ≡ set) }
 {
     Ok(Rc::new(alloc, set)?)
 }
 
-/// Sets of nodes in a list, in which equal ones may be shared. Contracts see their words.
+/// A list of sets of nodes, in which equal ones may be shared. Contracts see their words.
 #[derive(Debug, Drop)]
 pub(crate) struct Sets {
     list: Vec<Rc<Bits>>,
@@ -38,7 +38,7 @@ impl Model for Sets {
 }
 
 impl Sets {
-    /// No sets.
+    /// Returns the empty list.
     pub(crate) fn new(alloc: Global) -> Sets
         ensures { result ≡ [] }
     {
@@ -47,14 +47,14 @@ impl Sets {
         }
     }
 
-    /// How many there are.
+    /// Returns the number of sets.
     pub(crate) fn len(&self) -> usize
         ensures { result ≡ length self.now }
     {
         self.list.len()
     }
 
-    /// The set with this number.
+    /// Returns the set with this number.
     pub(crate) fn at(&self, number: usize) -> &Rc<Bits>
         requires { number < length self.now }
         ensures { slice_get self.now number ≡ Some result.now.value }
@@ -62,7 +62,7 @@ impl Sets {
         &self.list[number]
     }
 
-    /// Puts a set behind the others.
+    /// Appends a set.
     pub(crate) fn push(&mut self, set: Rc<Bits>) -> Result<(), AllocError>
         ensures more { OnOk result (self.new ≡ self.old ++ set.value ∷ []) }
         ensures kept { OnErr result (self.new ≡ self.old) }
@@ -71,7 +71,7 @@ impl Sets {
         Ok(())
     }
 
-    /// Takes all out.
+    /// Removes all sets.
     pub(crate) fn clear(&mut self)
         ensures { self.new ≡ [] }
     {
@@ -79,11 +79,12 @@ impl Sets {
     }
 }
 
-/// Sets that a pass back came to, and by the byte of the place before, which set it came to next.
+/// Sets that the backward pass reached, and for each byte before an offset the set that it reached
+/// next.
 #[derive(Debug, Drop)]
 pub(crate) struct Known {
     sets: Sets,
-    // For each of them 256 numbers.
+    // 256 numbers for each set.
     before: Vec<Option<usize>>,
 }
 
@@ -98,7 +99,7 @@ impl Model for Known {
 }
 
 impl Known {
-    /// None is known.
+    /// Returns this without sets.
     pub(crate) fn new(alloc: Global) -> Known
         ensures told { (p : ByteProgram) → TellsTruly p result }
     {
@@ -108,7 +109,7 @@ impl Known {
         }
     }
 
-    /// The set with this number.
+    /// Returns the set with this number.
     pub(crate) fn set(&self, number: usize) -> &Rc<Bits>
         requires { number < length self.now.sets }
         ensures { slice_get self.now.sets number ≡ Some result.now.value }
@@ -116,7 +117,7 @@ impl Known {
         self.sets.at(number)
     }
 
-    /// The number of a set that is equal to this one, if one is known.
+    /// Returns the number of a known set that equals this one.
     pub(crate) fn find(&self, set: &Bits) -> Option<usize>
         ensures { IfSome result (λ number. slice_get self.now.sets number ≡ Some set.now) }
     {
@@ -128,8 +129,8 @@ impl Known {
         None
     }
 
-    /// The number of the set of the place before, which has this byte, where that set is known of
-    /// the one with this number.
+    /// Returns the number of the set at the offset before, if it is known for this set and the byte
+    /// there.
     pub(crate) fn before(&self, number: usize, byte: u8) -> Option<usize>
         requires { number < length self.now.sets }
         ensures there { IfSome result (λ to. to < length self.now.sets) }
@@ -140,7 +141,7 @@ impl Known {
         self.before[number * BYTES + usize::from(byte)]
     }
 
-    /// Tells that number.
+    /// Notes that number.
     pub(crate) fn tell(&mut self, number: usize, byte: u8, to: usize)
         requires from { number < length self.old.sets }
         requires to { to < length self.old.sets }
@@ -152,12 +153,12 @@ impl Known {
         self.before[number * BYTES + usize::from(byte)] = Some(to);
     }
 
-    /// Whether as many sets are known as may be.
+    /// Returns whether there are as many sets as allowed.
     pub(crate) fn is_full(&self) -> bool {
         self.sets.len() >= MOST
     }
 
-    /// Forgets all.
+    /// Removes all sets.
     pub(crate) fn clear(&mut self)
         ensures told { (p : ByteProgram) → TellsTruly p self.new }
     {
@@ -165,7 +166,7 @@ impl Known {
         self.before.clear();
     }
 
-    /// Puts a set behind the others, and answers its number.
+    /// Appends a set, and returns its number.
     fn put(&mut self, alloc: Global, set: Bits) -> Result<usize, AllocError>
         ensures number { IfOk result (λ number. slice_get self.new.sets number ≡ Some set) }
         ensures kept { (number : ℕ) (other : List ℕ)
@@ -180,7 +181,7 @@ impl Known {
         Ok(number)
     }
 
-    /// The number of a set, which is known then.
+    /// Returns the number of a set, which is added if it isn't known.
     pub(crate) fn number_of(&mut self, alloc: Global, set: Bits) -> Result<usize, AllocError>
         ensures number { IfOk result (λ number. slice_get self.new.sets number ≡ Some set) }
         ensures kept { (number : ℕ) (other : List ℕ)

@@ -1,4 +1,4 @@
-//! Which nodes of a program lead to a match, by those that lead from the next place.
+//! The leading nodes of a program at an offset, from those at the next offset.
 
 ghost use Rattle.std.specs.Prelude.{◌≡◌, ◌↔◌, ℕ, [], Some, None, Contains, IsTrue, IfOk, OnOk, MatchOption, length, slice_get};
 ghost use Rattle.rx_utf8.specs.Automata.{step_of};
@@ -16,7 +16,7 @@ use rx_utf8::SetAutomaton;
 use rx_util::StateID;
 use std::alloc::AllocError;
 
-/// Whether a byte leads from a node over a set to one of the nodes beyond.
+/// Returns whether a byte leads from a node with a set to one of the nodes beyond.
 fn reads_on(
     automaton: &SetAutomaton,
     on: StateID,
@@ -37,7 +37,7 @@ fn reads_on(
     }
 }
 
-/// Whether one of the states' first nodes is here.
+/// Returns whether a first node of these states is here.
 fn has_some(here: &NodeSet, states: &[StateID]) -> bool
     ensures { IsTrue result ↔ ((k : ℕ) × (q : ℕ) × (slice_get states.now k ≡ Some q)
         × Contains here.now.nodes (q, 0)) }
@@ -50,7 +50,7 @@ fn has_some(here: &NodeSet, states: &[StateID]) -> bool
     false
 }
 
-/// Whether what there is to do at a node leads on.
+/// Returns whether the move at a node leads on.
 fn leads_on(state: &State, place: &Place, node: Node, beyond: &NodeSet, here: &NodeSet) -> bool
     ensures { (i : ℕ) → IsTrue result
         ↔ LeadsOn here.now.nodes beyond.now.nodes (move_at place.now i node state.now) }
@@ -68,7 +68,7 @@ fn leads_on(state: &State, place: &Place, node: Node, beyond: &NodeSet, here: &N
     }
 }
 
-/// The state of a node, if there is one.
+/// Returns the state of a node, if there is one.
 fn state_at(states: &[State], node: Node) -> Option<&State>
     ensures { MatchOption result (slice_get states.now node.0 ≡ None)
         (λ state. slice_get states.now node.0 ≡ Some state.now) }
@@ -76,7 +76,7 @@ fn state_at(states: &[State], node: Node) -> Option<&State>
     states.get(node.state().as_usize())
 }
 
-/// Adds a node to those here if it leads on and isn't there, and tells whether it was so.
+/// Adds a node to those here if it leads on and is new, and returns whether it did.
 fn mark(
     program: &Program,
     place: &Place,
@@ -101,7 +101,7 @@ fn mark(
     here.add(node)
 }
 
-/// Looks at each of these nodes once.
+/// Checks each of these nodes once.
 fn mark_all(
     program: &Program,
     place: &Place,
@@ -120,7 +120,7 @@ fn mark_all(
     Ok(())
 }
 
-/// Looks at the nodes with an empty edge to a node here.
+/// Checks the nodes with an epsilon transition to a node here.
 fn go_back(
     program: &Program,
     place: &Place,
@@ -144,11 +144,10 @@ fn go_back(
     }
 }
 
-/// Makes a set that of the nodes that lead from a place, by those that lead from the next one. The
-/// order is of all nodes of the program; it tells in which they are looked at, and the set is the
-/// same for each.
+/// Computes the set of leading nodes at an offset from those at the next one. `order` has all nodes
+/// of the program; the set is the same in each order.
 ///
-/// It looks at all nodes once, and at the empty edges that lead to those that lead.
+/// Checks each node once, and the epsilon transitions to leading nodes.
 pub(crate) fn fill(
     program: &Program,
     place: &Place,

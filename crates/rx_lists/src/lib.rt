@@ -1,6 +1,6 @@
-//! All matches of a program in a content, however far single finds would read, by two passes:
-//! back over the content, which nodes of the program lead to a match from each place; then forward
-//! along the one walk that is due.
+//! All matches of a program in a haystack, however far single searches would read, in two passes:
+//! backward, to find the nodes of the program that lead to a match from each offset; then forward
+//! along the preferred walk.
 #![tactic(auto)]
 
 mod arrivals;

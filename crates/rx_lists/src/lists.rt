@@ -25,7 +25,7 @@ use rx_walks::laws_lead::byte_listings_are_matches;
 use std::alloc::{AllocError, Global};
 use std::marker::Model;
 
-/// A match of a list: its pattern, where it ends, and places in slots.
+/// A match of a list: its pattern, its end, and the offsets in its slots.
 #[derive(Debug, Drop)]
 pub struct ListedMatch {
     pattern: PatternID,
@@ -42,21 +42,21 @@ impl Model for ListedMatch {
 }
 
 impl ListedMatch {
-    /// The pattern that matches.
+    /// Returns the pattern of the match.
     pub fn pattern(&self) -> PatternID
         ensures { result ≡ self.now.pattern }
     {
         self.pattern
     }
 
-    /// Where the match ends.
+    /// Returns the end of the match.
     pub fn end(&self) -> usize
         ensures { result ≡ self.now.end }
     {
         self.end
     }
 
-    /// The places that are noted in its slots.
+    /// Returns the slots.
     pub fn slots(&self) -> &[Option<NonMaxUsize>]
         ensures { result.now ≡ self.now.slots }
     {
@@ -64,8 +64,8 @@ impl ListedMatch {
     }
 }
 
-/// Whether a match may start where an input stands, which has to be a place inside, by a find that
-/// began at a place.
+/// Returns whether a match may start at the input's position, which must be inside, in a find that
+/// began at `from`.
 fn may_begin<C: Cursor>(input: &Input<C>, from: usize, utf8_empty: bool) -> bool
     ensures { IsInside (search_of utf8_empty input.now) input.now.position
         → from ≤ input.now.position
@@ -76,8 +76,8 @@ fn may_begin<C: Cursor>(input: &Input<C>, from: usize, utf8_empty: bool) -> bool
         && (!utf8_empty || input.is_char_boundary())
 }
 
-/// Moves an input to the last place inside its span, its slice and its content, and tells whether
-/// there is one; where there is none, it stands anywhere.
+/// Moves an input to the last offset inside its span, slice and haystack, and returns whether there
+/// is one; if not, the input's position is unspecified.
 fn enter_last<C: Cursor>(input: &mut Input<C>) -> bool
     ensures inside { result ≡ true → (utf8_empty : Bool)
         → IsInside (search_of utf8_empty input.old) input.new.position }
@@ -91,8 +91,8 @@ fn enter_last<C: Cursor>(input: &mut Input<C>) -> bool
     input.get_slice().start.max(input.start()) <= input.position()
 }
 
-/// From where walks of a list start: the state and its number of slots, and whether empty matches
-/// inside a character are passed over.
+/// How walks of a list start: the state, the number of slots, and whether empty matches inside a
+/// character are skipped.
 #[derive(Clone, Copy, Debug)]
 struct Walking {
     start: StateID,
@@ -100,10 +100,11 @@ struct Walking {
     utf8_empty: bool,
 }
 
-/// Whether a match starts where an input stands, by a find that began at a place, and where it
-/// ends: the walk has its slots then. The input may stand elsewhere. The block at hand reaches back
-/// to the place, and then to where the list goes on. The place is read, and where a match starts,
-/// those of its walk, besides those of the blocks that are made anew.
+/// Returns the end of the match that starts at the input's position, if there is one, in a find
+/// that began at `from`; the walk has its slots then. The input's position may be another one
+/// afterwards. The current block must reach back to the position, and then reaches back to where
+/// the list goes on. Reads the offset and, if a match starts there, those of its walk, plus those
+/// of recomputed blocks.
 fn find_at<C: Cursor>(
     walk: &mut Walk,
     program: &Program,
@@ -153,8 +154,8 @@ fn find_at<C: Cursor>(
     walk.follow(program, input, blocks, of.start, of.slot_len, read)
 }
 
-/// The matches that were listed so far, where the find of the next one began, and whether a match
-/// ended there and no place was passed since.
+/// The matches so far, where the find of the next one began, and whether a match ended there and no
+/// offset was skipped since.
 #[derive(Debug, Drop)]
 struct Progress {
     found: Vec<ListedMatch>,
@@ -162,7 +163,7 @@ struct Progress {
     after: bool,
 }
 
-/// The match that a walk came to.
+/// Returns the match of a walk.
 fn listed_match(
     alloc: Global,
     ending: Ending,
@@ -179,8 +180,8 @@ fn listed_match(
 }
 
 impl Progress {
-    /// Takes what was found at a place, with these slots: answers the end of a match that is
-    /// listed, or none where the place is passed.
+    /// Takes what was found at an offset, with these slots: returns the end of the match that is
+    /// listed, or `None` if the offset is skipped.
     fn take(
         &mut self,
         alloc: Global,
@@ -222,8 +223,8 @@ impl Progress {
     }
 }
 
-/// Moves an input to the end of the match that was listed, or behind the place that was passed, and
-/// tells whether that lies inside.
+/// Moves an input to the end of the listed match, or past the skipped offset, and returns whether
+/// that is inside.
 fn go_on<C: Cursor>(input: &mut Input<C>, at: usize, end: Option<usize>) -> bool
     ensures end { IfSome end (λ e. e ≤ length input.old.cursor.content
         → (result ≡ true) × (input.new.position ≡ e)) }
@@ -248,7 +249,7 @@ fn go_on<C: Cursor>(input: &mut Input<C>, at: usize, end: Option<usize>) -> bool
     }
 }
 
-/// Lists all matches, from the first place inside on, at which an input stands.
+/// Lists all matches, from the first offset inside, where the input must be.
 fn list_all<C: Cursor>(
     alloc: Global,
     walk: &mut Walk,
@@ -291,22 +292,27 @@ fn list_all<C: Cursor>(
     }
 }
 
-/// Lists all matches of a program inside an input's span and slice, leftmost first, each with so
-/// many slots: what the finds from the end of each match on give, where an empty match at that end
-/// is passed over. `utf8_empty` passes over empty matches inside a character. The one refusal is
+/// Lists all matches of a program inside an input's span and slice, leftmost first, each with
+/// `slot_len` slots: the finds, each from the end of the match before, skipping an empty match at
+/// that end. `utf8_empty` skips empty matches inside a character.
+///
+/// # Errors
+///
 /// `Memory`.
 ///
-/// Which nodes of the program lead to a match is told back from the span's end. Of that the sets of
-/// places at distances are kept, and those between are come to anew, a block at a time, as the list
-/// comes to them: a distance is the square root of the span's length, and at least 4,096 places. So
-/// it takes memory for the matches, for lists of the program's nodes and empty edges, for at most
-/// 500 sets of nodes that are known, each with four kilobytes, and for each place of one block and
-/// for each distance a pointer, with as many bits as the program has nodes for a set that isn't.
+/// # Complexity
 ///
-/// `read` counts each place that is read: once back, at most once more for the blocks, and forward
-/// where a match may start and where a walk comes by. With them the one before and the one behind
-/// may be looked at, where looks are asked for. However far single finds would read, six times the
-/// number of places inside span, slice and content are read at most, also where memory is refused.
+/// The backward pass finds the leading nodes at each offset. It keeps their sets at distances of
+/// the square root of the span's length, and at least 4,096 bytes; those between are recomputed,
+/// one block at a time, as the list reaches them. Memory is allocated for the matches; for lists of
+/// the program's nodes and epsilon transitions; for at most 500 known sets of nodes, each with four
+/// kilobytes; and for each offset of one block and for each distance a pointer, and one bit for
+/// each node of the program if the set isn't known.
+///
+/// `read` counts each offset that is read: once backward, at most once more for the blocks, and
+/// forward where a match may start and along each walk. With assertions, up to four bytes on each
+/// side are read with it. However far single searches would read, at most six times the number of
+/// offsets inside span, slice and haystack are read, also after an error.
 pub fn list_matches<C: Cursor>(
     alloc: Global,
     program: &Program,
@@ -326,7 +332,7 @@ pub fn list_matches<C: Cursor>(
     let Some(start) = start_state(program, input.get_anchored()) else {
         return Ok(Vec::new(alloc));
     };
-    // Laws, for the proof alone.
+    // Laws, for the proof only.
     program.walks_are_those_of_characters();
     byte_listings_are_matches::<CharacterSet, Option<NonMaxUsize>>();
     if !enter_last(input) {

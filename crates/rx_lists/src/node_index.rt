@@ -10,7 +10,7 @@ use rx_steps::Node;
 use std::alloc::{AllocError, Global};
 use std::marker::Model;
 
-/// How many nodes a state is.
+/// Returns the number of nodes of a state.
 fn width(state: &State) -> usize
     ensures { result ≡ width_of state.now }
 {
@@ -20,11 +20,11 @@ fn width(state: &State) -> usize
     }
 }
 
-/// Numbers each node of a program, from 0 on, and tells of sets of them in bits. Contracts see how
-/// many nodes each state is.
+/// Numbers the nodes of a program from 0, for sets of them in bits. Contracts see the number of
+/// nodes of each state.
 #[derive(Debug, Drop)]
 pub(crate) struct NodeIndex {
-    // The number of each state's first node, and how many nodes there are.
+    // The number of each state's first node, and the number of nodes.
     starts: Vec<usize>,
     count: usize,
 }
@@ -41,7 +41,7 @@ impl Model for NodeIndex {
         × (s.count ≡ end_from 0 (widths_in s.starts.items)) };
 }
 
-/// The numbers of each state's first node, with how many nodes there are behind them; and that
+/// Returns the number of each state's first node and the number of all nodes, as a list, and that
 /// number.
 fn starts_of(alloc: Global, states: &[State]) -> Result<(Vec<usize>, usize), AllocError>
     ensures starts { IfOk result (λ made. made.0.items
@@ -61,7 +61,7 @@ fn starts_of(alloc: Global, states: &[State]) -> Result<(Vec<usize>, usize), All
     Ok((starts, end))
 }
 
-/// The number of a state's first node.
+/// Returns the number of a state's first node.
 fn start_at(starts: &[usize], state: usize) -> Option<usize>
     ensures { result ≡ slice_get starts.now state }
 {
@@ -69,7 +69,7 @@ fn start_at(starts: &[usize], state: usize) -> Option<usize>
 }
 
 impl NodeIndex {
-    /// The numbers of a program's nodes.
+    /// Returns the numbers of a program's nodes.
     pub(crate) fn new(alloc: Global, program: &Program) -> Result<NodeIndex, AllocError>
         ensures widths { IfOk result (λ index. index ≡ widths_of program.now) }
     {
@@ -77,7 +77,7 @@ impl NodeIndex {
         Ok(NodeIndex { starts, count })
     }
 
-    /// The number of a node, if it is one of the program.
+    /// Returns the number of a node, if it is one of the program.
     fn number(&self, node: Node) -> Option<usize>
         ensures number { result ≡ index_from 0 self.now node.0 node.1 }
         ensures below { IfSome result (λ k. k < end_from 0 self.now) }
@@ -92,7 +92,7 @@ impl NodeIndex {
         }
     }
 
-    /// Whether a node is in a set.
+    /// Returns whether a node is in a set.
     pub(crate) fn has(&self, set: &Bits, node: Node) -> bool
         ensures { IsTrue result ↔ HasNode self.now set.now node }
     {
@@ -102,7 +102,7 @@ impl NodeIndex {
         }
     }
 
-    /// Puts a node into a set, if it is one of the program.
+    /// Adds a node to a set, if it is one of the program.
     fn put(&self, set: &mut Bits, node: Node)
         requires { end_from 0 self.now ≤ 64 * length set.old }
         ensures put { IsPut self.now set.old node set.new }
@@ -113,7 +113,7 @@ impl NodeIndex {
         }
     }
 
-    /// The set of these nodes, as far as they are of the program.
+    /// Returns the set of these nodes, as far as they are of the program.
     pub(crate) fn set_of(&self, alloc: Global, nodes: &[Node]) -> Result<Bits, AllocError>
         ensures { IfOk result (λ set. IsNodeSetOf self.now nodes.now set) }
     {

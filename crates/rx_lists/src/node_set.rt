@@ -1,4 +1,4 @@
-//! A set of nodes of a program that can be gone through.
+//! A set of nodes of a program that can be iterated over.
 
 ghost use Rattle.std.specs.Prelude.{◌≡◌, ◌↔◌, ◌<◌, ℕ, [], Some, Contains, IsTrue, IfOk, IfErr, OnOk, length, slice_get};
 ghost use Rattle.rx_util.specs.declared.search.MatchError.{MatchError};
@@ -14,8 +14,8 @@ use rx_util::{MatchError, StateID};
 use std::alloc::{AllocError, Global};
 use std::marker::Model;
 
-/// Nodes of a program, each once, in the order in which they came. Contracts see how many nodes
-/// each state is, and the nodes.
+/// Distinct nodes of a program, in the order in which they were added. Contracts see the number of
+/// nodes of each state, and the nodes.
 #[derive(Debug, Drop)]
 pub(crate) struct NodeSet {
     visited: Visited,
@@ -35,7 +35,7 @@ impl Model for NodeSet {
 }
 
 impl NodeSet {
-    /// The empty set, for the nodes of a program.
+    /// Returns the empty set of a program's nodes.
     pub(crate) fn new(alloc: Global, program: &Program) -> Result<NodeSet, MatchError>
         ensures widths { IfOk result (λ s. s.widths ≡ widths_of program.now) }
         ensures empty { IfOk result (λ s. s.nodes ≡ []) }
@@ -49,21 +49,21 @@ impl NodeSet {
         })
     }
 
-    /// The nodes.
+    /// Returns the nodes.
     pub(crate) fn nodes(&self) -> &[Node]
         ensures { result.now ≡ self.now.nodes }
     {
         &self.nodes
     }
 
-    /// How many nodes there are.
+    /// Returns the number of nodes.
     pub(crate) fn len(&self) -> usize
         ensures { result ≡ length self.now.nodes }
     {
         self.nodes.len()
     }
 
-    /// The node that came with this number.
+    /// Returns the node with this number, in the order of adding.
     pub(crate) fn node(&self, number: usize) -> Node
         requires { number < length self.now.nodes }
         ensures { slice_get self.now.nodes number ≡ Some result }
@@ -71,7 +71,7 @@ impl NodeSet {
         self.nodes[number]
     }
 
-    /// Takes all nodes out. The memory is kept.
+    /// Removes all nodes. Keeps the memory.
     pub(crate) fn clear(&mut self)
         ensures { self.new ≡ record self.old { nodes = [] } }
     {
@@ -79,15 +79,15 @@ impl NodeSet {
         self.nodes.clear();
     }
 
-    /// Whether a node is a member.
+    /// Returns whether a node is a member.
     pub(crate) fn has(&self, node: Node) -> bool
         ensures { IsTrue result ↔ Contains self.now.nodes node }
     {
         self.visited.has(node)
     }
 
-    /// Adds a node that has an index and is no member yet, and tells whether it was so. Where
-    /// memory is refused no node is left.
+    /// Adds a node that has an index, and returns whether it was new. After an error there is no
+    /// node.
     pub(crate) fn add(&mut self, node: Node) -> Result<bool, AllocError>
         ensures added { IfOk result (λ is_new. IsAdded self.old.widths self.old.nodes node is_new
             self.new.nodes) }
@@ -108,7 +108,7 @@ impl NodeSet {
 }
 
 impl NodeSet {
-    /// Adds a node where it is asked for, if it has an index and is no member yet.
+    /// Adds a node that has an index if `is_asked`.
     fn add_if(&mut self, node: Node, is_asked: bool) -> Result<(), AllocError>
         ensures added { OnOk result (IsAddedIf self.old.widths self.old.nodes node is_asked
             self.new.nodes) }
@@ -120,7 +120,7 @@ impl NodeSet {
         Ok(())
     }
 
-    /// Takes all nodes out, and puts in those of these that are in a set and have an index.
+    /// Replaces the nodes by those of these that are in a set and have an index.
     pub(crate) fn load(
         &mut self,
         nodes: &[Node],
@@ -142,7 +142,7 @@ impl NodeSet {
     }
 }
 
-/// Adds all nodes of a state, behind the others.
+/// Appends all nodes of a state.
 fn push_nodes(nodes: &mut Vec<Node>, id: StateID, state: &State) -> Result<(), AllocError>
     ensures these { OnOk result ((s : ℕ) → s < width_of state.now
         → Contains nodes.new.items (id, s)) }
@@ -155,7 +155,7 @@ fn push_nodes(nodes: &mut Vec<Node>, id: StateID, state: &State) -> Result<(), A
     }
 }
 
-/// Adds the nodes of a state that is so many.
+/// Appends the nodes of a state with `width` nodes.
 fn push_within(nodes: &mut Vec<Node>, id: StateID, width: usize) -> Result<(), AllocError>
     ensures these { OnOk result ((s : ℕ) → s < width → Contains nodes.new.items (id, s)) }
     ensures others { OnOk result ((q : ℕ × ℕ) → Contains nodes.old.items q
@@ -167,7 +167,7 @@ fn push_within(nodes: &mut Vec<Node>, id: StateID, width: usize) -> Result<(), A
     Ok(())
 }
 
-/// All nodes of a program, those of the last state first.
+/// Returns all nodes of a program, those of the last state first.
 pub(crate) fn all_nodes(alloc: Global, program: &Program) -> Result<Vec<Node>, AllocError>
     ensures { IfOk result (λ nodes. AreAllNodes program.now.states nodes.items) }
 {

@@ -1,4 +1,4 @@
-//! The pass back over a content: which nodes lead from each of its places.
+//! The backward pass over a haystack: the leading nodes at each offset.
 
 ghost use Rattle.std.specs.Prelude.{◌≡◌, ◌+◌, ◌<◌, ◌≤◌, ◌++◌, ◌∷◌, [], Bool, ℕ, List, Some};
 ghost use Rattle.std.specs.Prelude.{IfOk, IfErr, IfSome, OnOk, length, slice_get};
@@ -29,38 +29,41 @@ use rx_util::MatchError;
 use std::alloc::{AllocError, Global};
 use std::rc::Rc;
 
-/// The nodes that lead from each place of a block.
+/// The leading nodes at each offset of a block.
 #[derive(Debug, Drop)]
 pub(crate) struct Block {
-    // Its last place.
+    // Its last offset.
     pub(crate) top: usize,
-    // Those that lead from there, from the place before, and so on.
+    // The leading nodes there, at the offset before, and so on.
     pub(crate) sets: Sets,
 }
 
-/// What the pass back needs room for.
+/// Room for the backward pass.
 #[derive(Debug, Drop)]
 pub(crate) struct PassBack {
     alloc: Global,
     // All nodes of the program, and their numbers.
     pub(crate) order: Vec<Node>,
     pub(crate) index: NodeIndex,
-    // The empty edges of the program, by where they lead.
+    // The epsilon transitions of the program, by the states to which they lead.
     pub(crate) arrivals: Arrivals,
-    // Whether the program asks for looks.
+    // Whether the program has assertions.
     pub(crate) asks_looks: bool,
-    // The nodes that lead from the place that was passed last.
+    // The leading nodes at the last offset that was passed.
     pub(crate) set: Rc<Bits>,
-    // The sets that were come to, and that set's number, if it is one of them.
+    // The known sets, and the number of `set`, if it is one of them.
     pub(crate) known: Known,
     pub(crate) number: Option<usize>,
-    // Room for the nodes of a place, and of the one behind it.
+    // Room for the nodes at an offset, and at the next one.
     pub(crate) here: NodeSet,
     pub(crate) beyond: NodeSet,
 }
 
 impl PassBack {
-    /// Room for passes over contents with a program, of which none was made. The one refusal is
+    /// Returns room for passes with a program.
+    ///
+    /// # Errors
+    ///
     /// `Memory`.
     pub(crate) fn new(alloc: Global, program: &Program) -> Result<PassBack, MatchError>
         ensures ready { IfOk result (λ pass. IsReady program.now pass) }
@@ -83,7 +86,7 @@ impl PassBack {
         })
     }
 
-    /// The number of the set of the place before, if it is known.
+    /// Returns the number of the set at the offset before, if it is known.
     fn known_before(&self, place: &Place) -> Option<usize>
         requires { (p : ByteProgram) × IsReady p self.now }
         ensures there { IfSome result (λ to. to < length self.now.known.sets) }
@@ -97,7 +100,7 @@ impl PassBack {
         }
     }
 
-    /// Has the set with this number, which is known.
+    /// Makes the known set with this number the current one.
     fn take(&mut self, number: usize) -> Result<(), AllocError>
         requires { number < length self.old.known.sets }
         ensures taken { OnOk result
@@ -110,7 +113,7 @@ impl PassBack {
         Ok(())
     }
 
-    /// The set of the place before, by what is there.
+    /// Computes the set at the offset before.
     fn set_before(&mut self, program: &Program, place: &Place) -> Result<Bits, AllocError>
         requires ready { IsReady program.now self.old }
         ensures before { IfOk result (IsSetBefore program.now place.now self.old.set.value) }
@@ -129,7 +132,7 @@ impl PassBack {
         self.index.set_of(self.alloc, self.here.nodes())
     }
 
-    /// Tells that a known set is that of the place before the one whose set is at hand.
+    /// Notes that a known set is that at the offset before the current one.
     fn tell(&mut self, place: &Place, to: usize)
         requires there { to < length self.old.known.sets }
         requires ready { (p : ByteProgram) × IsReady p self.old }
@@ -146,7 +149,7 @@ impl PassBack {
         }
     }
 
-    /// Forgets the sets that are known, where these are as many as may be.
+    /// Removes the known sets if there are as many as allowed.
     fn forget_if_full(&mut self)
         ensures ready { (p : ByteProgram) → IsReady p self.old → IsReady p self.new }
         ensures set { self.new.set ≡ self.old.set }
@@ -158,7 +161,7 @@ impl PassBack {
         self.number = None;
     }
 
-    /// The number of a set, which is known then.
+    /// Returns the number of a set, which is added if it isn't known.
     fn number_of(&mut self, set: Bits) -> Result<usize, AllocError>
         ensures number { IfOk result (λ number.
             slice_get self.new.known.sets number ≡ Some set) }
@@ -168,7 +171,7 @@ impl PassBack {
         self.known.number_of(self.alloc, set)
     }
 
-    /// Has the set of the place before, by what is there, and tells of it.
+    /// Computes the set at the offset before, makes it the current one, and notes it.
     fn make_before(&mut self, program: &Program, place: &Place) -> Result<(), AllocError>
         requires ready { IsReady program.now self.old }
         ensures before { OnOk result (IsSetBefore program.now place.now self.old.set.value
@@ -182,9 +185,8 @@ impl PassBack {
         self.take(to)
     }
 
-    /// Passes the place at which an input stands: where the set at hand is of the nodes that lead
-    /// from the next place, the one at hand then is of those that lead from it. One more place is
-    /// read.
+    /// Passes the input's position: the current set, that of the leading nodes at the next offset,
+    /// becomes that at the position. Reads one more offset.
     pub(crate) fn pass<C: Cursor>(
         &mut self,
         program: &Program,
@@ -210,7 +212,7 @@ impl PassBack {
         }
     }
 
-    /// Takes a set for that of the nodes that lead.
+    /// Makes a set of leading nodes the current one.
     pub(crate) fn load(&mut self, set: &Rc<Bits>) -> Result<(), AllocError>
         ensures set { OnOk result (self.new.set.value ≡ set.now.value) }
         ensures ready { (p : ByteProgram) → IsReady p self.old → IsReady p self.new }
@@ -220,15 +222,15 @@ impl PassBack {
         Ok(())
     }
 
-    /// Puts the set at hand behind others.
+    /// Appends the current set.
     pub(crate) fn keep(&self, sets: &mut Sets) -> Result<(), AllocError>
         ensures { OnOk result (sets.new ≡ sets.old ++ self.now.set.value ∷ []) }
     {
         sets.push(self.set.clone()?)
     }
 
-    /// Makes a block from the place at which an input stands, whose set is at hand, back
-    /// to another place. All its places but the first one are read.
+    /// Makes a block from the input's position, whose set is the current one, back to another
+    /// offset. Reads all its offsets but the first.
     pub(crate) fn pass_block<C: Cursor>(
         &mut self,
         program: &Program,

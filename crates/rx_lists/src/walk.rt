@@ -1,4 +1,4 @@
-//! The pass forward: the one walk that is due, over nodes that lead alone.
+//! The forward pass: the preferred walk over leading nodes.
 
 ghost use Rattle.std.specs.Prelude.{◌≡◌, ◌+◌, ◌<◌, ◌≤◌, Bool, [], ◌∷◌, All, IfOk, IfErr, IfSome, OnOk, IsSomeAnd, length, slice_get};
 ghost use Rattle.rx_util.specs.declared.search.MatchError.{MatchError};
@@ -26,7 +26,7 @@ use rx_steps::{AskedLooks, Node, Place, Stepper, ThreadList, advance};
 use rx_util::{MatchError, PatternID, StateID};
 use std::alloc::{AllocError, Global};
 
-/// The number of the first thread that stands at a node of a set.
+/// Returns the index of the first thread at a node of a set.
 fn first_among(threads: &ThreadList, index: &NodeIndex, set: &Bits) -> Option<usize>
     ensures { IsFirstAmong threads.now.threads (λ q. HasNode index.now set.now q) result }
 {
@@ -38,14 +38,14 @@ fn first_among(threads: &ThreadList, index: &NodeIndex, set: &Bits) -> Option<us
     None
 }
 
-/// Where a match ends, and of which pattern it is.
+/// The end of a match, and its pattern.
 #[derive(Clone, Copy, Debug)]
 pub(crate) struct Ending {
     pub(crate) pattern: PatternID,
     pub(crate) end: usize,
 }
 
-/// The end that was met at a place, if one was.
+/// Returns the match end at an offset, if there is one.
 fn ending_at(met: Option<PatternID>, end: usize) -> Option<Ending>
     ensures { (slots : Slots) → outcome_of result slots ≡ met_at end met slots }
 {
@@ -55,20 +55,24 @@ fn ending_at(met: Option<PatternID>, end: usize) -> Option<Ending>
     }
 }
 
-/// A walk that is followed alone.
+/// A walk with a single thread.
 #[derive(Debug, Drop)]
 pub(crate) struct Walk {
     pub(crate) stepper: Stepper,
-    // Whether the program asks for looks.
+    // Whether the program has assertions.
     pub(crate) asks_looks: bool,
-    // Where it stands: one thread.
+    // The thread.
     live: ThreadList,
-    // Room for those at the next place.
+    // Room for those at the next offset.
     next: ThreadList,
 }
 
 impl Walk {
-    /// Room for walks through a program. The one refusal is `Memory`.
+    /// Returns room for walks over a program.
+    ///
+    /// # Errors
+    ///
+    /// `Memory`.
     pub(crate) fn new(alloc: Global, program: &Program) -> Result<Walk, MatchError>
         ensures ready { IfOk result (λ walk. IsWalking program.now walk.stepper.widths
             walk.asks_looks) }
@@ -82,7 +86,7 @@ impl Walk {
         })
     }
 
-    /// Begins at a state, with so many slots.
+    /// Starts at a state, with `slot_len` slots.
     fn begin(&mut self, start: StateID, slot_len: usize) -> Result<(), AllocError>
         ensures live { OnOk result
             (self.new.live.threads ≡ (no_slots slot_len, first_node start) ∷ []) }
@@ -94,8 +98,8 @@ impl Walk {
         self.live.push_fresh(Node::first(start))
     }
 
-    /// The step from the place at which an input stands: the threads at the next place. One more
-    /// place is read.
+    /// Makes the step from the input's position to the threads at the next offset. Reads one more
+    /// offset.
     fn step<C: Cursor>(
         &mut self,
         program: &Program,
@@ -124,7 +128,7 @@ impl Walk {
             .next_list(program, &place, &self.live, &mut self.next)
     }
 
-    /// Goes on with one of the threads at the next place alone.
+    /// Keeps one of the threads at the next offset.
     fn go_on(&mut self, number: usize) -> Result<(), AllocError>
         requires { number < length self.old.next.threads }
         ensures live { OnOk result (IsSomeAnd (slice_get self.old.next.threads number)
@@ -138,10 +142,10 @@ impl Walk {
             .push(self.next.node(number), self.next.slots(number))
     }
 
-    /// Follows the walk from a state at the place at which an input stands, with so many slots:
-    /// answers where the match ends that it comes to, if it comes to one, and has its slots. The
-    /// block at hand reaches back to that place, and then to the match's end. Each place up to
-    /// there is read once, besides those of the blocks that are made anew.
+    /// Follows the walk from a state at the input's position, with `slot_len` slots. Returns the
+    /// match end that it reaches, if any, and has its slots. The current block must reach back to
+    /// that position, and then reaches back to the match end. Reads each offset up to there once,
+    /// plus those of recomputed blocks.
     pub(crate) fn follow<C: Cursor>(
         &mut self,
         program: &Program,

@@ -1,4 +1,4 @@
--- A match is what its halves tell.
+-- A match is what its halves give.
 use Rattle.std.proofs.Common.{inl, inr, ◌≡◌, ℕ, ◌+◌, ◌<◌, ◌≤◌, ◌^◌, Bool, true, false, List, IsTrue, length, Option, Some, None, option_map, refl, sym, ap, ap₂, subst, ◌∙◌, arith}
 use Rattle.std.specs.Option.{ForSome}
 use Rattle.std.proofs.lemmas.Option.{same_Some}
@@ -31,16 +31,16 @@ use Rattle.rx_chunk.proofs.KindLaws.{InsideLaw}
 use Rattle.rx_input.specs.Searchers.{IsEmptyAtLast}
 use Rattle.rx_matches.specs.Halves.{IsTurnedBack, StartsAtSpan, whole_of}
 
--- what is found lies inside
+-- finds are inside
 pub inside_law : (p : ByteProgram) → InsideLaw (Finds p)
 inside_law p s t finds = (finds_lie_inside is_in is_word_char (character_program p) s t finds).found
 
--- ---- where a match ends
+-- ---- the end of a match
 
 abbrev half_of : Outcome Notes → HalfFound
 half_of t = record { pattern = t.pattern; offset = t.end }
 
--- what is found, of which this is the one half
+-- a find with this half
 record HasHalf (p : ByteProgram) (s : Search) (half : HalfFound) : Type 0 where
   outcome : Outcome Notes
   finds : Finds p s (Some outcome)
@@ -59,7 +59,7 @@ has_half p s half answer = by answer.found answer.finds answer.met_is
       lies = inside_law p s t finds;
     }
 
--- where it ends, inside
+-- its end, inside
 pub record HalfLies (s : Search) (half : HalfFound) : Type 0 where
   pub on : s.start ≤ half.offset
   pub in_span : half.offset ≤ s.end
@@ -71,9 +71,9 @@ half_lies p s half answer =
     let at = ap (λ (f : HalfFound). f.offset) h.half_is in
     record { on = omega (arith, at, h.lies.inside.2); in_span = omega (arith, at, h.lies.inside.3); in_content = omega (arith, at, h.lies.inside.4) }
 
--- ---- where it starts
+-- ---- the start of a match
 
--- with the start of what is found it is the whole match
+-- with the start of the find it is the whole match
 whole_is : (p : ByteProgram) (s : Search) (half : HalfFound) (start : ℕ) (h : HasHalf p s half) → start_of h.outcome ≡ start → IsFound (Finds p) s (Some (whole_of half start))
 whole_is p s half start h is = (
   Some h.outcome,
@@ -90,7 +90,7 @@ first_whole p s half answer first =
     let h = has_half p s half answer in
     whole_is p s half s.start h (starts_there s (start_of h.outcome) (end_of h.outcome) h.lies (subst (λ (f : HalfFound). StartsAtSpan s f.offset) h.half_is first))
 
--- what is found back from its end
+-- what is found backward from its end
 back_found : (p : ByteProgram) (s : Search) (half : HalfFound) (h : HasHalf p s half) (out : Option PatternMatch) → ProgramFindsBack is_in is_word_char (character_program p) (back_from s half.offset) out → IsStartOf h.outcome out
 back_found p s half h out finds =
     finds_start_back is_in is_word_char (character_program p) s h.outcome out h.finds
@@ -106,7 +106,7 @@ back_whole p s half back answer answer_back =
     let same : back ≡ back_half at.found = same_Some back (back_half at.found) (answer_back.met_is ∙ ap (option_map (λ a. record { pattern = a.pattern; offset = a.start })) at.is) in
     whole_is p s half back.offset h (sym at.start ∙ sym (ap (λ (f : HalfFound). f.offset) same))
 
--- something is found back
+-- something is found backward
 pub back_there : (p : ByteProgram) (s : Search) (half : HalfFound) → IsHalfAnswer p s (Some half) → IsHalfAnswerBack p (back_from s half.offset) None → ⊥
 back_there p s half answer answer_back =
     let h = has_half p s half answer in
@@ -142,23 +142,23 @@ search_by utf8_empty content asked = record {
   utf8_empty = utf8_empty;
 }
 
--- of an input that asks for the same of the same content
+-- an input with the same settings over the same haystack
 pub same_search : (utf8_empty : Bool) (i j : InputState) → IsSameContent i.cursor j.cursor → j.asked ≡ i.asked → search_of utf8_empty j ≡ search_of utf8_empty i
 same_search utf8_empty i j same asked = ap₂ (search_by utf8_empty) same.content asked
 
--- the search back that is asked for
+-- the backward search of the input
 pub turned_search : (utf8_empty : Bool) (i j : InputState) (end : ℕ) → i.asked.anchored ≡ No → IsTurnedBack i j end → search_of utf8_empty j ≡ back_from (search_of utf8_empty i) end
 turned_search utf8_empty i j end none turned =
     ap₂ (search_by utf8_empty) turned.same.content turned.asked
     ∙ sym (ap (λ (m : Anchored). back_from (search_by utf8_empty i.cursor.content (record i.asked { anchored = m })) end) none)
 
--- what is found back from there
+-- what is found backward from there
 pub back_answer : (p : ByteProgram) (utf8_empty : Bool) (old i : InputState) (half : HalfFound) (end : ℕ) (out : Option HalfFound) → IsSameContent old.cursor i.cursor → i.asked ≡ old.asked → end ≡ half.offset
     → IsHalfAnswerBack p (back_from (search_of utf8_empty i) end) out → IsHalfAnswerBack p (back_from (search_of utf8_empty old) half.offset) out
 back_answer p utf8_empty old i half end out same asked at answer =
     subst (λ x. IsHalfAnswerBack p x out) (ap₂ (λ x k. back_from x k) (same_search utf8_empty old i same asked) at) answer
 
--- and what was asked for before
+-- and the settings from before
 pub asked_again : (before turned after : Asked) (end last : ℕ) → before.anchored ≡ No → turned ≡ record before { span = record before.span { end = end }; anchored = Yes } → last ≡ before.span.end
     → after ≡ record turned { span = record turned.span { end = last }; anchored = No } → after ≡ before
 asked_again before turned after end last none is last_is then =
@@ -169,7 +169,7 @@ asked_again before turned after end last none is last_is then =
 pub no_truth : (b : Bool) → IsTrue b → b ≡ false → ⊥
 no_truth b is e = let told : b ≡ true = is in absurd (cc (sym told ∙ e))
 
--- ---- what comes next
+-- ---- the next match
 
 -- nothing is found
 pub none_next : (p : ByteProgram) (s : Search) (last : Option ℕ) → IsFound (Finds p) s None → IsFoundNext (Finds p) s last None
@@ -179,7 +179,7 @@ none_next p s last is = by is.0 is.1 is.2
     by None finds is = (None, nothing finds, refl)
     by (Some t) finds is = absurd (cc is)
 
--- a match that isn't an empty one where the last one ended
+-- a match that isn't empty at the end of the last one
 pub some_next : (p : ByteProgram) (s : Search) (last : Option ℕ) (found : Found) → IsFound (Finds p) s (Some found) → (IsEmptyAtLast last found → ⊥) → IsFoundNext (Finds p) s last (Some found)
 some_next p s last found is apart = by is.0 is.1 is.2
   where
@@ -187,7 +187,7 @@ some_next p s last found is apart = by is.0 is.1 is.2
     by None finds is = absurd (cc is)
     by (Some t) finds is = (Some t, at_once finds (λ empty. subst (λ (a : Found). IsEmptyAtLast last a → ⊥) (same_Some found (match_of t) is) apart empty), is)
 
--- one that is passed over
+-- one that is skipped
 pub further_next : (p : ByteProgram) (s : Search) (last : Option ℕ) (found : Found) (next : Option Found) → IsFound (Finds p) s (Some found) → IsEmptyAtLast last found → IsFound (Finds p) (from_place_on s (s.start + 1)) next → IsFoundNext (Finds p) s last next
 further_next p s last found next is empty further = by is.0 is.1 is.2
   where

@@ -1,4 +1,4 @@
--- What the searches for the halves are refused by is what the whole search is.
+-- The errors of the searches for the halves are those of the whole search.
 use Rattle.std.proofs.Common.{◌≡◌, ℕ, false, Result, Ok, Err, IfErr, refl}
 use Rattle.rx_util.specs.declared.search.MatchError.{MatchError}
 use Rattle.rx_util.specs.declared.search.MatchError.TheVariants as error
@@ -15,7 +15,7 @@ as_anchored unanchored e = cc e
 as_anchored anchored e = cc e
 as_anchored (anchored_pattern k) e = cc e
 
--- a search back from the end of what was found lacks memory alone
+-- a backward search from the end of a find fails only out of memory
 pub back_memory : (s : Search) (end : ℕ) (e : MatchError) → IsRefusalBack (back_from s end) e → e ≡ error.Memory
 back_memory s end error.Memory why = refl
 back_memory s end (error.Quit b i) why = absurd why

@@ -1,4 +1,4 @@
--- Matches by their halves: where one ends, and where it starts.
+-- Matches from their halves: the end, and the start.
 use Rattle.std.specs.Prelude.{◌≡◌, ℕ, ◌⊎◌, IsTrue}
 use Rattle.rx_util.specs.declared.search.Anchored.TheVariants.{Yes}
 use Rattle.rx_util.specs.Search.{Found, HalfFound}
@@ -6,17 +6,17 @@ use Rattle.rx_input.specs.Cursors.{IsSameContent}
 use Rattle.rx_input.specs.Inputs.{InputState}
 use Rattle.rx_walks.specs.Finds.{Search, is_anchored}
 
--- a match of a search that ends here starts where the span does: matches start there alone, or it
--- is an empty one there
+-- a match of a search that ends here starts at the span's start: matches start only there, or it is
+-- empty and there
 abbrev pub StartsAtSpan : Search → ℕ → Type 0
 StartsAtSpan s end = IsTrue (is_anchored s.anchoring) ⊎ (s.start ≡ end)
 
--- the match with this half that starts at a place
+-- the match with this half and this start
 abbrev pub whole_of : HalfFound → ℕ → Found
 whole_of half start =
     record { pattern = half.pattern; span = record { start = start; end = half.offset } }
 
--- an input over the same content, of which the search back from the end of a match is asked
+-- an input over the same haystack, set to the backward search from the end of a match
 pub record IsTurnedBack (old new : InputState) (end : ℕ) : Type 0 where
   pub same : IsSameContent old.cursor new.cursor
   pub asked : new.asked

@@ -1,4 +1,4 @@
--- What searches for whole matches are refused by, and what iterators over them give.
+-- Why searches for whole matches fail, and what iterators over them give.
 use Rattle.std.specs.Prelude.{◌≡◌, ◌⊎◌, Option, Result, IfSome, IfErr, OnErr}
 use Rattle.std.specs.Borrow.{MutBor}
 use Rattle.rx_util.specs.declared.search.MatchError.{MatchError}
@@ -18,26 +18,26 @@ use Rattle.rx_chunk.specs.Engines.{Finds, match_of}
 use Rattle.rx_matches.specs.declared.dfa.find_matches.FindMatches as dense
 use Rattle.rx_matches.specs.declared.hybrid.find_matches.FindMatches as lazy
 
--- ---- refusals
+-- ---- errors
 
--- by a closed automaton: a byte before which it can't go on, or want of memory
+-- with a dense automaton: a byte before which it must quit, or out of memory
 abbrev pub IsDenseRefusal : AskedLooks → Search → MatchError → Type 0
 IsDenseRefusal asked s error = IsQuit asked s error ⊎ (error ≡ Memory)
 
--- by an automaton whose states a cache keeps
+-- with a lazy automaton
 abbrev pub IsLazyRefusal : AskedLooks → Search → MatchError → Type 0
 IsLazyRefusal asked s error = passing.IsRefusal asked s error
 
 -- ---- iterators
 
--- a step of an iterator over the matches of a program, which is refused as the search for the next
--- match is; none comes where nothing more is found, and after a refusal
+-- a step of an iterator over the matches of a program, which fails as the search for the next match
+-- does; it ends if no match follows, and after an error
 pub record GivesNext (p : ByteProgram) (refuses : Search → MatchError → Type 0) (m : MatchesLeft)
     (item : Option (Result Found MatchError)) (n : MatchesLeft) : Type 0 where
   pub gives : GivesMatch (Finds p) match_of m item n
   pub refused : IfSome item (λ answer. IfErr answer (refuses m.search))
 
--- what an iterator of a closed automaton has left
+-- what an iterator with a dense automaton has left
 abbrev pub dense_left : {C : Type 0} → dense.FindMatches C → MatchesLeft
 dense_left m = record {
   search = search_of m.re.now.engine.utf8_empty m.input;
@@ -45,21 +45,21 @@ dense_left m = record {
   is_over = m.is_over;
 }
 
--- and its engine
+-- its engine
 abbrev pub dense_engine : {C : Type 0} → dense.FindMatches C → DenseView
 dense_engine m = m.re.now
 
--- a step of it, which searches with the same engine on
+-- a step of it, which keeps the engine
 pub record DenseGives {C : Type 0} (m : dense.FindMatches C)
     (item : Option (Result Found MatchError)) (n : dense.FindMatches C) : Type 0 where
   pub next : GivesNext (dense_engine m).engine.program
       (IsDenseRefusal (dense_engine m).automaton.dfa.asked) (dense_left m) item (dense_left n)
-  -- the looks of words that make it quit are those of the program
+  -- the word assertions that make it quit are those of the program
   pub dfa : IfSome item (λ answer. OnErr answer
       (IsAlphabetOf (dense_engine m).engine.program (dense_engine m).automaton.dfa))
   pub same_engine : dense_engine n ≡ dense_engine m
 
--- the same of an iterator that was lent a cache
+-- the same for an iterator that borrows a cache
 abbrev pub lazy_left : {C : Type 0} → lazy.FindMatches C → MatchesLeft
 lazy_left m = record {
   search = search_of m.re.now.engine.utf8_empty m.input;
@@ -78,7 +78,7 @@ lazy_cache m = m.cache
 abbrev pub lazy_serves : {C : Type 0} → lazy.FindMatches C → Type 0
 lazy_serves m = IsHybridCacheOf (lazy_engine m) (lazy_cache m).now
 
--- a step of it, which searches with the same cache on, and leaves that one for the engine
+-- a step of it, which keeps the engine and the cache
 pub record LazyGives {C : Type 0} (m : lazy.FindMatches C)
     (item : Option (Result Found MatchError)) (n : lazy.FindMatches C) : Type 0 where
   pub next : GivesNext (lazy_engine m).engine.program

@@ -1,4 +1,4 @@
-//! The engine that searches by an automaton whose states are all made as it is built.
+//! The engine with a dense automaton, whose states are all computed when it is built.
 
 ghost use Rattle.std.specs.Prelude.{◌≡◌, ◌+◌, ◌≤◌, IfOk, IfErr, ℕ};
 ghost use Rattle.rx_util.specs.declared.search.Anchored.TheVariants.{No};
@@ -23,7 +23,10 @@ mod find_matches;
 pub use find_matches::FindMatches;
 pub use rx_dfa::dense::{Regex, try_search_fwd, try_search_rev};
 
-/// Searches back from the end of a match, in an input that isn't anchored. The one refusal is
+/// Searches backward from the end of a match, in an input that isn't anchored.
+///
+/// # Errors
+///
 /// `Memory`.
 fn search_back<C: Cursor>(
     re: &Regex,
@@ -45,12 +48,17 @@ fn search_back<C: Cursor>(
     back
 }
 
-/// Searches forward for where the match ends that is found, and from there back for where it
-/// starts: answers that match. It ends in the span. An anchored input, or an empty match at the
-/// span's start, takes no search back.
+/// Searches forward for the end of the match that is found, and from there backward for its start,
+/// and returns that match. It ends in the span. An anchored input, or an empty match at the span's
+/// start, needs no backward search.
 ///
-/// The refusals are those of `try_search_fwd` and `try_search_rev`: `Quit`, with a byte of 128 or
-/// more of the slice, where `dfa` says that `\b` or `\B` stands in the program; and `Memory`.
+/// # Errors
+///
+/// Those of `try_search_fwd` and `try_search_rev`:
+///
+/// - `Quit` for a byte of the slice that is 128 or more, if the program has word assertions (`dfa`:
+///   it contains `\b` or `\B`)
+/// - `Memory`
 pub fn try_search<C: Cursor>(re: &Regex, input: &mut Input<C>) -> Result<Option<Match>, MatchError>
     ensures answer { IfOk result (IsFound (Finds re.now.engine.program)
         (search_of re.now.engine.utf8_empty input.old)) }
@@ -62,7 +70,7 @@ pub fn try_search<C: Cursor>(re: &Regex, input: &mut Input<C>) -> Result<Option<
         (search_of re.now.engine.utf8_empty input.old)) }
     ensures dfa { IsAlphabetOf re.now.engine.program re.now.automaton.dfa }
 {
-    let _at = input.position(); // tells how long the content may be
+    let _at = input.position(); // for the proof: how long the haystack may be
     let Some(half) = try_search_fwd(re, input)? else {
         return Ok(None);
     };
@@ -76,7 +84,7 @@ pub fn try_search<C: Cursor>(re: &Regex, input: &mut Input<C>) -> Result<Option<
     Ok(Some(whole(half, back.offset())))
 }
 
-/// Returns the match that is found, as `try_search` does.
+/// Returns the match that is found, as `try_search` does, with the same errors.
 pub fn find<C: Cursor>(re: &Regex, input: &mut Input<C>) -> Result<Option<Match>, MatchError>
     ensures answer { IfOk result (IsFound (Finds re.now.engine.program)
         (search_of re.now.engine.utf8_empty input.old)) }
@@ -91,8 +99,8 @@ pub fn find<C: Cursor>(re: &Regex, input: &mut Input<C>) -> Result<Option<Match>
     try_search(re, input)
 }
 
-/// The match that comes next where the last one, if there was one, ended at `last_match_end`: an
-/// empty match there is passed over, and the search goes on one byte further than the span starts.
+/// Returns the next match after one that ended at `last_match_end`. An empty match there is
+/// skipped, and the search continues one byte after the start of the span.
 fn find_next<C: Cursor>(
     re: &Regex,
     input: &mut Input<C>,
@@ -118,8 +126,8 @@ fn find_next<C: Cursor>(
     try_search(re, input)
 }
 
-/// Returns an iterator over the matches in an input, one after the other. An empty match where the
-/// one before ended is passed over; after a refusal, which is one of `try_search`, none comes.
+/// Returns an iterator over the matches in an input. An empty match at the end of the one before is
+/// skipped; after an error, which is one of `try_search`, it ends.
 pub fn find_iter<'r, C: Cursor>(re: &'r Regex, input: Input<C>) -> FindMatches<'r, C>
     ensures left { dense_left result
         ≡ matches_from (search_of re.now.engine.utf8_empty input) }

@@ -1,4 +1,4 @@
-//! A match by its halves: where it ends, and where it starts.
+//! A match from its halves: its end, and its start.
 
 ghost use Rattle.std.specs.Prelude.{◌≡◌, ◌+◌, ◌≤◌, ◌<◌, ◌↔◌, Bool, IsTrue, Some, true, false};
 ghost use Rattle.rx_util.specs.declared.search.Anchored.TheVariants.{No, Yes};
@@ -10,8 +10,8 @@ ghost use Rattle.rx_matches.specs.Halves.{IsTurnedBack, StartsAtSpan, whole_of};
 use rx_input::{Cursor, Input};
 use rx_util::{Anchored, HalfMatch, Match, Span};
 
-/// Whether a match that ends at a place starts where the span does: the search is anchored, or the
-/// match is an empty one there.
+/// Returns whether a match that ends at an offset starts at the span's start: the search is
+/// anchored, or the match is empty and there.
 pub fn starts_first<C: Cursor>(input: &Input<C>, end: usize) -> bool
     ensures yes { result ≡ true → (utf8_empty : Bool)
         → StartsAtSpan (search_of utf8_empty input.now) end }
@@ -23,8 +23,12 @@ pub fn starts_first<C: Cursor>(input: &Input<C>, end: usize) -> bool
     }
 }
 
-/// Makes an input that isn't anchored ask for the search back from the end of a match, and answers
-/// where its span ended.
+/// Sets an input that isn't anchored to the backward search from the end of a match, and returns
+/// the end of its span.
+///
+/// # Requires
+///
+/// The span starts at or before `end + 1`.
 pub fn turn_back<C: Cursor>(input: &mut Input<C>, end: usize) -> usize
     requires span { input.old.asked.span.start ≤ end + 1 }
     ensures turned { IsTurnedBack input.old input.new end }
@@ -36,7 +40,11 @@ pub fn turn_back<C: Cursor>(input: &mut Input<C>, end: usize) -> usize
     last
 }
 
-/// Makes an input ask for the search forward again, whose span ends there.
+/// Sets an input to the forward search again, with this end of its span.
+///
+/// # Requires
+///
+/// The span starts at or before `last + 1`.
 pub fn turn_forward<C: Cursor>(input: &mut Input<C>, last: usize)
     requires span { input.old.asked.span.start ≤ last + 1 }
     ensures asked { input.new.asked ≡ record input.old.asked {
@@ -49,7 +57,11 @@ pub fn turn_forward<C: Cursor>(input: &mut Input<C>, last: usize)
     input.set_end(last);
 }
 
-/// The match with this half that starts at a place.
+/// Returns the match with this half and this start.
+///
+/// # Requires
+///
+/// The start isn't past the half match's offset.
 pub fn whole(half: HalfMatch, start: usize) -> Match
     requires { start ≤ half.offset }
     ensures { result ≡ whole_of half start }
@@ -63,7 +75,7 @@ pub fn whole(half: HalfMatch, start: usize) -> Match
     )
 }
 
-/// Whether it is an empty match where the last one ended.
+/// Returns whether the match is empty and at the end of the last one.
 pub fn is_empty_at_last(found: &Match, last_match_end: Option<usize>) -> bool
     ensures { IsTrue result ↔ IsEmptyAtLast last_match_end found.now }
 {

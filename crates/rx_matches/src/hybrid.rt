@@ -1,4 +1,4 @@
-//! The engine that searches by an automaton whose states are made as a search comes to them.
+//! The engine with a lazy automaton, whose states are computed when a search reaches them.
 
 ghost use Rattle.std.specs.Prelude.{◌≡◌, ◌+◌, ◌≤◌, IfOk, IfErr, ℕ};
 ghost use Rattle.rx_util.specs.declared.search.Anchored.TheVariants.{No};
@@ -25,8 +25,12 @@ mod find_matches;
 pub use find_matches::FindMatches;
 pub use rx_dfa::hybrid::{Cache, Regex, try_search_fwd, try_search_rev};
 
-/// Searches back from the end of a match, in an input that isn't anchored. The one refusal is
-/// `Memory`. The cache must be one for the engine, and still is one afterwards.
+/// Searches backward from the end of a match, in an input that isn't anchored. The cache must be
+/// one for the engine, and remains one after an error.
+///
+/// # Errors
+///
+/// `Memory`.
 fn search_back<C: Cursor>(
     re: &Regex,
     cache: &mut Cache,
@@ -50,14 +54,22 @@ fn search_back<C: Cursor>(
     back
 }
 
-/// Searches forward for where the match ends that is found, and from there back for where it
-/// starts: answers that match. It ends in the span. An anchored input, or an empty match at the
-/// span's start, takes no search back. The cache must be one for the engine, and still is one
-/// afterwards, whatever is answered.
+/// Searches forward for the end of the match that is found, and from there backward for its start,
+/// and returns that match. It ends in the span. An anchored input, or an empty match at the span's
+/// start, needs no backward search.
 ///
-/// The refusals are those of `try_search_fwd` and `try_search_rev`: `Quit`, with a byte of 128 or
-/// more of the slice, where `dfa` says that `\b` or `\B` stands in the program; `GaveUp`; and
-/// `Memory`.
+/// # Requires
+///
+/// The cache is for this engine, for which it remains one, also after an error.
+///
+/// # Errors
+///
+/// Those of `try_search_fwd` and `try_search_rev`:
+///
+/// - `Quit` for a byte of the slice that is 128 or more, if the program has word assertions (`dfa`:
+///   it contains `\b` or `\B`)
+/// - `GaveUp` if the cache would be cleared too often
+/// - `Memory`
 pub fn try_search<C: Cursor>(
     re: &Regex,
     cache: &mut Cache,
@@ -76,7 +88,7 @@ pub fn try_search<C: Cursor>(
     ensures dfa { IsAlphabetOf re.now.engine.program re.now.dfa }
     ensures late { IfErr result (GivesUpLate cache.new.states) }
 {
-    let _at = input.position(); // tells how long the content may be
+    let _at = input.position(); // for the proof: how long the haystack may be
     let Some(half) = try_search_fwd(re, cache, input)? else {
         return Ok(None);
     };
@@ -90,7 +102,7 @@ pub fn try_search<C: Cursor>(
     Ok(Some(whole(half, back.offset())))
 }
 
-/// Returns the match that is found, as `try_search` does, and under its condition.
+/// Returns the match that is found, as `try_search` does, with the same requirement and errors.
 pub fn find<C: Cursor>(
     re: &Regex,
     cache: &mut Cache,
@@ -112,9 +124,9 @@ pub fn find<C: Cursor>(
     try_search(re, cache, input)
 }
 
-/// The match that comes next where the last one, if there was one, ended at `last_match_end`: an
-/// empty match there is passed over, and the search goes on one byte further than the span starts.
-/// The cache must be one for the engine, and still is one afterwards.
+/// Returns the next match after one that ended at `last_match_end`. An empty match there is
+/// skipped, and the search continues one byte after the start of the span. The cache must be one
+/// for the engine, and remains one after an error.
 fn find_next<C: Cursor>(
     re: &Regex,
     cache: &mut Cache,
@@ -143,9 +155,12 @@ fn find_next<C: Cursor>(
     try_search(re, cache, input)
 }
 
-/// Returns an iterator over the matches in an input, one after the other. An empty match where the
-/// one before ended is passed over; after a refusal, which is one of `try_search`, none comes.
-/// Requires that the cache is one for the engine; once the iterator is dropped it serves again.
+/// Returns an iterator over the matches in an input. An empty match at the end of the one before is
+/// skipped; after an error, which is one of `try_search`, it ends.
+///
+/// # Requires
+///
+/// The cache is for this engine. It can be used again once the iterator is dropped.
 pub fn find_iter<'r, 'c, C: Cursor>(
     re: &'r Regex,
     cache: &'c mut Cache,

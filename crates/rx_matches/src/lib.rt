@@ -1,4 +1,4 @@
-//! Whole matches by the engines of `rx_dfa`: each is made of where it ends and where it starts.
+//! Whole matches with the engines of `rx_dfa`, each from its end and its start.
 #![tactic(auto)]
 
 pub mod dfa;

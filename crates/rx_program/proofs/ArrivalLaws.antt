@@ -1,4 +1,4 @@
--- Lists of which some get a number at their end, and what is made of each item of a list.
+-- Lists to which numbers are appended, and f of each item of a list.
 use Rattle.std.proofs.Common.{◌≡◌, ℕ, zero, suc, ◌+◌, ◌-◌, ◌<◌, ◌⊎◌, Bool, true, false, ◌||◌, ◌==◌, cond, is_some, List, [], ◌∷◌, ◌++◌, length, map, take, set, get_or, slice_get, Option, Some, None, Vec, refl, sym, ap, ap₂, ◌∙◌, arith, length-append, inl, inr}
 use Rattle.std.proofs.lemmas.Bool.{eq-eqb, cases_eq}
 use Rattle.std.proofs.lemmas.Bool.Decides.{nat_tests}
@@ -39,7 +39,7 @@ put_twice xs n = by_end (ends_with xs n) refl
     by_end true is = ap (λ b. cond b xs (xs ++ n ∷ [])) is
     by_end false is = ap (λ b. cond b (xs ++ n ∷ []) ((xs ++ n ∷ []) ++ n ∷ [])) (ends_so xs n)
 
--- ---- lists of which some get it
+-- ---- lists to which it is appended
 
 pub puts_same : {n : ℕ} {lists lists' : List (List ℕ)} (test test' : ℕ → Bool) → ((q : ℕ) → test q ≡ test' q) → PutsNumber n test lists lists' → PutsNumber n test' lists lists'
 puts_same {n = n} {lists = lists} test test' same puts = record {
@@ -124,7 +124,7 @@ below_both [] ys n first second d y e = second d y e
 below_both (x ∷ xs) ys n first second zero y e = first zero y e
 below_both (x ∷ xs) ys n first second (suc d) y e = below_both xs ys n (λ d' y' e'. first (suc d') y' e') second d y e
 
--- the number of one more item is put at the ends of those lists whose test it passes
+-- the number of one more item is appended to the lists whose test it passes
 pub lists_next : {X : Type 0} (first : ℕ → List ℕ) (test : ℕ → X → Bool) (count at id : ℕ) (xs ys : List X) (x : X) (lists lists' : List (List ℕ)) → ((q : ℕ) → AllBelow (first q) at) → ys ≡ xs ++ x ∷ [] → id ≡ at + length xs
     → AreLists count (λ q. first q ++ those (test q) at xs) lists → PutsNumber id (λ q. test q x) lists lists' → AreLists count (λ q. first q ++ those (test q) at ys) lists'
 lists_next first test count at id xs ys x lists lists' before more number are puts = record {
@@ -168,7 +168,7 @@ is_a_match (note slot r) = refl
 is_a_match (look l r) = refl
 is_a_match (reads_set x r) = refl
 
--- ---- what is made of each item
+-- ---- f of each item
 
 pub taken : {A B : Type 0} (f : A → B) (xs : List A) (i : ℕ) (x : A) → i < length xs → x ≡ get_or xs i x → take (i + 1) (map f xs) ≡ take i (map f xs) ++ f x ∷ []
 taken f xs i x within is =
@@ -180,7 +180,7 @@ indexed_next f at (y ∷ xs) x =
     let place : suc at + length xs ≡ at + suc (length xs) = omega arith in
     ap (λ zs. f at y ∷ zs) (indexed_next f (suc at) xs x ∙ ap (λ k. indexed f (suc at) xs ++ f k x ∷ []) place)
 
--- one more is made, behind others
+-- f of one more item, after others
 pub indexed_more : {X Y : Type 0} (f : ℕ → X → Y) (xs ys : List X) (x : X) (i : ℕ) (before all all' : List Y) (y : Y) → ys ≡ xs ++ x ∷ [] → i ≡ length xs → y ≡ f i x → all ≡ before ++ indexed f 0 xs → all' ≡ all ++ y ∷ [] → all' ≡ before ++ indexed f 0 ys
 indexed_more f xs ys x i before all all' y more number made are grown =
     let place : i ≡ 0 + length xs = omega (arith, number) in

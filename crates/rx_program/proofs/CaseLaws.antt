@@ -1,4 +1,4 @@
--- What each job is done by.
+-- What does each job.
 use Rattle.std.proofs.Common.{◌≡◌, ℕ, suc, ◌+◌, ◌-◌, ◌<◌, Bool, List, [], ◌∷◌, ◌++◌, length, Option, refl, sym, ap, ap₂, subst, ◌∙◌, arith}
 use Rattle.std.specs.List.{All}
 use Rattle.std.proofs.lemmas.List.{append-nil}
@@ -31,7 +31,7 @@ pub one_state : (s : State) → ReadsItsSet s → All ReadsItsSet (s ∷ [])
 one_state s h = All-cons ReadsItsSet s [] h no_states
 
 module _ {slots : ℕ} (parts : List Tree) (at : ℕ) where
-  -- nothing is left of a row
+  -- a row without parts
   pub does_no_row : (root size next : ℕ) → JobIsDone slots parts at (job.Row 0 root size next) [] []
   does_no_row root size next = record { code = refl; size = refl; work = omega arith; jobs = no_jobs parts; reads = no_states }
 
@@ -140,7 +140,7 @@ module _ {slots : ℕ} (parts : List Tree) (at : ℕ) where
     reads = one_state first reads;
   }
 
-  -- trees one after the other
+  -- trees in sequence
   pub does_concat : (root child size next : ℕ) (trees : Trees) → part_at parts root ≡ concat trees → IsRow parts (how_many trees) child (trees_in trees) → size ≡ size_of (concat trees)
       → JobIsDone slots parts at (job.Part root next) [] (job.Row (how_many trees) child size next ∷ [])
   does_concat root child size next trees is row size_is =
@@ -154,7 +154,7 @@ module _ {slots : ℕ} (parts : List Tree) (at : ℕ) where
         reads = no_states;
       }
 
-  -- trees beside one another
+  -- alternative trees
   pub does_alternation : (root child next : ℕ) (trees : Trees) (s : State) → part_at parts root ≡ alternation trees → IsRow parts (how_many trees) child (trees_in trees)
       → node_of s ∷ branches_code slots trees (at + 1) next ≡ code_of slots (alternation trees) at next → ReadsItsSet s
       → JobIsDone slots parts at (job.Part root next) (s ∷ []) (job.Branches (how_many trees) child next ∷ [])

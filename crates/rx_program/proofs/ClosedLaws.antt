@@ -1,4 +1,4 @@
--- The edges of a pattern's program lead to its nodes, and stay with the pattern.
+-- The edges of a pattern's program lead to its nodes, and stay in the pattern.
 use Rattle.std.proofs.Common.{◌≡◌, ℕ, zero, suc, ◌+◌, ◌-◌, ◌*◌, ◌<◌, ◌≤◌, Bool, true, false, List, [], ◌∷◌, ◌++◌, length, Option, Some, None, refl, sym, ap, ap₂, subst, ◌∙◌, arith, length-append}
 use Rattle.std.specs.List.{All}
 use Rattle.std.proofs.lemmas.List.Elements.{All-cons, All-nil, All-append, All-weaker}
@@ -33,7 +33,7 @@ mutual
   some_row (two first second) = omega (arith, some_nodes first)
   some_row (more first others) = omega (arith, some_nodes first)
 
--- and exactly as many as its size is
+-- and as many as its size
 pub copies_length : (s : ℕ) (h : ℕ → ℕ → Code) → ((at next : ℕ) → length (h at next) ≡ s) → (n at next : ℕ) → length (copies s h n at next) ≡ n * s
 copies_length s h is zero at next = omega arith
 copies_length s h is (suc n) at next =
@@ -94,7 +94,7 @@ StaysIn low n k (set ranges r) = In low n r
 
 -- edges
 module _ (low n p : ℕ) where
-  -- so many nodes from one on lie there
+  -- `k` nodes from one on are there
   pub record Room (at k : ℕ) : Type 0 where
     pub from : low ≤ at
     pub room : at + k ≤ n
@@ -248,7 +248,7 @@ pattern_is_closed tree terminator =
       patterns = All-cons (λ r. r < length (pattern_code 0 0 tree 0)) 0 [] (omega (arith, count)) (All-nil (λ r. r < length (pattern_code 0 0 tree 0)));
     }
 
--- where several patterns stand, or none
+-- the program of several patterns, or none
 abbrev pub several : List Tree → ℕ → Program walks.Look (List Range)
 several trees terminator = record {
   nodes = pass (pattern_starts trees 1) ∷ patterns_code (2 * length trees - 2) 0 trees 1;

@@ -70,7 +70,7 @@ module _ {slots : ℕ} (parts : List Tree) (states : List State) (jobs one two :
       does_optional parts (length states) greedy (count - 1) root next on s node reads on_is below in
       done (s ∷ []) (b ∷ a ∷ []) more_is (pushed_two jobs one two a b e f) (subst (λ n. JobIsDone slots parts (length states) (job.Optional greedy n root next) (s ∷ []) (b ∷ a ∷ [])) (sym some) does)
 
--- with no part left
+-- without parts
 pub no_row_done : {slots : ℕ} (parts : List Tree) (states : List State) (jobs : List Job) (count root size next : ℕ) → count ≡ 0 → DoesJob slots parts (job.Row count root size next) states states jobs jobs
 no_row_done {slots = slots} parts states jobs count root size next none =
     done [] [] (no_more states) (no_more jobs) (subst (λ n. JobIsDone slots parts (length states) (job.Row n root size next) [] []) (sym none) (does_no_row parts (length states) root size next))
@@ -87,7 +87,7 @@ pub no_optional_done : {slots : ℕ} (parts : List Tree) (states : List State) (
 no_optional_done {slots = slots} parts states jobs greedy count root next none =
     done [] [] (no_more states) (no_more jobs) (subst (λ n. JobIsDone slots parts (length states) (job.Optional greedy n root next) [] []) (sym none) (does_no_optional parts (length states) greedy root next))
 
--- how many states a row's last part and the others have
+-- the numbers of states of a row's last part and the others
 pub row_sizes : (parts : List Tree) (count root size next : ℕ) → count ≡ suc (count - 1) → IsJob parts (job.Row count root size next)
     → (root < length parts) × (size_of (part_at parts root) ≤ size)
 row_sizes parts count root size next some is =

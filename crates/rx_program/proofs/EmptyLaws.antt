@@ -1,4 +1,4 @@
--- A part may be empty exactly where it takes nothing, if all looks hold.
+-- A part may be empty exactly if it matches nothing when all assertions hold.
 use Rattle.std.proofs.Common.{◌≡◌, ℕ, zero, suc, ◌≤◌, Bool, true, ◌||◌, ◌==◌, List, [], ◌∷◌, ◌++◌, refl, sym, subst, arith, inl, inr}
 use Rattle.std.proofs.lemmas.Bool.{and_parts, and_from, or_cases, or_left, or_right, eq-eqb, eqb-true}
 use Rattle.std.proofs.lemmas.List.Elements.{All-head}
@@ -25,7 +25,7 @@ back xs ys bounded = all_right (λ tree. IsBounded (root_of tree)) xs ys bounded
 no_times : (takes : ℕ → ℕ → Type 0) (i n : ℕ) → n ≡ 0 → Times takes n i i
 no_times takes i n none = subst (λ n. Times takes n i i) (sym none) refl
 
--- where it may be empty it takes nothing
+-- if it may be empty, it matches nothing
 mutual
   may_pass : (tree : Tree) → AreBounded (subtrees_of tree) → (i : ℕ) → may_be_empty tree ≡ true → Passes tree i i
   may_pass empty bounded i may = refl
@@ -59,7 +59,7 @@ mutual
     | inr b ↦ inr (any_may_pass others (back (subtrees_of one) (all_subtrees_of others) bounded) i b)
   ]
 
--- and where it takes anything it may be empty
+-- and if it matches anything, it may be empty
 times_may : (takes : ℕ → ℕ → Type 0) (may : Bool) → ((i j : ℕ) → takes i j → may ≡ true) → (least n i j : ℕ) → least ≤ n → Times takes n i j → ((least == 0) || may) ≡ true
 times_may takes may once least zero i j few times = or_left (least == 0) may (eq-eqb least 0 (omega (arith, few)))
 times_may takes may once least (suc n) i j few times = or_right (least == 0) may (once i times.0 times.1)

@@ -1,4 +1,4 @@
--- What the code knows of a part by its root.
+-- What the code knows of a part from its root.
 use Rattle.std.proofs.Common.{◌≡◌, ℕ, zero, suc, ◌+◌, ◌<◌, ◌^◌, List, [], ◌∷◌, length, map, get_or, refl, sym, ap, ◌∙◌, arith}
 use Rattle.std.proofs.lemmas.List.{length-map}
 use Rattle.rx_grammar.specs.declared.properties.Properties.{Properties}

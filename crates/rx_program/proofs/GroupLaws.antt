@@ -1,4 +1,5 @@
--- Of a group's two slots both hold a place or neither does, and the second one's place isn't before the first one's.
+-- Of a group's two slots both have an offset or neither, and the second one's isn't less than the
+-- first one's.
 use Rattle.std.proofs.Common.{◌≡◌, ℕ, zero, suc, ◌+◌, ◌-◌, ◌*◌, ◌<◌, ◌≤◌, Bool, true, false, List, [], ◌∷◌, ◌++◌, length, get_or, Option, Some, None, slice_get, refl, sym, ap, subst, ◌∙◌, arith, inl, inr, length-append}
 use Rattle.std.specs.List.{All}
 use Rattle.std.proofs.lemmas.Bool.{cases_eq}
@@ -111,7 +112,7 @@ module _ (first : List Range → List ℕ → Option ℕ) (h : Haystack walks.Lo
   read_later (look l r) to j' e = absurd (cc (only_reads (h.holds l j) (goes (r ∷ [])) e))
   read_later (set x r) to j' e = read_behind r j (first x (left_from h j)) e
 
--- ---- walks of fewer than so many steps
+-- ---- walks of a limited number of steps
 
 abbrev walk_size : {Q N : Type 0} {m : Machine Q N} {seen : List Q} {n : N} {q : Q} {i : ℕ} {cs : List ℕ} {t : Outcome N} → Walk m seen n q i cs t → ℕ
 walk_size (ended new is) = 0
@@ -119,7 +120,8 @@ walk_size (went rs r new is at w) = suc (walk_size w)
 walk_size (took r j new is w) = suc (walk_size w)
 
 module _ (first : List Range → List ℕ → Option ℕ) (h : Haystack walks.Look) (nodes : Code) (Post : Notes → Type 0) where
-  -- where Pre holds of the notes and the place, each such walk from this node comes to notes of which Post holds
+  -- if Pre holds of the notes and the offset, each such walk from this node gives notes of which
+  -- Post holds
   abbrev LeadsTo : (Notes → ℕ → Type 0) → ℕ → ℕ → Type 0
   LeadsTo Pre count q = (seen : List ℕ) (n : Notes) (j : ℕ) (cs : List ℕ) (t : Outcome Notes) (w : Walk (over_characters put_note first nodes h) seen n q j cs t) → walk_size w < count → Pre n j → Post t.notes
 
@@ -145,7 +147,7 @@ module _ (first : List Range → List ℕ → Option ℕ) (h : Haystack walks.Lo
   match_leads Pre count q p at post seen n j cs t (went {k = c} rs r new is on w) small pre = absurd (cc (goes_by first h nodes q j rs c r (Some (match p)) at is on))
   match_leads Pre count q p at post seen n j cs t (took r j' new is w) small pre = absurd (cc (reads_by first h nodes q j r j' (Some (match p)) at is))
 
--- ---- where code stands among nodes
+-- ---- where code is among nodes
 
 module _ (nodes : Code) where
   abbrev pub Stands : ℕ → Code → Type 0
@@ -165,11 +167,11 @@ module _ (nodes : Code) where
   pub stands_behind : (at : ℕ) (x : ANode) (xs : Code) → Stands at (x ∷ xs) → Stands (at + 1) xs
   stands_behind at x xs stands c below = let same : at + 1 + c ≡ at + suc c = omega arith in ap (slice_get nodes) same ∙ stands (suc c) (omega (arith, below))
 
--- of a part: something is true of where it is entered if it is of where it leads on
+-- for a part: what holds of the node to which it leads holds of its entry
 abbrev PartPasses : Code → (ℕ → ℕ → Type 0) → (ℕ → ℕ → Code) → Type 0
 PartPasses nodes Leads h = (at next count : ℕ) → Stands nodes at (h at next) → Leads count next → Leads count at
 
--- ---- parts of a tree, where `Leads` is true of a node if it is of those that its edges lead to
+-- ---- parts of a tree, if `Leads` holds of a node when it holds of those to which its edges lead
 
 module _ (nodes : Code) (Leads : ℕ → ℕ → Type 0) (none : (q : ℕ) → Leads 0 q) (fewer : (count q : ℕ) → Leads (suc count) q → Leads count q)
     (quiet : (count q : ℕ) (x : ANode) → slice_get nodes q ≡ Some x → IsQuiet x → All (Leads count) (edges_of x) → Leads (suc count) q) where
@@ -247,7 +249,7 @@ module _ (nodes : Code) (Leads : ℕ → ℕ → Type 0) (none : (q : ℕ) → L
         let at_last = stands_first nodes last a_fork [] (stands_right nodes at (suc k * s) code (a_fork ∷ []) (copies_length s h size (suc k) at last) stands) in
         copies_pass (suc k) at last count front (loop_leads g last (at + k * s) next at_last (λ count' on. last_copy_passes k at last count' front on) count leads)
 
-  -- a tree, where it is known of each of its groups
+  -- a tree, if it holds of each of its groups
   module _ (slots : ℕ) (Fits : List ℕ → Type 0) (fits_tail : (x : ℕ) (xs : List ℕ) → Fits (x ∷ xs) → Fits xs) (fits_left : (xs ys : List ℕ) → Fits (xs ++ ys) → Fits xs) (fits_right : (xs ys : List ℕ) → Fits (xs ++ ys) → Fits ys)
       (group_passes : (number : ℕ) (name : Option Name) (tree : Tree) → Fits (number ∷ numbers_of tree) → Passes (code_of slots tree) → Passes (code_of slots (group number name tree))) where
     one_node : (x : ANode) (at next count : ℕ) → IsQuiet x → edges_of x ≡ next ∷ [] → Stands nodes at (x ∷ []) → Leads count next → Leads count at
@@ -299,7 +301,7 @@ module _ (nodes : Code) (Leads : ℕ → ℕ → Type 0) (none : (q : ℕ) → L
 
 -- ---- the slots 2 k and 2 k + 1
 
--- no number stands twice
+-- the numbers are distinct
 abbrev Apart : List ℕ → Type 0
 Apart [] = Unit {0}
 Apart (x ∷ xs) = All (λ y. x ≡ y → ⊥) xs × Apart xs
@@ -336,7 +338,7 @@ module _ (first : List Range → List ℕ → Option ℕ) (h : Haystack walks.Lo
   abbrev Leads : (Notes → ℕ → Type 0) → ℕ → ℕ → Type 0
   Leads Pre = LeadsTo first h nodes Whole Pre
 
-  -- what stays true when another slot is noted, and at later places
+  -- what stays true when another slot is noted, and at later offsets
   record IsKept (Pre : Notes → ℕ → Type 0) : Type 0 where
     other : (n : Notes) (j slot : ℕ) → (2 * k ≡ slot → ⊥) → (2 * k + 1 ≡ slot → ⊥) → Pre n j → Pre (put_note slot j n) j
     later : (n : Notes) (i j : ℕ) → i ≤ j → Pre n i → Pre n j
@@ -367,7 +369,7 @@ module _ (first : List Range → List ℕ → Option ℕ) (h : Haystack walks.Lo
   note_leads : (Pre Pre' : Notes → ℕ → Type 0) (count q slot r : ℕ) → slice_get nodes q ≡ Some (note slot r) → ((n : Notes) (j : ℕ) → Pre n j → Pre' (put_note slot j n) j) → IsKept Pre' → Leads Pre' count r → Leads Pre count q
   note_leads Pre Pre' count q slot r at turns kept leads = fewer_steps_lead Pre count q (node_leads first h nodes Whole Pre Pre' count q (note slot r) at tt turns kept.later (one_edge (Leads Pre' count) r leads))
 
-  -- from a node that notes the first slot of a group up to the one that notes the second
+  -- from a node that notes the first slot of a group to the one that notes the second
   past_other : (Pre : Notes → ℕ → Type 0) → IsKept Pre → (x slot at last next count : ℕ) → slot ≡ 2 * x → (x ≡ k → ⊥) → slice_get nodes at ≡ Some (note slot (at + 1)) → slice_get nodes last ≡ Some (note (slot + 1) next)
       → (Leads Pre count last → Leads Pre count (at + 1)) → Leads Pre count next → Leads Pre count at
   past_other Pre kept x slot at last next count even other first_is last_is inner leads =
@@ -452,7 +454,7 @@ module _ (first : List Range → List ℕ → Option ℕ) (h : Haystack walks.Lo
               past_same (2 * p) at last (at + 2 + size_of tree) count (omega (arith, e)) first_is last_is (λ on. within_tree tree others (at + 1) last count inner on) ends_whole
         ]
 
-  -- patterns one after the other
+  -- patterns in sequence
   patterns_lead : (trees : List Tree) (slots base p at count : ℕ) → slots ≡ 2 * base → p + length trees ≤ base + 1 → All IsWellFormed trees → Stands nodes at (patterns_code slots p trees at) → All (Leads Outside count) (pattern_starts trees at)
   patterns_lead [] slots base p at count even low well stands = All-nil (Leads Outside count)
   patterns_lead (tree ∷ trees) slots base p at count even low well stands =
@@ -473,7 +475,7 @@ pub started : (P : ℕ → Type 0) (xs : List ℕ) (c q : ℕ) → All P xs → 
 started P xs c q all at = subst P (get_or_from_slice_get xs c q q at) (All-get_or P xs c q (slice_get_within xs c q at) all)
 
 module _ (first : List Range → List ℕ → Option ℕ) (h : Haystack walks.Look) (k count : ℕ) where
-  -- walks from this node of a program, begun with nothing noted, come to notes with the group whole
+  -- walks from this node of a program, without notes at first, note the group whole
   abbrev EndsWhole : Program walks.Look (List Range) → ℕ → Type 0
   EndsWhole p q = Leads first h p.nodes k (Outside first h p.nodes k) count q
 

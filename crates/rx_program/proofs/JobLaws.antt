@@ -1,4 +1,4 @@
--- Doing one job after the other.
+-- Doing job after job.
 use Rattle.std.proofs.Common.{◌≡◌, ℕ, ◌+◌, ◌<◌, List, [], ◌∷◌, ◌++◌, length, map, reverse, append_assoc, refl, sym, ap, ap₂, ◌∙◌, arith, length-append}
 use Rattle.std.specs.List.{All}
 use Rattle.std.proofs.lemmas.List.{reverse-append, map-append}
@@ -10,7 +10,7 @@ use Rattle.rx_program.specs.Code.{Code}
 use Rattle.rx_program.specs.Programs.{node_of, ReadsItsSet}
 use Rattle.rx_program.specs.Jobs.{IsJob, job_code, job_size, jobs_code, jobs_size, jobs_work, DoesJob}
 
--- jobs in a row
+-- concatenated jobs
 pub jobs_code-append : (slots : ℕ) (parts : List Tree) (first second : List Job) (at : ℕ) → jobs_code slots parts (first ++ second) at ≡ jobs_code slots parts first at ++ jobs_code slots parts second (at + jobs_size parts first)
 jobs_code-append slots parts [] second at = ap (jobs_code slots parts second) (omega arith)
 jobs_code-append slots parts (job ∷ first) second at =
@@ -33,7 +33,7 @@ jobs_work-reverse parts (job ∷ jobs) =
     let e = ap (jobs_work parts) (reverse-append (job ∷ []) jobs) ∙ jobs_work-append parts (reverse jobs) (job ∷ []) in
     omega (arith, e, jobs_work-reverse parts jobs)
 
--- what there is, and what the jobs left become, the last one of them first
+-- the code of the states and of the jobs that are left, the last one of them first
 abbrev pub whole_code : ℕ → List Tree → List State → List Job → Code
 whole_code slots parts states jobs = map node_of states ++ jobs_code slots parts (reverse jobs) (length states)
 
@@ -41,7 +41,7 @@ reverse_twice : {X : Type 0} (xs : List X) → reverse (reverse xs) ≡ xs
 reverse_twice [] = refl
 reverse_twice (x ∷ xs) = ap reverse (reverse-append (x ∷ []) xs) ∙ reverse-append (reverse xs) (x ∷ []) ∙ ap (λ ys. x ∷ ys) (reverse_twice xs)
 
--- a job that is done leaves the whole as it was
+-- a job that is done doesn't change the whole
 pub whole_kept : {slots : ℕ} (parts : List Tree) (job : Job) (states more : List State) (jobs left : List Job) → DoesJob slots parts job states more jobs left
     → whole_code slots parts more left ≡ whole_code slots parts states (jobs ++ job ∷ [])
 whole_kept {slots = slots} parts job states more jobs left done =
@@ -98,6 +98,6 @@ pub reads_kept : {slots : ℕ} (parts : List Tree) (job : Job) (states more : Li
 reads_kept parts job states more jobs left done all =
     All-same ReadsItsSet more (states ++ done.emitted) done.states_are (All-append ReadsItsSet states done.emitted all done.does.reads)
 
--- how many states a job has at most
+-- the greatest number of states of a job
 pub job_fits : (parts : List Tree) (job : Job) (jobs : List Job) → jobs_size parts (jobs ++ job ∷ []) ≡ jobs_size parts jobs + job_size parts job
 job_fits parts job jobs = omega (arith, jobs_size-append parts jobs (job ∷ []))

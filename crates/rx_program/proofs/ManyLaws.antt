@@ -1,4 +1,4 @@
--- Patterns one after the other: their code, where they begin, and what they weigh.
+-- Patterns in sequence: their code, their first states, and their weight.
 use Rattle.std.proofs.Common.{◌≡◌, ℕ, zero, suc, ◌+◌, ◌-◌, ◌*◌, ◌<◌, ◌≤◌, ◌^◌, List, [], ◌∷◌, ◌++◌, length, map, drop, min, get_or, refl, sym, ap, ap₂, ◌∙◌, arith, append_assoc, length-append}
 use Rattle.std.proofs.lemmas.List.{length-map}
 use Rattle.rx_sets.specs.Sets.{Range}
@@ -26,7 +26,7 @@ first_left xs f k x lt e =
     let more : suc k ≡ k + 1 = omega arith in
     first_from xs f k x lt e ∙ ap (λ n. f x ∷ drop n (map f xs)) more
 
--- ---- one pattern more
+-- ---- one more pattern
 
 pub states_more : (slots p : ℕ) (states states' : List State) (tree : Tree) → map node_of states' ≡ map node_of states ++ pattern_code slots p tree (length states) → length states' ≡ length states + 3 + size_of tree
 states_more slots p states states' tree code = omega (
@@ -92,7 +92,7 @@ program_is trees terminator p nodes starts first ends =
 
 -- ---- what is not too large
 
--- the first of those left is one tree, however it was read
+-- the first of those left is one tree, however it is given
 pub same_first : (a b : Tree) (left rest others : List Tree) → left ≡ a ∷ rest → left ≡ b ∷ others → a ≡ b
 same_first a b left rest others e f = head_is (sym e ∙ f)
   where

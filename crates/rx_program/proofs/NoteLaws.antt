@@ -1,4 +1,4 @@
--- The matches of a pattern's program have noted where they start and where they end.
+-- The matches of a pattern's program have noted their start and end.
 use Rattle.std.proofs.Common.{◌≡◌, ℕ, zero, suc, ◌+◌, ◌-◌, ◌*◌, ◌<◌, ◌≤◌, Bool, true, false, cond, List, [], ◌∷◌, ◌++◌, length, get_or, Option, Some, None, slice_get, refl, sym, ap, subst, ◌∙◌, arith, inl, inr}
 use Rattle.std.specs.List.{All}
 use Rattle.std.proofs.lemmas.Bool.{cases_order, eq-eqb, ne_eqb}
@@ -46,7 +46,7 @@ behind (x ∷ xs) ys c =
 abbrev Among : ℕ → ℕ → ℕ → Type 0
 Among low high r = (low < r) × (r ≤ high)
 
--- what is noted goes to slots from `least` on, and the edge leads to such a node
+-- notes go to slots from `least` on, and the edge leads to such a node
 record NotesFurther (least low high slot r : ℕ) : Type 0 where
   above : least ≤ slot
   among : Among low high r
@@ -54,7 +54,7 @@ record NotesFurther (least low high slot r : ℕ) : Type 0 where
 further : (least low high slot r : ℕ) → least ≤ slot → Among low high r → NotesFurther least low high slot r
 further least low high slot r above among = record { above = above; among = among }
 
--- a node that ends no match, notes slots from `least` on alone, and leads to such nodes
+-- a node that ends no match, notes only slots from `least` on, and leads to such nodes
 abbrev Stays : ℕ → ℕ → ℕ → Node walks.Look (List Range) → Type 0
 Stays least low high (match pattern) = ⊥
 Stays least low high (pass nodes) = All (Among low high) nodes
@@ -169,14 +169,14 @@ module _ (slots low high : ℕ) where
         (code_inside first (all_left (λ x. 1 ≤ x) (numbers_of first) (all_numbers_of others) ones) at next from (omega (arith, fits)) to)
         (branches_inside others (all_right (λ x. 1 ≤ x) (numbers_of first) (all_numbers_of others) ones) (at + size_of first) next (omega (arith, from)) (omega (arith, fits)) to)
 
--- ---- where the nodes of a pattern stand
+-- ---- where the nodes of a pattern are
 
 pub record IsInner (nodes : Code) (least low high q : ℕ) : Type 0 where
   node : Node walks.Look (List Range)
   is : slice_get nodes q ≡ Some node
   stays : Stays least low high node
 
--- the pattern with number k begins at `at`, and `last` is the node that notes where it ends
+-- the pattern with number k starts at `at`, and `last` is the node that notes its end
 pub record HasPattern (nodes : Code) (k at last : ℕ) : Type 0 where
   least : ℕ
   above : 2 * k + 2 ≤ least
@@ -253,7 +253,7 @@ read_leads : {to j' : ℕ} (low high r j : ℕ) (o : Option ℕ) → Among low h
 read_leads low high r j None among e = absurd (cc e)
 read_leads {to = to} low high r j (Some n) among e = let same : r ≡ to = cc e in subst (Among low high) same among
 
--- what is true of all edges of a node is true of the one that is taken
+-- what holds of all edges of a node holds of the one that is taken
 pub edge_of : (P : ℕ → Type 0) (xs rs : List ℕ) (c r : ℕ) → goes xs ≡ goes rs → All P xs → slice_get rs c ≡ Some r → P r
 edge_of P xs rs c r e all at =
     let edges : All P rs = subst (All P) (same_edges xs rs e) all in

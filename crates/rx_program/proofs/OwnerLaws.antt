@@ -1,4 +1,4 @@
--- Edges of a program stay with their patterns.
+-- Edges of a program stay in their patterns.
 use Rattle.std.proofs.Common.{◌≡◌, ℕ, zero, suc, ◌+◌, ◌-◌, ◌*◌, ◌<◌, ◌≤◌, true, false, cond, nat_lt, List, [], ◌∷◌, ◌++◌, length, Option, Some, slice_get, refl, sym, ap, subst, ◌∙◌, arith, inl, inr}
 use Rattle.std.specs.List.{All}
 use Rattle.std.proofs.lemmas.Bool.{cases_order}
@@ -17,7 +17,7 @@ use Rattle.rx_program.proofs.ClosedLaws.{In, StaysIn, pattern_length, pattern_st
 same_some : {X : Type 0} {o : Option X} {x y : X} → o ≡ Some x → o ≡ Some y → x ≡ y
 same_some e f = cc (e, f)
 
--- items of lists in a row
+-- items of concatenated lists
 in_second : {X : Type 0} (xs ys : List X) (n k : ℕ) → length xs ≡ n → slice_get (xs ++ ys) (n + k) ≡ slice_get ys k
 in_second [] ys n k e = ap (slice_get ys) (omega (arith, e))
 in_second (x ∷ xs) ys zero k e = absurd (omega (arith, e))
@@ -45,7 +45,7 @@ with_owner low n k owner (note slot r) own stays = own r stays
 with_owner low n k owner (look l r) own stays = own r stays
 with_owner low n k owner (set x r) own stays = own r stays
 
--- whose a node is
+-- the pattern of a node
 first_is : (p r n : ℕ) (others : Option ℕ) → r < n → cond (nat_lt r n) (Some p) others ≡ Some p
 first_is p r n others below = let e : nat_lt r n ≡ true = grind (arith, nat_tests) in ap (λ b. cond b (Some p) others) e
 

@@ -1,11 +1,11 @@
--- Where the parts of a part stand among all parts of a tree.
+-- Where the parts of a part are among all parts of a tree.
 use Rattle.std.proofs.Common.{◌≡◌, ℕ, ◌+◌, ◌-◌, ◌<◌, ◌≤◌, ◌⊎◌, List, [], ◌∷◌, ◌++◌, length, reverse, get_or, append_assoc, refl, sym, ap, ap₂, subst, ◌∙◌, arith, length-append, inl, inr}
 use Rattle.std.proofs.lemmas.List.{reverse-append, append-nil, get_or-append-add}
 use Rattle.rx_grammar.specs.Trees.{Tree, Trees, empty, one_of, look_at, group, concat, alternation, repeated, two, more}
 use Rattle.rx_grammar.specs.Subtrees.{subtrees_of, all_subtrees_of}
 use Rattle.rx_program.specs.Jobs.{part_at, trees_before, HasPartsBefore}
 
--- the parts of a tree stand in a row among others, up to a root
+-- the parts of a tree are in sequence among others, up to a root
 pub record Stands (parts : List Tree) (k : ℕ) (some : List Tree) : Type 0 where
   pub front : List Tree
   pub rest : List Tree
@@ -37,7 +37,7 @@ pub root_below : (parts : List Tree) (k : ℕ) (some : List Tree) → Stands par
 root_below parts k some stands =
     omega (arith, stands.root, ap length stands.whole, length-append stands.front (some ++ stands.rest), length-append some stands.rest)
 
--- of two rows, one after the other
+-- of two rows in sequence
 pub stands_first : (parts : List Tree) (k : ℕ) (first second : List Tree) → 1 ≤ length first → Stands parts k (first ++ second) → Stands parts (k - length second) first
 stands_first parts k first second some stands = record {
   front = stands.front;
@@ -54,7 +54,7 @@ stands_second parts k first second stands = record {
   root = omega (arith, stands.root, length-append first second, length-append stands.front first);
 }
 
--- what is inside of a row of two
+-- what is inside a row of two
 within : (parts front first second rest : List Tree) (k : ℕ) → parts ≡ front ++ ((first ++ second) ++ rest)
     → (parts ≡ front ++ (first ++ (second ++ rest))) × (parts ≡ (front ++ first) ++ (second ++ rest))
 within parts front first second rest k e =

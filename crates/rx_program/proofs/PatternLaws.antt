@@ -38,7 +38,8 @@ whole_root tree list same light =
     let stands : Stands parts (length list - 1) parts = record { front = []; rest = []; whole = sym (append-nil parts); root = omega (arith, count, some_parts tree) } in
     record { below = root_below parts (length list - 1) parts stands; is = root_is parts (length list - 1) tree stands; small = omega (arith, light, size_le_weight tree) }
 
--- After the states that were there before, what there is and what the jobs left become is the code of a pattern, the one with number p.
+-- After the states before, the states and the code of the jobs that are left are the code of a
+-- pattern, with number p.
 pub record Begun (slots p : ℕ) (tree : Tree) (before states : List State) (jobs : List Job) : Type 0 where
   pub whole : whole_code slots (subtrees_of tree) states jobs ≡ map node_of before ++ pattern_code slots p tree (length before)
   pub size : length states + jobs_size (subtrees_of tree) jobs ≡ length before + 3 + size_of tree

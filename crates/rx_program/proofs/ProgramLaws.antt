@@ -19,7 +19,7 @@ use Rattle.rx_program.specs.declared.states.State.{State}
 use Rattle.rx_program.specs.declared.states.State.TheVariants as state
 use Rattle.rx_program.specs.Programs.{node_of, automaton_of, automata_of, character_program, ReadsItsSet, ByteProgram, IsByteProgram, HasWalksOfProgram}
 
--- a state whose node is over a set
+-- a state whose node has a set
 of_state : (s : State) (x : List Range) (r : ℕ) → ReadsItsSet s → node_of s ≡ set x r → (bytes : List ℕ) → run (automaton_of (Some s)) 0 bytes ≡ member_len (is_in x) bytes
 of_state (state.Ranges automaton next) x r reads e bytes = reads.reads bytes ∙ ap (λ ranges. member_len (is_in ranges) bytes) (cc e)
 of_state (state.Look asked next) x r reads e bytes = absurd (cc e)
@@ -52,7 +52,7 @@ reads_members p all q r x e bytes =
     let reads : ReadsItsSet on.state = subst ReadsItsSet on.found (All-get_or ReadsItsSet p.states q on.state on.below all) in
     ap (λ o. run (automaton_of o) 0 bytes) on.at ∙ of_state on.state x r reads on.is bytes
 
--- so its walks over bytes are those over characters
+-- therefore its walks over bytes are those over characters
 pub walks_of : (p : ByteProgram) → All ReadsItsSet p.states → HasWalksOfProgram p (character_program p)
 walks_of p all is_word s =
     let characters = character_program p in

@@ -1,4 +1,4 @@
--- The automata of a reverse program's states read the characters of its nodes backwards.
+-- The automata of a reverse program's states read the characters of its nodes backward.
 use Rattle.std.proofs.Common.{◌≡◌, ℕ, zero, suc, ◌+◌, ◌*◌, ◌<◌, List, [], ◌∷◌, ◌++◌, length, map, get_or, Option, Some, None, slice_get, Result, Ok, Err, OnOk, append_assoc, refl, sym, ap, ap₂, subst, ◌∙◌, arith}
 use Rattle.std.proofs.lemmas.List.{length-map}
 use Rattle.std.specs.List.{All}
@@ -21,7 +21,7 @@ use Rattle.rx_program.specs.declared.reverse_states.ReverseState.{ReverseState}
 use Rattle.rx_program.specs.declared.reverse_states.ReverseState.TheVariants as state
 use Rattle.rx_program.specs.Reversed.{back_node_of, back_automaton_of, back_automata_of, back_characters_of, ReadsItsSetBack, ReverseByteProgram, IsReverseByteProgram, ReadsBackwards}
 
--- a state whose node is over a set
+-- a state whose node has a set
 of_state : (s : ReverseState) (x : List Range) (r : ℕ) → ReadsItsSetBack s → back_node_of s ≡ set x r → (bytes : List ℕ) → run (back_automaton_of (Some s)) 0 bytes ≡ len_if (is_in x) (last_character bytes)
 of_state (state.Ranges automaton next) x r reads e bytes = reads.reads_last bytes ∙ ap (λ ranges. len_if (is_in ranges) (last_character bytes)) (cc e)
 of_state (state.Look asked next) x r reads e bytes = absurd (cc e)
@@ -30,7 +30,7 @@ of_state (state.BinaryUnion first second) x r reads e bytes = absurd (cc e)
 of_state (state.Union alternates) x r reads e bytes = absurd (cc e)
 of_state (state.Match pattern) x r reads e bytes = absurd (cc e)
 
--- no state's automaton comes back to its first state
+-- no state's automaton returns to its first state
 never : (s : ReverseState) → ReadsItsSetBack s → NeverReturns (back_automaton_of (Some s))
 never (state.Ranges automaton next) reads = reads.never_returns
 never (state.Look asked next) reads = λ s b e. cc e
@@ -80,7 +80,7 @@ pub on_ok : {T E : Type 0} {P Q : Type 0} (r : Result T E) → (P → Q) → OnO
 on_ok (Ok x) f p = f p
 on_ok (Err e) f p = p
 
--- ---- a program turned round
+-- ---- a reverse program
 
 abbrev arriving : List State → List ℕ → List (Node walks.Look (List Range))
 arriving states patterns = indexed (λ q node. pass (arrived (map node_of states) patterns q)) 0 (map node_of states)

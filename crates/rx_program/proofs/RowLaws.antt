@@ -83,7 +83,7 @@ pub many : (trees : Trees) → how_many trees ≡ length (trees_in trees)
 many (two first second) = refl
 many (more first others) = omega (arith, many others)
 
--- and where they stand
+-- and where they are
 rev_append : (xs ys : List Tree) → rev_subtrees (xs ++ ys) ≡ rev_subtrees ys ++ rev_subtrees xs
 rev_append [] ys = sym (append-nil (rev_subtrees ys))
 rev_append (x ∷ xs) ys = ap (λ z. z ++ subtrees_of x) (rev_append xs ys) ∙ append_assoc (rev_subtrees ys) (rev_subtrees xs) (subtrees_of x)

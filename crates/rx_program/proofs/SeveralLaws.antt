@@ -1,4 +1,4 @@
--- The matches of the program of several patterns have noted where they start and where they end.
+-- The matches of the program of several patterns have noted their start and end.
 use Rattle.std.proofs.Common.{◌≡◌, ℕ, zero, suc, ◌+◌, ◌-◌, ◌*◌, ◌<◌, ◌≤◌, Bool, List, [], ◌∷◌, length, Option, Some, None, slice_get, refl, sym, ap, subst, ◌∙◌, arith}
 use Rattle.std.specs.List.{All}
 use Rattle.std.proofs.lemmas.List.Elements.{All-head, All-tail}
@@ -20,7 +20,7 @@ use Rattle.rx_program.proofs.ClosedLaws.{several, code_length, pattern_length}
 use Rattle.rx_program.proofs.NoteLaws.{same_edges, ends_by, goes_by, reads_by, from_one, first_start, HasPattern, Noted, pattern_stands, stands_alone, from_start, start_kept}
 use Rattle.rx_program.proofs.GroupLaws.{Stands, stands_left, stands_right}
 
--- the pattern with number p + c stands among the nodes, from q on
+-- the pattern with number p + c is among the nodes, from q on
 record HasStart (nodes : Code) (p c q : ℕ) : Type 0 where
   number : ℕ
   last : ℕ
@@ -61,7 +61,7 @@ record NotesPattern (c i : ℕ) (t : Outcome Notes) : Type 0 where
   noted : HasNotedOwn i t
   pattern : t.pattern ≡ c
 
--- a match of one of the patterns, of that one to which the search is anchored
+-- a match of one of the patterns, of the one to which the search is anchored
 record NotesOne (count : ℕ) (anchoring : Anchoring) (i : ℕ) (t : Outcome Notes) : Type 0 where
   noted : HasNotedOwn i t
   known : t.pattern < count

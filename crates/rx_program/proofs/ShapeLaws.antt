@@ -1,4 +1,4 @@
--- What a part is by its node, and where the parts right below it stand.
+-- What a part is by its node, and where the parts right below it are.
 use Rattle.std.proofs.Common.{◌≡◌, ℕ, ◌-◌, ◌<◌, ◌≤◌, List, [], ◌∷◌, ◌++◌, length, Option, refl, subst, arith, length-append}
 use Rattle.rx_sets.specs.Sets.{Range}
 use Rattle.rx_grammar.specs.declared.hir.Look.{Look}

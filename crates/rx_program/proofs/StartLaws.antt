@@ -10,7 +10,7 @@ use Rattle.rx_program.specs.Jobs.{part_at, trees_before, HasPartsBefore, sizes_o
 use Rattle.rx_program.proofs.FactLaws.{known_by}
 use Rattle.rx_program.proofs.RowLaws.{sizes_of-append, starts_of-last}
 
--- the parts left stand before those whose starts are known, the last one of these first
+-- the parts that are left come before those whose starts are known, the last one of these first
 pub record Left (parts : List Tree) (n root end most base : ℕ) (all starts : List ℕ) : Type 0 where
   pub row : HasPartsBefore parts n root
   pub end_is : end ≡ base + sizes_of (trees_before parts n root)

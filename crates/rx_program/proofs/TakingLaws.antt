@@ -1,4 +1,4 @@
--- The paths through a pattern's program are what its tree takes.
+-- The paths through a pattern's program are what its tree matches.
 use Rattle.std.proofs.Common.{◌≡◌, ℕ, zero, suc, ◌+◌, ◌-◌, ◌*◌, ◌<◌, ◌≤◌, ◌⊎◌, Bool, true, false, List, [], ◌∷◌, ◌++◌, map, length, Option, Some, None, slice_get, refl, sym, ap, subst, ◌∙◌, arith, inl, inr, length-append}
 use Rattle.std.specs.Prelude.{IsTrue, ◌↔◌, nat_le}
 use Rattle.std.specs.List.{All}
@@ -90,7 +90,7 @@ module _ (first : List Range → List ℕ → Option ℕ) (h : Haystack walks.Lo
   abbrev To : ℕ → ℕ → Type 0
   To q i = Path M q i p e
 
-  -- such a path with fewer than so many steps
+  -- such a path with fewer than `n` steps
   abbrev Short : ℕ → ℕ → ℕ → Type 0
   Short n q i = (w : Path M q i p e) × (path_size w < n)
 
@@ -182,11 +182,11 @@ module _ (first : List Range → List ℕ → Option ℕ) (h : Haystack walks.Lo
 
   -- ---- parts
 
-  -- a path through a part takes something, and goes on behind it with fewer steps
+  -- a path through a part is a match of it, and goes on after it with fewer steps
   abbrev Splits : (ℕ → ℕ → Code) → (ℕ → ℕ → Type 0) → Type 0
   Splits code takes = (at next n i : ℕ) → Stands nodes at (code at next) → Short (suc n) at i → (j : ℕ) × takes i j × Short n next j
 
-  -- where a part takes something and a path goes on behind it, a path goes through it
+  -- if a part matches and a path goes on after it, a path goes through it
   abbrev Builds : (ℕ → ℕ → Code) → (ℕ → ℕ → Type 0) → Type 0
   Builds code takes = (at next i j : ℕ) → Stands nodes at (code at next) → h.low ≤ i → takes i j → To next j → To at i
 
@@ -404,7 +404,7 @@ module _ (first : List Range → List ℕ → Option ℕ) (h : Haystack walks.Lo
         (omega (arith, from, times_grow takes grows (suc k) i cut.0 cut.1)) cut.2 path in
         copies_build (suc k) at last i cut.0 front_stands from cut.1 rest
 
-  -- a part of so many nodes
+  -- a part of `s` nodes
   record IsPart (s : ℕ) (code : ℕ → ℕ → Code) (takes : ℕ → ℕ → Type 0) : Type 0 where
     size : (at next : ℕ) → length (code at next) ≡ s
     splits : Splits code takes
@@ -477,7 +477,7 @@ module _ (first : List Range → List ℕ → Option ℕ) (h : Haystack walks.Lo
     grows = λ i k taken. omega (arith, one.grows i taken.0 taken.1, other.grows taken.0 k taken.2);
   }
 
-  -- parts beside one another, which begin at these nodes
+  -- alternative parts, which start at these nodes
   record AreBranches (s : ℕ) (starts : ℕ → List ℕ) (code : ℕ → ℕ → Code) (takes : ℕ → ℕ → Type 0) : Type 0 where
     size : (at next : ℕ) → length (code at next) ≡ s
     splits : (at next n i c r : ℕ) → Stands nodes at (code at next) → slice_get (starts at) c ≡ Some r → Short n r i → (j : ℕ) × takes i j × Short n next j
@@ -577,7 +577,7 @@ module _ (first : List Range → List ℕ → Option ℕ) (h : Haystack walks.Lo
   at_match {q = q} {i = i} k at (by_read r j is path) = absurd (cc (reads_by first h nodes q i r j (Some (match k)) at is))
 
   module _ (slots k : ℕ) (tree : Tree) (bounded : AreBounded (subtrees_of tree)) (at : ℕ) (stands : Stands nodes at (pattern_code slots k tree at)) where
-    -- where the nodes of a pattern stand
+    -- where the nodes of a pattern are
     record HasNodes : Type 0 where
       first_is : slice_get nodes at ≡ Some (note (2 * k) (at + 1))
       inner : Stands nodes (at + 1) (code_of slots tree (at + 1) (at + 1 + size_of tree))
@@ -620,7 +620,7 @@ module _ (first : List Range → List ℕ → Option ℕ) (h : Haystack walks.Lo
         let out : To last e = note_to last e (2 * k + 1) end has_nodes.last_is ended in
         note_to at i (2 * k) (at + 1) has_nodes.first_is ((tree_part slots tree bounded).builds (at + 1) last i e has_nodes.inner from taken out)
 
--- ---- where a program's patterns stand
+-- ---- where a program's patterns are
 
 record HasCode (nodes : Code) (k : ℕ) (tree : Tree) (q : ℕ) : Type 0 where
   slots : ℕ

@@ -1,4 +1,4 @@
--- What a repetition is done by.
+-- What does a repetition.
 use Rattle.std.proofs.Common.{◌≡◌, ℕ, zero, suc, ◌+◌, ◌-◌, ◌*◌, ◌<◌, true, false, List, [], ◌∷◌, ◌++◌, length, Option, Some, None, sym, ap, ap₂, ◌∙◌, arith}
 use Rattle.std.proofs.lemmas.List.{append-nil}
 use Rattle.rx_grammar.specs.declared.hir.Repetition.{Repetition}
@@ -11,7 +11,7 @@ use Rattle.rx_program.specs.Programs.{node_of, ReadsItsSet}
 use Rattle.rx_program.specs.Jobs.{part_at, work_of, repetition_work, JobIsDone}
 use Rattle.rx_program.proofs.CaseLaws.{one_job, two_jobs, no_states, one_state}
 
--- what a tree weighs and becomes, by the numbers of a repetition
+-- the weight and the code of a tree, by the numbers of a repetition
 code_by : (slots : ℕ) (rep : Repetition) (tree : Tree) (most : Option ℕ) (at next : ℕ) → rep.max ≡ most
     → code_of slots (repeated rep tree) at next ≡ repetition_code rep.greedy rep.min most (size_of tree) (may_be_empty tree) (code_of slots tree) at next
 code_by slots rep tree most at next e = ap (λ m. repetition_code rep.greedy rep.min m (size_of tree) (may_be_empty tree) (code_of slots tree) at next) e
@@ -46,7 +46,7 @@ module _ {slots : ℕ} (parts : List Tree) (at root child next : ℕ) (rep : Rep
         reads = no_states;
       }
 
-  -- h*, where h is never empty
+  -- h*, if h is never empty
   pub does_loop : (s : State) → rep.max ≡ None → rep.min ≡ 0 → may_be_empty tree ≡ false → node_of s ≡ fork rep.greedy (at + 1) next → ReadsItsSet s
       → JobIsDone slots parts at (job.Part root next) (s ∷ []) (job.Part child at ∷ [])
   does_loop s e none never node reads = record {
@@ -58,7 +58,7 @@ module _ {slots : ℕ} (parts : List Tree) (at root child next : ℕ) (rep : Rep
     reads = one_state s reads;
   }
 
-  -- h*, where h may be empty
+  -- h*, if h may be empty
   pub does_optional_loop : (s back : State) (on : ℕ) → rep.max ≡ None → rep.min ≡ 0 → may_be_empty tree ≡ true → node_of s ≡ fork rep.greedy (at + 1) next → node_of back ≡ fork rep.greedy (at + 1) next
       → on ≡ at + 1 + size_of tree → ReadsItsSet s → ReadsItsSet back → JobIsDone slots parts at (job.Part root next) (s ∷ []) (job.Part child on ∷ job.State back ∷ [])
   does_optional_loop s back on e none may node node' on_is reads reads' = record {
@@ -70,7 +70,7 @@ module _ {slots : ℕ} (parts : List Tree) (at root child next : ℕ) (rep : Rep
     reads = one_state s reads;
   }
 
-  -- h{n,}, where n is above 0
+  -- h{n,}, if n is above 0
   pub does_from : (n end : ℕ) (back : State) → rep.max ≡ None → rep.min ≡ suc n → node_of back ≡ fork rep.greedy (at + n * size_of tree) next → end ≡ at + suc n * size_of tree → ReadsItsSet back
       → JobIsDone slots parts at (job.Part root next) [] (job.Copies (suc n) child end ∷ job.State back ∷ [])
   does_from n end back e some node end_is reads =

@@ -25,6 +25,6 @@ pub record IsClosed (p : Program walks.Look (List Range)) : Type 0 where
 abbrev pub PatternIsClosed : Type 0
 PatternIsClosed = (tree : Tree) (terminator : ℕ) → IsClosed (program_of (tree ∷ []) terminator)
 
--- and so is that of several, or of none
+-- and that of several, or of none
 abbrev pub ProgramsAreClosed : Type 0
 ProgramsAreClosed = (trees : List Tree) (terminator : ℕ) → IsClosed (program_of trees terminator)

@@ -1,5 +1,5 @@
--- What is left to be done while a tree is compiled. `parts` are the parts of the tree, each after
--- those that stand below it; the slots of its group k are `slots` + 2 k and the one after it.
+-- The jobs of the compiler. `parts` are the parts of a tree, each after those below it; the slots
+-- of its group k are `slots` + 2 k and the one after it.
 use Rattle.std.specs.Prelude.{◌≡◌, ℕ, zero, suc, ◌+◌, ◌-◌, ◌*◌, ◌<◌, Bool, List, [], ◌∷◌, ◌++◌, length, map, reverse, get_or, All, Option, Some, None}
 use Rattle.rx_grammar.specs.Trees.{Tree, Trees, empty, one_of, look_at, group, concat, alternation, repeated, two, more}
 use Rattle.rx_grammar.specs.Subtrees.{subtrees_of}
@@ -14,7 +14,7 @@ use Rattle.rx_program.specs.Programs.{node_of, ReadsItsSet}
 abbrev pub part_at : List Tree → ℕ → Tree
 part_at parts root = get_or parts root empty
 
--- parts in a row, so many of them, up to the one with this root
+-- `count` parts in sequence, up to the one with this root
 abbrev pub trees_before : List Tree → ℕ → ℕ → List Tree
 trees_before parts zero root = []
 trees_before parts (suc count) root =
@@ -25,7 +25,7 @@ abbrev pub sizes_of : List Tree → ℕ
 sizes_of [] = 0
 sizes_of (tree ∷ trees) = size_of tree + sizes_of trees
 
--- trees one after the other, and beside one another
+-- trees in sequence, and alternative trees
 abbrev pub in_row : ℕ → List Tree → ℕ → ℕ → Code
 in_row slots [] at next = []
 in_row slots (tree ∷ trees) at next =
@@ -41,7 +41,7 @@ abbrev pub starts_of : List Tree → ℕ → List ℕ
 starts_of [] at = []
 starts_of (tree ∷ trees) at = at ∷ starts_of trees (at + size_of tree)
 
--- what a job becomes
+-- the code of a job
 abbrev pub job_code : ℕ → List Tree → Job → ℕ → Code
 job_code slots parts (job.Part root next) at = code_of slots (part_at parts root) at next
 job_code slots parts (job.State state) at = node_of state ∷ []
@@ -55,7 +55,7 @@ job_code slots parts (job.Optional greedy count root next) at =
     optional greedy (size_of (part_at parts root)) (code_of slots (part_at parts root)) count at
     next
 
--- how many nodes that are
+-- its size
 abbrev pub job_size : List Tree → Job → ℕ
 job_size parts (job.Part root next) = size_of (part_at parts root)
 job_size parts (job.State state) = 1
@@ -64,7 +64,7 @@ job_size parts (job.Branches count root next) = sizes_of (trees_before parts cou
 job_size parts (job.Copies count root next) = count * size_of (part_at parts root)
 job_size parts (job.Optional greedy count root next) = count * (1 + size_of (part_at parts root))
 
--- what jobs become, the first one of the list first
+-- the code of jobs, the first one of the list first
 abbrev pub jobs_code : ℕ → List Tree → List Job → ℕ → Code
 jobs_code slots parts [] at = []
 jobs_code slots parts (job ∷ jobs) at =
@@ -74,13 +74,13 @@ abbrev pub jobs_size : List Tree → List Job → ℕ
 jobs_size parts [] = 0
 jobs_size parts (job ∷ jobs) = job_size parts job + jobs_size parts jobs
 
--- so many parts stand in a row before a root
+-- there are `count` parts in sequence before a root
 abbrev pub HasPartsBefore : List Tree → ℕ → ℕ → Type 0
 HasPartsBefore parts zero root = Unit {0}
 HasPartsBefore parts (suc count) root = (root < length parts)
     × HasPartsBefore parts count (root - length (subtrees_of (part_at parts root)))
 
--- a job's root is one of the parts, and the size of a row is kept with it
+-- a job's root is one of the parts, and the size of a row is right
 abbrev pub IsJob : List Tree → Job → Type 0
 IsJob parts (job.Part root next) = root < length parts
 IsJob parts (job.State state) = ReadsItsSet state
@@ -90,7 +90,7 @@ IsJob parts (job.Branches count root next) = HasPartsBefore parts count root
 IsJob parts (job.Copies count root next) = root < length parts
 IsJob parts (job.Optional greedy count root next) = root < length parts
 
--- how many jobs it takes in all to do a tree
+-- an upper bound on the number of jobs for a tree
 abbrev pub repetition_work : ℕ → Option ℕ → ℕ → Bool → ℕ
 repetition_work n (Some zero) work may = 0
 repetition_work n (Some (suc m)) work may =
@@ -130,8 +130,8 @@ abbrev pub jobs_work : List Tree → List Job → ℕ
 jobs_work parts [] = 0
 jobs_work parts (job ∷ jobs) = job_work parts job + jobs_work parts jobs
 
--- what was emitted, and the jobs that were put up, the first one first, do a job: from the state on
--- that it begins with they become what it becomes, and they are less work
+-- these emitted states and pushed jobs, the first one first, do a job: together they have its code,
+-- and the jobs are less work
 pub record JobIsDone (slots : ℕ) (parts : List Tree) (at : ℕ) (job : Job) (emitted : List State)
     (pushed : List Job) : Type 0 where
   pub code : job_code slots parts job at

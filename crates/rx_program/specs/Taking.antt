@@ -1,4 +1,4 @@
--- What a tree takes of a content, from which place to which, whatever is preferred.
+-- What a tree matches in a haystack, from which offset to which, whatever is preferred.
 use Rattle.std.specs.Prelude.{◌≡◌, ℕ, zero, suc, ◌+◌, ◌≤◌, ◌⊎◌, ◌↔◌, Bool, true, IsTrue, List, [], All, Option, Some, None, slice_get}
 use Rattle.rx_sets.specs.Sets.{Range}
 use Rattle.rx_utf8.specs.Automata.{is_in}
@@ -13,19 +13,19 @@ use Rattle.rx_walks.specs.Finds.{Search, IsInside}
 use Rattle.rx_walks.specs.ProgramFinds.{first_by, haystack_of, holds_in, machine_of}
 use Rattle.rx_program.specs.Code.{place_of, program_of}
 
--- so many times, one after the other
+-- `n` times, one after the other
 abbrev pub Times : (ℕ → ℕ → Type 0) → ℕ → ℕ → ℕ → Type 0
 Times takes zero i j = i ≡ j
 Times takes (suc n) i k = (j : ℕ) × takes i j × Times takes n j k
 
--- not above the greatest number, if there is one
+-- at most the greatest number, if there is one
 abbrev pub IsUpTo : ℕ → Option ℕ → Type 0
 IsUpTo n None = Unit {0}
 IsUpTo n (Some most) = n ≤ most
 
--- No item takes nothing, and so does a look where it holds; a set takes one of its characters, a
--- group what its tree does, a repetition its tree so many times as it may. `first` tells how many
--- bytes of one of a set's characters stand first.
+-- An empty tree matches nothing, and so does an assertion that holds; a set matches one of its
+-- characters, a group what its tree does, a repetition its tree as often as allowed. `first` is the
+-- number of bytes of the first character, if it is in a set.
 module _ (first : List Range → List ℕ → Option ℕ) (h : Haystack walks.Look) where
   abbrev mutual
     pub Takes : Tree → ℕ → ℕ → Type 0
@@ -38,7 +38,7 @@ module _ (first : List Range → List ℕ → Option ℕ) (h : Haystack walks.Lo
     Takes (repeated repetition tree) i j =
         (n : ℕ) × (repetition.min ≤ n) × IsUpTo n repetition.max × Times (Takes tree) n i j
 
-    -- one tree after the other
+    -- trees in sequence
     pub TakesInTurn : Trees → ℕ → ℕ → Type 0
     TakesInTurn (two one other) i k = (j : ℕ) × Takes one i j × Takes other j k
     TakesInTurn (more one others) i k = (j : ℕ) × Takes one i j × TakesInTurn others j k
@@ -48,15 +48,15 @@ module _ (first : List Range → List ℕ → Option ℕ) (h : Haystack walks.Lo
     TakesOneOf (two one other) i j = Takes one i j ⊎ Takes other i j
     TakesOneOf (more one others) i j = Takes one i j ⊎ TakesOneOf others i j
 
--- the machine that a program's nodes are, where `first` tells of a set how many bytes of one of its
--- characters stand first
+-- the machine of a program's nodes; `first` is the number of bytes of the first character, if it is
+-- in a set
 abbrev pub machine_by : (List Range → List ℕ → Option ℕ) → Program walks.Look (List Range)
     → Haystack walks.Look → Machine ℕ Notes
 machine_by first p h = over_characters put_note first p.nodes h
 
--- The paths that lead from a place that isn't before the first one, from the start node of a
--- pattern, end where walks may stand, where the pattern's tree takes it to, and match that pattern:
--- in any haystack, whatever characters its sets have there, and whichever looks hold.
+-- The paths from the start node of a pattern, at an offset that isn't below the lowest one, end at
+-- an offset that walks can reach and up to which the pattern's tree matches, and match that
+-- pattern: in any haystack, whatever characters its sets have there, and whichever assertions hold.
 abbrev pub PathsAreTaken : Type 0
 PathsAreTaken = (trees : List Tree) (terminator : ℕ) → All IsWellFormed trees
     → (first : List Range → List ℕ → Option ℕ) (h : Haystack walks.Look)
@@ -66,12 +66,12 @@ PathsAreTaken = (trees : List Tree) (terminator : ℕ) → All IsWellFormed tree
     → Path (machine_by first p h) q i pattern e
     ↔ ((pattern ≡ k) × IsTrue (is_within h.low h.high e) × Takes first h tree i e)
 
--- what a tree takes in a search
+-- what a tree matches in a search
 abbrev pub TakesIn : (ℕ → Bool) → ℕ → Search → Tree → ℕ → ℕ → Type 0
 TakesIn is_word terminator s tree i j =
     Takes (first_by is_in) (haystack_of (holds_in is_word terminator s) s) tree i j
 
--- so it is of the paths of a search that lead from a place inside: they end inside
+-- the same for the paths of a search from an offset inside: they end inside
 abbrev pub SearchesTakePaths : Type 0
 SearchesTakePaths = (trees : List Tree) (terminator : ℕ) → All IsWellFormed trees
     → (is_word : ℕ → Bool) (p : Program walks.Look (List Range)) (s : Search)
@@ -81,21 +81,22 @@ SearchesTakePaths = (trees : List Tree) (terminator : ℕ) → All IsWellFormed 
     → Path (machine_of is_in is_word p s) q i pattern e
     ↔ ((pattern ≡ k) × IsInside s e × TakesIn is_word p.line_terminator s tree i e)
 
--- no character of any set stands anywhere, and all looks hold
+-- there is no character of any set anywhere, and all assertions hold
 abbrev pub no_character : List Range → List ℕ → Option ℕ
 no_character ranges bytes = None
 
 abbrev pub looks_hold : Haystack walks.Look
 looks_hold = record { content = []; low = 0; high = 0; holds = λ asked i. true }
 
--- what `may_be_empty` says of a tree by its parts, by which programs are laid out, is whether it
--- matches then: of a whole pattern, or of a part of one, with whatever numbers its groups have
+-- `may_be_empty`, which is computed from a tree's parts and decides how programs are laid out, is
+-- whether the tree matches then: a whole pattern, or a part of one, whatever the numbers of its
+-- groups
 abbrev pub MayBeEmptyIsTold : Type 0
 MayBeEmptyIsTold = (tree : Tree) → All IsBounded (nodes_of tree)
     → IsTrue (may_be_empty tree) ↔ Takes no_character looks_hold tree 0 0
 
--- which is whether a path leads from its start node to its match that reads no character, whatever
--- looks stand on it
+-- that is whether a path from its start node to its match reads no character, whatever assertions
+-- are on it
 abbrev pub EmptyPathsAreTold : Type 0
 EmptyPathsAreTold = (trees : List Tree) (terminator : ℕ) → All IsWellFormed trees
     → (p : Program walks.Look (List Range)) → p ≡ program_of trees terminator

@@ -1,4 +1,5 @@
-//! Of each state of a program the edges that lead to it, and the ends of matches by their pattern.
+//! For each state of a program the edges that lead to it, and for each pattern the states of its
+//! matches.
 
 ghost use Rattle.std.specs.Prelude.{◌≡◌, ◌+◌, ◌*◌, ◌<◌, ◌^◌, ◌==◌, [], length, map, OnOk, IfOk};
 ghost use Rattle.rx_walks.specs.Reversed.{arrived, has, is_match, is_match_of, leads_to, those};
@@ -10,7 +11,7 @@ use crate::states::State;
 use rx_util::{PatternID, StateID};
 use std::alloc::{AllocError, Global};
 
-/// So many empty lists.
+/// Returns `count` empty lists.
 fn empty_lists(alloc: Global, count: usize) -> Result<Vec<Vec<StateID>>, AllocError>
     ensures { IfOk result (λ lists. AreLists count (λ q. []) (lists_of lists.items)) }
 {
@@ -21,7 +22,7 @@ fn empty_lists(alloc: Global, count: usize) -> Result<Vec<Vec<StateID>>, AllocEr
     Ok(lists)
 }
 
-/// Whether the list ends with the number.
+/// Returns whether the list ends with the number.
 fn ends_with(list: &[StateID], id: StateID) -> bool
     ensures { result ≡ ends_with list.now id }
 {
@@ -31,7 +32,7 @@ fn ends_with(list: &[StateID], id: StateID) -> bool
     }
 }
 
-/// Puts the number at the end of the list, if it doesn't stand there.
+/// Appends the number to the list, unless it ends with it.
 fn put_last(list: &mut Vec<StateID>, id: StateID) -> Result<(), AllocError>
     ensures { OnOk result (list.new.items ≡ with_last list.old.items id) }
 {
@@ -41,7 +42,7 @@ fn put_last(list: &mut Vec<StateID>, id: StateID) -> Result<(), AllocError>
     Ok(())
 }
 
-/// Puts the number at the end of the list at a place, if there is one.
+/// Appends the number to the list at an index, if there is one, unless it ends with it.
 fn put_at(lists: &mut Vec<Vec<StateID>>, at: usize, id: StateID) -> Result<(), AllocError>
     ensures { OnOk result (PutsNumber id (λ q. at == q) (lists_of lists.old.items)
         (lists_of lists.new.items)) }
@@ -52,7 +53,7 @@ fn put_at(lists: &mut Vec<Vec<StateID>>, at: usize, id: StateID) -> Result<(), A
     Ok(())
 }
 
-/// Puts the number at the ends of the lists of these states.
+/// Appends the number to the lists of these states, unless they end with it.
 fn put_at_all(
     lists: &mut Vec<Vec<StateID>>,
     states: &[StateID],
@@ -67,7 +68,7 @@ fn put_at_all(
     Ok(())
 }
 
-/// Puts the number at the ends of the lists of the states to which the edges of a state lead.
+/// Appends the number to the lists of the states to which the edges of a state lead.
 fn put_edges(lists: &mut Vec<Vec<StateID>>, state: &State, id: StateID) -> Result<(), AllocError>
     ensures { OnOk result (PutsNumber id (λ q. leads_to q (node_of state.now))
         (lists_of lists.old.items) (lists_of lists.new.items)) }
@@ -86,7 +87,7 @@ fn put_edges(lists: &mut Vec<Vec<StateID>>, state: &State, id: StateID) -> Resul
     }
 }
 
-/// For each state the states with an edge to it, numbered from how many there are on.
+/// Returns for each state the states with an edge to it, numbered from the number of states on.
 fn edges_to(alloc: Global, states: &[State]) -> Result<Vec<Vec<StateID>>, AllocError>
     requires { 2 * length states.now < 2 ^ 64 }
     ensures { let nodes = map node_of states.now in
@@ -100,8 +101,8 @@ fn edges_to(alloc: Global, states: &[State]) -> Result<Vec<Vec<StateID>>, AllocE
     Ok(lists)
 }
 
-/// For each state where walks that came back to it go on: by the edges that lead there, and to the
-/// matches of the patterns that start there.
+/// Returns for each state where backward walks go on: along the edges that lead to the state, and
+/// to the matches of the patterns that start there.
 pub(crate) fn arrivals(
     alloc: Global,
     states: &[State],
@@ -120,7 +121,7 @@ pub(crate) fn arrivals(
     Ok(lists)
 }
 
-/// The pattern whose match ends at a state.
+/// Returns the pattern whose match ends at a state.
 fn match_of(state: &State) -> Option<PatternID>
     ensures { result ≡ match_in (node_of state.now) }
 {
@@ -130,7 +131,7 @@ fn match_of(state: &State) -> Option<PatternID>
     }
 }
 
-/// The states at which matches end.
+/// Returns the states at which matches end.
 pub(crate) fn ends(alloc: Global, states: &[State]) -> Result<Vec<StateID>, AllocError>
     ensures { IfOk result (λ list. list.items ≡ those is_match 0 (map node_of states.now)) }
 {
@@ -143,7 +144,7 @@ pub(crate) fn ends(alloc: Global, states: &[State]) -> Result<Vec<StateID>, Allo
     Ok(list)
 }
 
-/// Puts the number at the end of the list of the pattern whose match ends at a state.
+/// Appends the number to the list of the pattern whose match ends at a state.
 fn put_match(lists: &mut Vec<Vec<StateID>>, state: &State, id: StateID) -> Result<(), AllocError>
     ensures { OnOk result (PutsNumber id (λ k. is_match_of k (node_of state.now))
         (lists_of lists.old.items) (lists_of lists.new.items)) }
@@ -154,7 +155,7 @@ fn put_match(lists: &mut Vec<Vec<StateID>>, state: &State, id: StateID) -> Resul
     }
 }
 
-/// For each of so many patterns the states at which its matches end.
+/// Returns for each of `count` patterns the states at which its matches end.
 pub(crate) fn ends_by_pattern(
     alloc: Global,
     states: &[State],

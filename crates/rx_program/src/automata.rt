@@ -1,4 +1,4 @@
-//! The automata of a program's sets, each made once and shared.
+//! The automata of a program's sets, each built once and shared.
 
 ghost use Rattle.std.specs.Prelude.{◌≡◌, IfOk};
 ghost use Rattle.rx_utf8.specs.Automata.{IsReader, IsReverseReader};
@@ -9,7 +9,7 @@ use std::alloc::{AllocError, Global};
 use std::cmp::Ordering;
 use std::rc::Rc;
 
-/// The order of two sets, by their ranges. Of one that is shared the ranges aren't looked at.
+/// Orders two sets by their ranges. If they are shared, the ranges aren't compared.
 fn order(set: &Rc<CharacterSet>, other: &Rc<CharacterSet>) -> Ordering {
     if Rc::ptr_eq(set, other) {
         Ordering::Equal
@@ -18,8 +18,8 @@ fn order(set: &Rc<CharacterSet>, other: &Rc<CharacterSet>) -> Ordering {
     }
 }
 
-/// The automata that were made so far, by the order of their sets' ranges. That they stand in order
-/// isn't proved: if they didn't, an automaton might be made twice.
+/// The automata built so far, in the order of their sets' ranges. The order isn't proved: without
+/// it an automaton might be built twice.
 #[derive(Drop)]
 pub(crate) struct Automata {
     alloc: Global,
@@ -27,7 +27,7 @@ pub(crate) struct Automata {
 }
 
 impl Automata {
-    /// None is made yet.
+    /// Returns this without automata.
     pub(crate) fn new(alloc: Global) -> Automata {
         Automata {
             alloc,
@@ -35,7 +35,7 @@ impl Automata {
         }
     }
 
-    /// The automaton of a set.
+    /// Returns the automaton of a set.
     pub(crate) fn automaton(
         &mut self,
         set: &Rc<CharacterSet>,
@@ -57,13 +57,13 @@ impl Automata {
             Err(place) => place,
         };
         let automaton = Rc::new(self.alloc, SetAutomaton::new(self.alloc, set.clone()?)?)?;
-        let _ranges = automaton.ranges(); // tells that the automaton reads its set
+        let _ranges = automaton.ranges(); // for the proof: the automaton reads its set
         self.made.insert(place, automaton.clone()?)?;
         Ok(automaton)
     }
 }
 
-/// The automata that were turned round so far, by the order of their sets' ranges, as above.
+/// The reverse automata built so far, in the order of their sets' ranges, as above.
 #[derive(Drop)]
 pub(crate) struct ReverseAutomata {
     alloc: Global,
@@ -71,7 +71,7 @@ pub(crate) struct ReverseAutomata {
 }
 
 impl ReverseAutomata {
-    /// None is made yet.
+    /// Returns this without automata.
     pub(crate) fn new(alloc: Global) -> ReverseAutomata {
         ReverseAutomata {
             alloc,
@@ -79,7 +79,7 @@ impl ReverseAutomata {
         }
     }
 
-    /// The automaton of the same set that reads backwards.
+    /// Returns the reverse automaton of the same set.
     pub(crate) fn automaton(
         &mut self,
         forward: &SetAutomaton,
@@ -101,7 +101,7 @@ impl ReverseAutomata {
             Err(place) => place,
         };
         let automaton = Rc::new(self.alloc, forward.reversed(self.alloc)?)?;
-        let _ranges = automaton.ranges(); // tells that the automaton reads its set
+        let _ranges = automaton.ranges(); // for the proof: the automaton reads its set
         self.made.insert(place, automaton.clone()?)?;
         Ok(automaton)
     }

@@ -1,4 +1,4 @@
-//! Compiling one part of a tree after the other, with a stack of what is left to be done.
+//! Compiles a tree part by part, with a stack of jobs.
 
 ghost use Rattle.std.specs.Prelude.{◌≡◌, ◌+◌, ◌<◌, ◌^◌, [], length, OnOk};
 ghost use Rattle.rx_grammar.specs.Subtrees.{subtrees_of};
@@ -11,8 +11,8 @@ use crate::states::State;
 use rx_grammar::Hir;
 use std::alloc::{AllocError, Global};
 
-/// What is to be done. A part is named by the number of its root among the tree's nodes, and `next`
-/// is the state that it goes on to.
+/// A job. A part is named by the number of its root among the tree's nodes; `next` is the state to
+/// which it leads.
 #[derive(Drop)]
 pub(crate) enum Job {
     /// One part.
@@ -22,26 +22,26 @@ pub(crate) enum Job {
     },
     /// One state.
     State(State),
-    /// So many parts, one after the other, up to the `last` one; and how many states they have.
+    /// `count` parts in sequence, up to the `last` one, and the number of their states.
     Row {
         count: usize,
         last: usize,
         states: usize,
         next: usize,
     },
-    /// So many parts beside one another, up to the `last` one.
+    /// `count` alternative parts, up to the `last` one.
     Branches {
         count: usize,
         last: usize,
         next: usize,
     },
-    /// So many copies of a part, one after the other.
+    /// `count` copies of a part in sequence.
     Copies {
         count: usize,
         root: usize,
         next: usize,
     },
-    /// So many optional copies of a part, each inside the one before.
+    /// `count` optional copies of a part, each inside the one before.
     Optional {
         greedy: bool,
         count: usize,
@@ -50,18 +50,18 @@ pub(crate) enum Job {
     },
 }
 
-/// A program that grows. The last job is done first.
+/// A program under construction. The last job is done first.
 #[derive(Drop)]
 pub(crate) struct Compiler {
     pub(crate) alloc: Global,
-    /// The slots of the present pattern's group k are this number + 2 k and the one after it.
+    /// The slots of the current pattern's group k are this number + 2 k and the one after it.
     pub(crate) slots: usize,
     pub(crate) states: Vec<State>,
     pub(crate) jobs: Vec<Job>,
     pub(crate) automata: Automata,
 }
 
-/// Where a row of so many parts is entered: at its first one; with none in it, at what comes next.
+/// Returns the first state of `count` parts in sequence: `at`, or `next` if there are none.
 pub(crate) fn entry_of(count: usize, at: usize, next: usize) -> usize
     ensures { result ≡ entry_of count at next }
 {
@@ -69,7 +69,7 @@ pub(crate) fn entry_of(count: usize, at: usize, next: usize) -> usize
 }
 
 impl Compiler {
-    /// Nothing is done yet.
+    /// Returns this without states and jobs.
     pub(crate) fn new(alloc: Global, slots: usize) -> Compiler
         ensures slots { result.slots ≡ slots }
         ensures states { result.states.items ≡ [] }
@@ -84,7 +84,7 @@ impl Compiler {
         }
     }
 
-    /// Parts in a row: the last one, and before it the others.
+    /// Compiles parts in sequence: the last one, and before it the others.
     pub(crate) fn row(
         &mut self,
         hir: &Hir,
@@ -116,7 +116,7 @@ impl Compiler {
         Ok(())
     }
 
-    /// Parts beside one another: the last one, and before it the others.
+    /// Compiles alternative parts: the last one, and before it the others.
     pub(crate) fn branches(
         &mut self,
         hir: &Hir,
@@ -143,7 +143,7 @@ impl Compiler {
         Ok(())
     }
 
-    /// Copies of a part: one, and then the others.
+    /// Compiles copies of a part: one, and then the others.
     pub(crate) fn copies(
         &mut self,
         hir: &Hir,
@@ -175,7 +175,7 @@ impl Compiler {
         Ok(())
     }
 
-    /// Optional copies of a part: the first one, and inside of it the others.
+    /// Compiles optional copies of a part: the first one, and inside it the others.
     pub(crate) fn optional(
         &mut self,
         hir: &Hir,

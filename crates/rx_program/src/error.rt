@@ -9,24 +9,24 @@ use rx_util::PatternID;
 use std::alloc::AllocError;
 use thiserror::Error;
 
-/// Why patterns are refused.
+/// Why patterns can't be compiled.
 #[derive(Debug, Clone, Copy, PartialEq, Eq, Error)]
 pub enum BuildError {
-    /// The text of this pattern is refused.
+    /// A pattern isn't valid.
     #[error("{error}")]
     Syntax {
-        /// The first pattern whose text is refused.
+        /// The first pattern that isn't valid.
         pattern: PatternID,
-        /// Why it is refused.
+        /// Why it isn't valid.
         error: SyntaxError,
     },
     /// The patterns weigh too much.
     #[error("the patterns are too large")]
     Size {
-        /// The limit, in bytes: a program is taken to have 40 for each unit of weight.
+        /// The limit in bytes; a program counts as 40 bytes for each unit of weight.
         limit: usize,
     },
-    /// There was no memory for the program.
+    /// Out of memory.
     #[error("there was no memory for the program")]
     Memory,
 }
@@ -40,7 +40,7 @@ impl From<AllocError> for BuildError {
 }
 
 impl BuildError {
-    /// The first pattern whose text is refused.
+    /// Returns the first pattern that isn't valid.
     pub fn pattern(&self) -> Option<PatternID>
         ensures { result ≡ pattern_in self.now }
     {
@@ -50,7 +50,7 @@ impl BuildError {
         }
     }
 
-    /// Why that text is refused.
+    /// Returns why that pattern isn't valid.
     pub fn syntax_error(&self) -> Option<SyntaxError>
         ensures { result ≡ syntax_in self.now }
     {
@@ -60,7 +60,7 @@ impl BuildError {
         }
     }
 
-    /// The limit that the patterns are above, in bytes.
+    /// Returns the limit that the patterns exceed, in bytes.
     pub fn size_limit(&self) -> Option<usize>
         ensures { result ≡ limit_in self.now }
     {
@@ -70,7 +70,7 @@ impl BuildError {
         }
     }
 
-    /// Whether there was no memory.
+    /// Returns whether this is `Memory`.
     pub fn is_memory(&self) -> bool
         ensures { IsTrue result ↔ (self.now ≡ Memory) }
     {

@@ -1,4 +1,4 @@
-//! Compiling a part of a tree: its own states, and jobs for the parts right below it.
+//! Compiles a part of a tree: its own states, and jobs for the parts right below it.
 
 ghost use Rattle.std.specs.Prelude.{◌≡◌, ◌+◌, ◌-◌, ◌<◌, ◌^◌, length, OnOk, IfOk};
 ghost use Rattle.rx_grammar.specs.Trees.{repeated};
@@ -14,7 +14,7 @@ use rx_grammar::{Hir, Node, Properties, Repetition};
 use rx_util::StateID;
 use std::alloc::{AllocError, Global};
 
-/// What is known of the part with this root.
+/// Returns the properties of the part with this root.
 fn known_of(hir: &Hir, root: usize) -> Properties
     requires { root < length (subtrees_of (tree_of hir.now)) }
     ensures { result ≡ properties_of (part_at (subtrees_of (tree_of hir.now)) root) }
@@ -22,8 +22,8 @@ fn known_of(hir: &Hir, root: usize) -> Properties
     hir.properties()[root]
 }
 
-/// The states by which parts beside one another are entered: so many, up to the one with this root,
-/// of which the states end at `end`.
+/// Returns the first states of `count` alternative parts, up to the one with this root, whose
+/// states end at `end`.
 fn branch_starts(
     alloc: Global,
     hir: &Hir,
@@ -48,7 +48,7 @@ fn branch_starts(
 }
 
 impl Compiler {
-    /// A repetition of the part with this root.
+    /// Compiles a repetition of the part with this root.
     fn repetition(
         &mut self,
         hir: &Hir,
@@ -116,7 +116,7 @@ impl Compiler {
         Ok(())
     }
 
-    /// The part with this root.
+    /// Compiles the part with this root.
     fn part(&mut self, hir: &Hir, root: usize, next: usize) -> Result<(), AllocError>
         requires slots { self.old.slots < 2 ^ 63 }
         requires root { root < length (subtrees_of (tree_of hir.now)) }
@@ -167,7 +167,7 @@ impl Compiler {
         Ok(())
     }
 
-    /// One job.
+    /// Does a job.
     pub(crate) fn run(&mut self, hir: &Hir, job: Job) -> Result<(), AllocError>
         requires slots { self.old.slots < 2 ^ 63 }
         requires job { IsJob (subtrees_of (tree_of hir.now)) job }

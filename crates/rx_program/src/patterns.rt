@@ -1,4 +1,4 @@
-//! Patterns compiled to a program.
+//! Compiles patterns to a program.
 
 ghost use Rattle.std.specs.Prelude.{ℕ, ◌≡◌, ◌+◌, ◌-◌, ◌*◌, ◌<◌, ◌↔◌, ◌⊎◌, ◌^◌, [], ◌∷◌, ◌++◌, length, map, All, IfOk, IfErr, IfSome, OnOk};
 ghost use Rattle.rx_grammar.specs.Trees.{numbers_of};
@@ -18,12 +18,12 @@ use rx_grammar::Hir;
 use rx_util::{PatternID, StateID};
 use std::alloc::{AllocError, Global};
 
-/// The greatest number of a slot.
+/// The greatest slot.
 const GREATEST_SLOT: usize = usize::MAX / 2;
 
 impl Compiler {
-    /// The pattern with this number, after the states that there are: with the group of the whole
-    /// match, and the end.
+    /// Compiles the pattern with this number after the existing states, with the group of the whole
+    /// match and the match.
     fn pattern(&mut self, hir: &Hir, number: usize) -> Result<(), AllocError>
         requires number { number < 2 ^ 62 }
         requires slots { self.old.slots < 2 ^ 63 }
@@ -53,7 +53,7 @@ impl Compiler {
     }
 }
 
-/// How many states a pattern is, with the group of the whole match, and the end.
+/// Returns the number of a pattern's states, with those of the whole match.
 fn state_count(hir: &Hir) -> usize
     requires { pattern_weight (tree_of hir.now) < 2 ^ 63 }
     ensures { result ≡ 3 + size_of (tree_of hir.now) }
@@ -61,7 +61,7 @@ fn state_count(hir: &Hir) -> usize
     3 + hir.properties()[hir.nodes().len() - 1].size
 }
 
-/// Where patterns begin that stand one after the other, the first one at this state.
+/// Returns the first state of each pattern, in sequence from a state on.
 fn pattern_starts(alloc: Global, hirs: &[&Hir], mut at: usize) -> Result<Vec<StateID>, AllocError>
     requires { at + sum_of_weights (map (λ hir. tree_of hir.now) hirs.now) < 2 ^ 63 }
     ensures { IfOk result (λ starts. starts.items
@@ -75,7 +75,7 @@ fn pattern_starts(alloc: Global, hirs: &[&Hir], mut at: usize) -> Result<Vec<Sta
     Ok(starts)
 }
 
-/// The slots that come after these and those of the groups of a pattern, if they are so few.
+/// Returns the slots so far plus those of a pattern's groups, if they aren't too many.
 fn slots_after(slots: usize, hir: &Hir) -> Option<usize>
     ensures { IfSome result (λ more. (more ≡ slots + 2 * length (numbers_of (tree_of hir.now)))
         × (more < 2 ^ 63)) }
@@ -89,7 +89,7 @@ fn slots_after(slots: usize, hir: &Hir) -> Option<usize>
 }
 
 impl Compiler {
-    /// The patterns one after the other, after the states that there are.
+    /// Compiles patterns in sequence after the existing states.
     fn patterns(&mut self, hirs: &[&Hir]) -> Result<(), AllocError>
         requires slots { self.old.slots < 2 ^ 63 }
         requires idle { self.old.jobs.items ≡ [] }
@@ -112,7 +112,7 @@ impl Compiler {
     }
 }
 
-/// The states of a pattern that stands alone.
+/// Returns the states of a single pattern.
 fn states_of_one(alloc: Global, hir: &Hir) -> Result<Vec<State>, AllocError>
     requires { pattern_weight (tree_of hir.now) < 2 ^ 63 }
     ensures nodes { IfOk result (λ states. map node_of states.items
@@ -124,8 +124,8 @@ fn states_of_one(alloc: Global, hir: &Hir) -> Result<Vec<State>, AllocError>
     Ok(compiler.states)
 }
 
-/// The states of several patterns, or of none: one with ordered edges to those that begin here, and
-/// the patterns.
+/// Returns the states of several patterns, or of none: one with ordered edges to each pattern's
+/// start, and the patterns.
 fn states_of_several(
     alloc: Global,
     hirs: &[&Hir],
@@ -143,7 +143,7 @@ fn states_of_several(
     Ok(compiler.states)
 }
 
-/// The states of patterns, and where each of these begins.
+/// Returns the states of patterns, and the first state of each.
 fn states_of(alloc: Global, hirs: &[&Hir]) -> Result<(Vec<State>, Vec<StateID>), AllocError>
     requires { weight_of_all (map (λ hir. tree_of hir.now) hirs.now) < 2 ^ 63 }
     ensures nodes { (terminator : ℕ) → IfOk result (λ made. map node_of made.0.items
@@ -161,8 +161,8 @@ fn states_of(alloc: Global, hirs: &[&Hir]) -> Result<(Vec<State>, Vec<StateID>),
     Ok((states, starts))
 }
 
-/// What patterns weigh together, and 1 more unless there is exactly one: `usize::MAX` where they
-/// weigh more.
+/// Returns the weight of patterns together, plus 1 unless there is exactly one; at most
+/// `usize::MAX`.
 fn weight_of_all(hirs: &[&Hir]) -> usize
     ensures { result ≡ held (weight_of_all (map (λ hir. tree_of hir.now) hirs.now)) }
 {
@@ -173,18 +173,22 @@ fn weight_of_all(hirs: &[&Hir]) -> usize
     weight
 }
 
-/// Patterns compiled to a program. One stands alone; more, or none, stand under one state with
-/// edges to them in their order, so that of walks that start at one place those of an earlier
-/// pattern are preferred. Without a pattern it is a program that never matches. In each search of
-/// any content the walks of the program over bytes are those of the program over characters that
-/// the patterns stand for.
+/// Compiles patterns to a program. With several patterns, or none, a state above them has ordered
+/// edges to each: if matches of several start at the same offset, the earliest pattern is
+/// preferred. Without a pattern the program never matches. In each search the walks of the program
+/// over bytes are those of the patterns' program over characters.
 ///
-/// The weight of patterns is that of each in turn, and 1 more unless there is exactly one. They are
-/// refused as `Size` exactly where 40 for each unit of weight is above the limit, and without one
-/// where the weight is above 2,147,483,646. This is asked before anything of that size is made.
-/// Else `Memory` may stand in place of a program.
+/// The weight of patterns is the sum of theirs, plus 1 unless there is exactly one.
 ///
-/// Takes time and memory in proportion to the weight, and to the automata of its sets.
+/// # Errors
+///
+/// - `Size` exactly if 40 for each unit of weight exceeds the limit, or, without one, if the weight
+///   exceeds 2,147,483,646; this is checked before anything of that size is built
+/// - `Memory`
+///
+/// # Complexity
+///
+/// Time and memory proportional to the weight and to the automata of the sets.
 pub fn compile(
     alloc: Global,
     hirs: &[&Hir],

@@ -8,9 +8,9 @@ use rx_util::StateID;
 use std::alloc::Global;
 use std::marker::Model;
 
-/// Patterns compiled to states over bytes. It comes from `compile` alone. Contracts see its
-/// states, where walks start, and the byte that ends a line (`ByteProgram`); `character_program` is
-/// the program over characters that it stands for.
+/// Patterns compiled to states over bytes, by `compile`. Contracts see the states, the start
+/// states, and the line terminator (`ByteProgram`); `character_program` is the corresponding
+/// program over characters.
 #[derive(Debug, Drop)]
 pub struct Program {
     states: Vec<State>,
@@ -36,7 +36,7 @@ impl Model for Program {
 }
 
 impl Program {
-    /// A program of these states. Where no pattern is asked for, walks start from the first one.
+    /// Returns a program of these states. Searches that name no pattern start in the first one.
     pub(crate) fn new(states: Vec<State>, patterns: Vec<StateID>, line_terminator: u8) -> Program
         requires { All ReadsItsSet states.items }
         ensures { result ≡ record {
@@ -54,12 +54,12 @@ impl Program {
         }
     }
 
-    /// What its lists take their memory from.
+    /// Returns the allocator of the lists.
     pub fn allocator(&self) -> Global {
         *self.states.allocator()
     }
 
-    /// The states, by number.
+    /// Returns the states, by number.
     pub fn states(&self) -> &[State]
         ensures states { result.now ≡ self.now.states }
         ensures reads { All ReadsItsSet result.now }
@@ -67,33 +67,33 @@ impl Program {
         &self.states
     }
 
-    /// The state that walks start from where no pattern is asked for.
+    /// Returns the start state of searches that name no pattern.
     pub fn start(&self) -> StateID
         ensures { result ≡ self.now.start }
     {
         self.start
     }
 
-    /// The state that walks of each pattern start from.
+    /// Returns the start state of each pattern.
     pub fn patterns(&self) -> &[StateID]
         ensures { result.now ≡ self.now.patterns }
     {
         &self.patterns
     }
 
-    /// The byte that ends a line.
+    /// Returns the line terminator.
     pub fn line_terminator(&self) -> u8
         ensures { result ≡ self.now.line_terminator }
     {
         self.line_terminator
     }
 
-    /// A law, for the proof alone: in each search of any content the walks of the program over
-    /// bytes are those of the program over characters.
+    /// A law, for the proof only: in each search the walks of the program over bytes are those of
+    /// the program over characters.
     pub fn walks_are_those_of_characters(&self)
         ensures reads { IsByteProgram self.now }
         ensures walks { HasWalksOfProgram self.now (character_program self.now) }
     {
-        let _states = self.states(); // tells that each automaton reads its set
+        let _states = self.states(); // for the proof: each automaton reads its set
     }
 }

@@ -1,4 +1,4 @@
-//! Programs turned round.
+//! Reverse programs.
 
 ghost use Rattle.std.specs.Prelude.{◌≡◌, ◌+◌, ◌*◌, ◌<◌, ◌^◌, ◌++◌, ◌∷◌, length, map, All, IfOk, IfSome, OnOk};
 ghost use Rattle.rx_walks.specs.Programs.{match, pass};
@@ -17,10 +17,10 @@ use rx_util::{PatternID, StateID};
 use std::alloc::{AllocError, Global};
 use std::marker::Model;
 
-/// A program turned round: its walks, over a content that is read from its end back, are those of
-/// the program from where they end to where they start. It comes from `Program::reversed` alone.
-/// Contracts see its states, where walks start, and the byte that ends a line
-/// (`ReverseByteProgram`); `back_characters_of` is the program over characters that it stands for.
+/// A reverse program: its walks over a haystack that is read backward are those of the program,
+/// from their ends to their starts. It is built by `Program::reversed`. Contracts see the states,
+/// the start states, and the line terminator (`ReverseByteProgram`); `back_characters_of` is the
+/// corresponding program over characters.
 #[derive(Debug, Drop)]
 pub struct ReverseProgram {
     states: Vec<ReverseState>,
@@ -46,12 +46,12 @@ impl Model for ReverseProgram {
 }
 
 impl ReverseProgram {
-    /// What its lists take their memory from.
+    /// Returns the allocator of the lists.
     pub fn allocator(&self) -> Global {
         *self.states.allocator()
     }
 
-    /// The states, by number.
+    /// Returns the states, by number.
     pub fn states(&self) -> &[ReverseState]
         ensures states { result.now ≡ self.now.states }
         ensures reads { All ReadsItsSetBack result.now }
@@ -59,38 +59,38 @@ impl ReverseProgram {
         &self.states
     }
 
-    /// The state that walks back start from where no pattern is asked for.
+    /// Returns the start state of searches that name no pattern.
     pub fn start(&self) -> StateID
         ensures { result ≡ self.now.start }
     {
         self.start
     }
 
-    /// The state that walks back start from of each pattern.
+    /// Returns the start state of each pattern.
     pub fn patterns(&self) -> &[StateID]
         ensures { result.now ≡ self.now.patterns }
     {
         &self.patterns
     }
 
-    /// The byte that ends a line.
+    /// Returns the line terminator.
     pub fn line_terminator(&self) -> u8
         ensures { result ≡ self.now.line_terminator }
     {
         self.line_terminator
     }
 
-    /// A law, for the proof alone: its automata read the characters of their sets from the last
-    /// byte back, and never come back to the state in which they begin.
+    /// A law, for the proof only: its automata read the characters of their sets from the last byte
+    /// to the first, and never return to their first state.
     pub fn reads_backwards(&self)
         ensures { IsReverseByteProgram self.now }
     {
-        let _states = self.states(); // tells that each automaton reads its set
+        let _states = self.states(); // for the proof: each automaton reads its set
     }
 }
 
-/// The number of the state at the ends of all matches, of a program with so many states and
-/// patterns; none where a `usize` doesn't tell how many states it has turned round.
+/// Returns the number of the start state at the ends of all matches, for a program with these
+/// numbers of states and patterns; `None` if the reverse program has too many states for a `usize`.
 fn first_start(states: usize, patterns: usize) -> Option<usize>
     ensures start { IfSome result (λ start. start ≡ 2 * states + patterns) }
     ensures room { IfSome result (λ start. start + patterns + 1 < 2 ^ 64) }
@@ -100,7 +100,7 @@ fn first_start(states: usize, patterns: usize) -> Option<usize>
     Some(start)
 }
 
-/// Appends a state with empty edges for each list of them.
+/// Appends a state for each list, with epsilon transitions to its states.
 fn push_unions(
     alloc: Global,
     states: &mut Vec<ReverseState>,
@@ -117,7 +117,7 @@ fn push_unions(
     Ok(())
 }
 
-/// Appends for each state one to which walks come back where they came to it.
+/// Appends for each state one from which backward walks go on when they have reached it.
 fn push_arrivals(
     alloc: Global,
     states: &mut Vec<ReverseState>,
@@ -135,7 +135,7 @@ fn push_arrivals(
     push_unions(alloc, states, &lists)
 }
 
-/// The edges of a state, walked back to it.
+/// Returns the edge of a state, backward to it.
 fn edge_back(
     alloc: Global,
     automata: &mut ReverseAutomata,
@@ -156,7 +156,7 @@ fn edge_back(
     })
 }
 
-/// Appends the edges of each state, walked back.
+/// Appends the edges of each state, backward.
 fn push_edges_back(
     alloc: Global,
     states: &mut Vec<ReverseState>,
@@ -174,7 +174,7 @@ fn push_edges_back(
     Ok(())
 }
 
-/// Appends for each pattern the state at which its walks back end.
+/// Appends for each pattern the state in which its backward walks end.
 fn push_matches(states: &mut Vec<ReverseState>, patterns: &[StateID]) -> Result<(), AllocError>
     requires { All ReadsItsSetBack states.old.items }
     ensures nodes { OnOk result (map back_node_of states.new.items
@@ -187,7 +187,7 @@ fn push_matches(states: &mut Vec<ReverseState>, patterns: &[StateID]) -> Result<
     Ok(())
 }
 
-/// Appends the states from which walks back start: at the ends of all matches, and at those of each
+/// Appends the start states of backward walks: at the ends of all matches, and at those of each
 /// pattern's.
 fn push_starts(
     alloc: Global,
@@ -208,7 +208,7 @@ fn push_starts(
     push_unions(alloc, states, &lists)
 }
 
-/// The numbers from one on, as many as there are patterns.
+/// Returns the numbers from `first` on, as many as there are patterns.
 fn numbers_from(
     alloc: Global,
     first: usize,
@@ -225,13 +225,19 @@ fn numbers_from(
 }
 
 impl Program {
-    /// The program turned round. In each content its walks over bytes, from the content's end back,
-    /// are those of this program, from where they end to where they start: from its start those of
+    /// Returns the reverse program. In each haystack its walks over bytes, from the haystack's end,
+    /// are those of this program, from their ends to their starts: from its start state those of
     /// all patterns, and from each pattern's own those that match this pattern.
     ///
-    /// It has twice as many states, and two for each pattern and one besides: at most three times as
-    /// many as the program. It takes time and memory in proportion to these, and to the automata of
-    /// the sets turned round, each of which is made once. It is refused for want of memory alone.
+    /// # Errors
+    ///
+    /// Out of memory.
+    ///
+    /// # Complexity
+    ///
+    /// It has twice as many states, plus two for each pattern and one: at most three times as many
+    /// as the program. Time and memory are proportional to these and to the reverse automata of the
+    /// sets, each of which is built once.
     pub fn reversed(&self) -> Result<ReverseProgram, AllocError>
         ensures characters { IfOk result (λ back. back_characters_of back
             ≡ back_program (character_program self.now)) }

@@ -1,4 +1,4 @@
-//! The states of a program turned round.
+//! The states of a reverse program.
 
 ghost use Rattle.std.specs.Prelude.{◌≡◌, IfOk};
 ghost use Rattle.rx_walks.specs.Programs.{pass};
@@ -10,25 +10,26 @@ use rx_util::{PatternID, StateID};
 use std::alloc::{AllocError, Global};
 use std::rc::Rc;
 
-/// A state of a program turned round, with the states that its edges lead to.
+/// A state of a reverse program, with the states to which its edges lead.
 #[derive(Debug, Drop)]
 pub enum ReverseState {
-    /// Reads one character of a set, from its last byte back, by that set's automaton turned round.
+    /// Reads one character of a set, from its last byte to its first, with the set's reverse
+    /// automaton.
     Ranges(Rc<ReverseAutomaton>, StateID),
-    /// An empty edge where the look holds.
+    /// An epsilon transition if the assertion holds.
     Look(Look, StateID),
-    /// An empty edge.
+    /// An epsilon transition.
     Empty(StateID),
-    /// Two empty edges.
+    /// Two epsilon transitions.
     BinaryUnion(StateID, StateID),
-    /// Empty edges, or none.
+    /// Epsilon transitions, or none.
     Union(Vec<StateID>),
     /// A match of this pattern starts.
     Match(PatternID),
 }
 
 impl ReverseState {
-    /// Empty edges to these states.
+    /// Returns a state with epsilon transitions to these states.
     pub(crate) fn union(alloc: Global, states: &[StateID]) -> Result<ReverseState, AllocError>
         ensures node { IfOk result (λ state. back_node_of state ≡ pass states.now) }
         ensures reads { IfOk result ReadsItsSetBack }

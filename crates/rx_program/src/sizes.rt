@@ -1,19 +1,19 @@
-//! Whether patterns weigh too much.
+//! Whether patterns are too large.
 
 ghost use Rattle.std.specs.Prelude.{ℕ, ◌≡◌, ◌<◌, IsTrue, ◌↔◌};
 ghost use Rattle.rx_grammar.specs.Weights.{held};
 ghost use Rattle.rx_program.specs.Sizes.{IsTooLarge, told_limit};
 
-/// For how many bytes each unit of weight counts.
+/// The bytes for each unit of weight.
 const BYTES: usize = 40;
 
-/// The greatest weight where no limit is set.
+/// The greatest weight without a limit.
 const GREATEST_WEIGHT: usize = 2_147_483_646;
 
-/// The limit that a refusal tells where none is set.
+/// The limit in an error without a limit.
 const GREATEST_LIMIT: usize = 85_899_345_840;
 
-/// Whether patterns of this weight, which is held at `usize::MAX`, are above the limit.
+/// Returns whether patterns of this weight, capped at `usize::MAX`, exceed the limit.
 pub(crate) fn is_too_large(weight: usize, size_limit: Option<usize>) -> bool
     ensures { (w : ℕ) → weight ≡ held w → IsTrue result ↔ IsTooLarge size_limit w }
 {
@@ -23,7 +23,7 @@ pub(crate) fn is_too_large(weight: usize, size_limit: Option<usize>) -> bool
     }
 }
 
-/// The limit that a refusal tells.
+/// Returns the limit for an error.
 pub(crate) fn told_limit(size_limit: Option<usize>) -> usize
     ensures { result ≡ told_limit size_limit }
 {

@@ -9,27 +9,27 @@ use rx_utf8::SetAutomaton;
 use rx_util::{PatternID, StateID};
 use std::rc::Rc;
 
-/// A state of a program, with the states that its edges lead to.
+/// A state of a program, with the states to which its edges lead.
 #[derive(Debug, Drop)]
 pub enum State {
-    /// Reads one character of a set, byte by byte, by the automaton of that set.
+    /// Reads one character of a set, byte by byte, with the set's automaton.
     Ranges(Rc<SetAutomaton>, StateID),
-    /// An empty edge where the look holds.
+    /// An epsilon transition if the assertion holds.
     Look(Look, StateID),
-    /// An empty edge.
+    /// An epsilon transition.
     Empty(StateID),
-    /// Two empty edges, the preferred one first.
+    /// Two epsilon transitions, the preferred one first.
     BinaryUnion(StateID, StateID),
-    /// Empty edges, the preferred one first.
+    /// Epsilon transitions, the preferred one first.
     Union(Vec<StateID>),
-    /// Notes the place in a slot.
+    /// Writes the offset into a slot.
     Capture(usize, StateID),
     /// A match of this pattern ends.
     Match(PatternID),
 }
 
 impl State {
-    /// Two empty edges, one into a part and one on: greedy prefers the one into it.
+    /// Returns a state with epsilon transitions into a part and on; greedy prefers the one into it.
     pub(crate) fn fork(greedy: bool, into: usize, on: usize) -> State
         ensures node { node_of result ≡ fork greedy into on }
         ensures reads { ReadsItsSet result }

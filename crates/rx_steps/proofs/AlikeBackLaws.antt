@@ -1,4 +1,4 @@
--- Steps back that come to the same.
+-- Backward steps that are the same.
 use Rattle.std.proofs.Common.{◌≡◌, ℕ, ◌⊎◌, List, [], ◌∷◌, ◌++◌, map, Option, Some, None, Contains, slice_get, refl, sym, ap, subst, ◌∙◌, arith, inl, inr}
 use Rattle.std.proofs.lemmas.List.{append_assoc}
 use Rattle.rx_program.specs.declared.states.State.{State}
@@ -19,7 +19,7 @@ use Rattle.rx_steps.proofs.UnreadLaws.{Stopped, move_stopped}
 abbrev NodeMachine : Type 0
 NodeMachine = Machine (ℕ × ℕ) Notes
 
--- ---- places that are alike
+-- ---- positions that are alike
 
 carried_here : (i : ℕ) (x y : Move (ℕ × ℕ)) → Carried i i x y → y ≡ x
 carried_here i (ends k) y c = c
@@ -32,9 +32,9 @@ steps_back_are_alike p place other nodes next met' alike list = λ m i start mov
   elsewhere = moves.elsewhere;
 })
 
--- ---- the byte isn't taken
+-- ---- the byte isn't read
 
--- the machine whose moves are those of a place
+-- the machine with the moves of a position
 abbrev move_there : Place → ℕ → ℕ × ℕ → Option State → Move (ℕ × ℕ)
 move_there place i q None = goes []
 move_there place i q (Some x) = move_at place i q x
@@ -48,7 +48,7 @@ moves_so states place m i = record {
   elsewhere = λ q is. ap (λ o. move_there place i q o) is;
 }
 
--- it stops where the byte isn't taken
+-- it stops if the byte isn't read
 stops : (p : ByteProgram) (place : Place) (m : NodeMachine) (i : ℕ) → MovesSo m i p.states (record place { byte = None }) → (q : ℕ × ℕ) → Stopped ((moves_there p.states place m).move i q) (m.move i q)
 stops p place m i moves q = by (slice_get p.states q.0) refl
   where
@@ -73,9 +73,9 @@ starts_are_met_unread p place nodes next met' list = λ m i start moves.
     let step = list (moves_there p.states place m) i start (moves_so p.states place m i) in
     record { ends = step.ends; steps = steps_stopped (stops p place m i moves) step.steps; best = step.best }
 
--- ---- walks that were left out
+-- ---- threads that are left out
 
--- a walk stands at a node
+-- a thread is at a node
 abbrev StandsAmong : ℕ × ℕ → List Started → Type 0
 StandsAmong q [] = ⊥
 StandsAmong q (t ∷ others) = (t.1 ≡ q) ⊎ StandsAmong q others
@@ -89,11 +89,11 @@ stands_before q [] others there = absurd there
 stands_before q (t ∷ front) others (inl here) = inl here
 stands_before q (t ∷ front) others (inr there) = inr (stands_before q front others there)
 
--- a node was seen, or is about to be
+-- a node was seen, or will be
 abbrev IsComing : List (ℕ × ℕ) → List Started → ℕ × ℕ → Type 0
 IsComing seen front q = Contains seen q ⊎ StandsAmong q front
 
--- once the first walk was followed, or passed over
+-- still so once the first thread was followed or skipped
 comes_still : (seen : List (ℕ × ℕ)) (s : ℕ) (r q : ℕ × ℕ) (front : List Started) → IsComing seen ((s, r) ∷ front) q → IsComing (r ∷ seen) front q
 comes_still seen s r q front (inl c) = inl (Contains-tail seen r q c)
 comes_still seen s r q front (inr (inl here)) = inl (Contains-head seen r q here)
@@ -116,7 +116,7 @@ abbrev first_of : Started → List Started → Started
 first_of u [] = u
 first_of u (t ∷ ts) = t
 
--- one more walk changes nothing at a node that comes before it
+-- one more thread changes nothing at a node that comes before it
 one_more : {m : NodeMachine} {i : ℕ} {seen : List (ℕ × ℕ)} {all next : List Started} {ms : List (ℕ × ℕ)} (s : ℕ) (q : ℕ × ℕ) (front others : List Started) → StepsAll m i seen all next ms → all ≡ front ++ others → IsComing seen front q
     → StepsAll m i seen (front ++ (s, q) ∷ others) next ms
 one_more {m = m} {i = i} {seen = seen} {next = next} {ms = ms} s q [] others steps e (inl c) = passed c (subst (λ xs. StepsAll m i seen xs next ms) e steps)
@@ -142,7 +142,7 @@ one_more {m = m} {i = i} {seen = seen} {ms = ms} s q (t ∷ front) others (read 
     let on = one_more s q front others rest (ap rest_of e) (comes_still seen s' r q front (subst (λ u. IsComing seen (u ∷ front) q) (sym same) comes)) in
     subst (λ u. StepsAll m i seen (u ∷ front ++ (s, q) ∷ others) ((s', x) ∷ next) ms) same (read x new is on)
 
--- all that were left out
+-- all that are left out
 all_more : {m : NodeMachine} {i : ℕ} {next : List Started} {ms : List (ℕ × ℕ)} {gone : List (ℕ × ℕ)} {threads thin : List Thread} (s : ℕ) (front : List Started) → Thins gone threads thin → ((q : ℕ × ℕ) → Contains gone q → StandsAmong q front)
     → StepsAll m i [] (front ++ started_at s (nodes_of thin)) next ms → StepsAll m i [] (front ++ started_at s (nodes_of threads)) next ms
 all_more s front thin_end stand steps = steps
@@ -160,7 +160,7 @@ all_more s front (left_out {q = q} {xs = xs} c thins) stand steps =
 none_gone : (q : ℕ × ℕ) → Contains [] q → StandsAmong q []
 none_gone q (k, within, is) = absurd (omega (arith, within))
 
--- a step from the walks that are left is one from all
+-- a step from the kept threads is one from all
 pub steps_thinned : {m : NodeMachine} {i : ℕ} {next : List Started} {ms : List (ℕ × ℕ)} {threads thin : List Thread} (s : ℕ) → Thins [] threads thin → StepsAll m i [] (started_at s (nodes_of thin)) next ms → StepsAll m i [] (started_at s (nodes_of threads)) next ms
 steps_thinned s thins steps = all_more s [] thins none_gone steps
 

@@ -1,5 +1,5 @@
--- A step of threads without slots that is made at one place is the step at each place that is alike; where no byte is read
--- a step leaves no thread.
+-- The step of threads without slots is the same at all positions that are alike; if no byte is
+-- read, it leaves no thread.
 use Rattle.std.proofs.Common.{◌≡◌, ℕ, zero, suc, ◌+◌, Bool, true, false, List, [], ◌∷◌, ◌++◌, map, take, drop, Option, Some, None, option_map, slice_get, refl, sym, ap, subst, ◌∙◌, arith}
 use Rattle.rx_program.specs.declared.states.State.{State}
 use Rattle.rx_program.specs.declared.states.State.TheVariants as state
@@ -23,9 +23,9 @@ use Rattle.rx_steps.proofs.IdleLaws.{with_byte, last_of}
 abbrev pub SlotMachine : Type 0
 SlotMachine = Machine (ℕ × ℕ) Slots
 
--- ---- moves at places that are alike
+-- ---- moves at positions that are alike
 
--- a move from one place as it is from another
+-- a move at one offset as that at another
 abbrev pub Carried : ℕ → ℕ → Move (ℕ × ℕ) → Move (ℕ × ℕ) → Type 0
 Carried i j (ends k) x = x ≡ ends k
 Carried i j (goes rs) x = x ≡ goes rs
@@ -60,7 +60,7 @@ move_carried p first second i j q (state.Union alternates) alike is = refl
 move_carried p first second i j q (state.Capture slot r) alike is = refl
 move_carried p first second i j q (state.Match k) alike is = refl
 
--- where there is no slot nothing is noted
+-- without slots nothing is written
 pub none_noted : {L S : Type 0} (i : ℕ) (o : Option (Node L S)) → note_at note_slot i o [] ≡ []
 none_noted i None = refl
 none_noted i (Some (match k)) = refl
@@ -69,7 +69,7 @@ none_noted i (Some (note slot r)) = refl
 none_noted i (Some (look l r)) = refl
 none_noted i (Some (set x r)) = refl
 
--- both machines go on alike, and note nothing where there is no slot
+-- both machines make the same moves, and write nothing without slots
 record GoAlike (m : SlotMachine) (i : ℕ) (m' : SlotMachine) (j : ℕ) : Type 0 where
   moves : (q : ℕ × ℕ) → Carried i j (m.move i q) (m'.move j q)
   notes : (q : ℕ × ℕ) → m.note i q [] ≡ []
@@ -114,12 +114,12 @@ steps_carried {m' = m'} {i = i} {j = j} alike bare (read {q = q} r new is rest) 
     let on : (i + 1 ≡ i + 1) × (m'.move j q ≡ reads r (j + 1)) = subst (λ x. Carried i j x (m'.move j q)) is (alike.moves q) in
     read r new on.1 (steps_carried alike bare.1 rest)
 
--- ---- a content in which the place stands
+-- ---- a haystack with the position
 
 abbrev no_bytes : List ℕ
 no_bytes = []
 
--- its byte stands there, and its looks hold everywhere
+-- its byte is there, and its assertions hold everywhere
 abbrev pub sample : Place → Option ℕ → Haystack walks.Look
 sample place None = record { content = no_bytes; low = 0; high = place.at; holds = λ l j. is_among place.looks l }
 sample place (Some b) = record (with_byte place.at b) { holds = λ l j. is_among place.looks l }
@@ -153,7 +153,7 @@ steps_are_alike p place other threads next ended slots bare alike list h i there
     subst (λ x. Steps (slot_machine p h) i [] threads next x) (end_is i place.at ended slots)
     (steps_carried (go_alike p h0 h place.at i place other here there alike) bare (list h0 place.at here))
 
--- ---- where no byte is read
+-- ---- no byte is read
 
 abbrev NoRead : Move (ℕ × ℕ) → Type 0
 NoRead (ends k) = Unit {0}

@@ -1,4 +1,4 @@
--- What the loop over places came to is what the program finds where all matches are wanted.
+-- The result of the search loop is what the program finds among all matches.
 use Rattle.std.proofs.Common.{inl, inr, ◌≡◌, ℕ, ◌<◌, ◌≤◌, Bool, true, false, List, Option, Some, None, option_map, refl, sym, subst, arith}
 use Rattle.unicode.specs.Perl.{is_word_char}
 use Rattle.rx_sets.specs.Sets.{Range}
@@ -20,8 +20,8 @@ use Rattle.rx_steps.specs.Coming.{course_of}
 use Rattle.rx_steps.specs.ComingAll.{HasMetNoneAll, IsOverAll, IsOverAllAt}
 use Rattle.rx_steps.proofs.ByteLaws.{below_or_not}
 
--- laws of rx_walks, as calls of its functions tell them: the loop finds what the program does; and
--- where it finds something, the leftmost-first search does
+-- laws of rx_walks, in the form of its functions' contracts: the loop finds what the program does,
+-- and if it finds something, so does the leftmost-first search
 abbrev pub SearchedLaw : Type 0
 SearchedLaw = (member : List Range → ℕ → Bool) (is_word : ℕ → Bool) (c : Program walks.Look (List Range)) (step : ℕ → Automaton) → ProgramIsSearchedForAll member is_word c step
 
@@ -30,11 +30,11 @@ pub record FoundLaws : Type 0 where
   pub exist : (member : List Range → ℕ → Bool) (is_word : ℕ → Bool) (c : Program walks.Look (List Range)) → FindsExist member is_word c
   pub one : (member : List Range → ℕ → Bool) (is_word : ℕ → Bool) (c : Program walks.Look (List Range)) → FindsAllAtMostOne member is_word c
 
--- an unknown pattern has no state that walks start from, and nothing is found
+-- an unknown pattern has no start state, and nothing is found
 pub none_known_all : (p : ByteProgram) (s : Search) → start_node (character_program p) s.anchoring ≡ None → IsAnswerAll p s None
 none_known_all p s starts = subst (λ x. IfStarts x (IsFindAll (machine_of is_in is_word_char (character_program p) s) fresh_notes s) None) (sym starts) refl
 
--- nothing is answered, whether any match will do or not
+-- no result, whether any match may be reported or not
 pub none_at_all : (earliest : Bool) (p : ByteProgram) (s : Search) (end : ℕ) → IsAnswerAll p s None → IsAnswerAllAt earliest p s end None
 none_at_all false p s end answer = answer
 none_at_all true p s end answer = answer
@@ -46,7 +46,7 @@ module _ (p : ByteProgram) (s : Search) (q : ℕ) (reads : IsByteProgram p) (law
   part_answers : (i : ℕ) (best : Option Found) → IsOverAll (course_of p (up_to_place s i) q) best → IsAnswerAll p (up_to_place s i) best
   part_answers i best way = law is_in is_word_char (character_program p) (automata_of p) reads (up_to_place s i) q (option_map pattern_match best) starts way
 
-  -- where no place lies inside span, slice and content nothing is found
+  -- if no offset is inside span, slice and haystack, nothing is found
   pub none_inside_all : ((j : ℕ) → IsInside s j → ⊥) → IsAnswerAll p s None
   none_inside_all never = over_answers None (over (λ j from begins. never j begins.0.0))
 
@@ -59,7 +59,7 @@ module _ (p : ByteProgram) (s : Search) (q : ℕ) (reads : IsByteProgram p) (law
     | inr from ↦ part_answers j None (before j from to)
   ])
 
-  -- where a match is found among all one is found leftmost-first
+  -- if there is a match among all, there is one leftmost-first
   something_found : FoundLaws → (t : Search) (found : Found) → IsAnswerAll p t (Some found) → (out : Option (Outcome Notes)) → ProgramFinds is_in is_word_char (character_program p) t out
       → (u : Outcome Notes) × ProgramFinds is_in is_word_char (character_program p) t (Some u)
   something_found laws t found answer (Some u) finds = (u, finds)
@@ -72,7 +72,7 @@ module _ (p : ByteProgram) (s : Search) (q : ℕ) (reads : IsByteProgram p) (law
       let some = something_found laws (up_to_place s i) found answer there.0 there.1 in
       record { in_span = le; found = some.0; finds = some.1; none_before = nothing_before laws first i is before }
 
-  -- what a search that is over at a place answers
+  -- the result of a search that stops at an offset
   pub over_at_answers_all : FoundLaws → (earliest : Bool) (first i : ℕ) (best : Option Found) → first ≡ lowest s → IsOverAllAt earliest (course_of p s q) first i best → IsAnswerAllAt earliest p s i best
   over_at_answers_all laws false first i best is way = over_answers best way
   over_at_answers_all laws true first i None is way = over_answers None way

@@ -1,4 +1,4 @@
--- How far a search for all matches has come, from its start to its end.
+-- How far a search for all matches has got, from its start to its end.
 use Rattle.std.proofs.Common.{inl, inr, ◌≡◌, ℕ, zero, suc, ◌+◌, ◌-◌, ◌<◌, ◌≤◌, All, IsTrue, false, length, List, [], ◌∷◌, map, max, Option, Some, None, option_map, slice_get, refl, sym, ap, ap₂, subst, ◌∙◌, arith}
 use Rattle.std.proofs.lemmas.List.Elements.{All-append, All-cons, All-nil}
 use Rattle.std.specs.Option.{is_some}
@@ -24,7 +24,7 @@ first_of P x xs all = all 0 x (omega arith)
 rest_of : (P : Started → Type 0) (x : Started) (xs : List Started) → All P (x ∷ xs) → All P xs
 rest_of P x xs all = λ i d lt. all (suc i) d (omega (arith, lt))
 
--- ---- where walks began
+-- ---- where threads started
 
 BeganLater : (i j : ℕ) (xs : List Started) → i ≤ j → All (BeganBy i) xs → All (BeganBy j) xs
 BeganLater i j xs le all = λ k d lt. omega (arith, le, all k d lt)
@@ -33,7 +33,7 @@ all_there : (j s : ℕ) (rs : List (ℕ × ℕ)) → s ≤ j → All (BeganBy j)
 all_there j s [] le = All-nil (BeganBy j)
 all_there j s (r ∷ rs) le = All-cons (BeganBy j) (s, r) (map (λ r. (s, r)) rs) le (all_there j s rs le)
 
--- a step goes on with walks that began where those did of which it is made, and so did those that end
+-- the threads and the match ends after a step started where those before it did
 began_on : (m : Machine (ℕ × ℕ) Notes) (i j : ℕ) {seen : List (ℕ × ℕ)} {threads next : List Started} {ends : List (ℕ × ℕ)} → StepsAll m i seen threads next ends → All (BeganBy j) threads
     → All (BeganBy j) next × ((s k : ℕ) → Met s k ends → s ≤ j)
 began_on m i j done all = (All-nil (BeganBy j), λ s k here. nothing here)
@@ -60,11 +60,11 @@ started_began s q i live threads (inl begun) all =
     subst (All (BeganBy i)) (sym begun.1) (All-append (BeganBy i) live ((i, (q, 0)) ∷ []) all (All-cons (BeganBy i) (i, (q, 0)) [] (omega arith) (All-nil (BeganBy i))))
 started_began s q i live threads (inr waits) all = subst (All (BeganBy i)) (sym waits.1) all
 
--- the best end that is met is one of a walk that began here or before
+-- the best match end is one of a thread that started here or before
 pub met_began : (m : Machine (ℕ × ℕ) Notes) (s : Search) (q i : ℕ) (live threads next : List Started) (e : MetEnd) → HasStartedAll s q i live threads → All (BeganBy i) live → IsStepAll m i threads next (Some e) → e.start ≤ i
 met_began m s q i live threads next e began all step = (began_on m i i step.steps (started_began s q i live threads began all)).1 e.start e.pattern step.best.0
 
--- ---- no walk lives past the last place
+-- ---- no thread is left after the highest offset
 
 none_read : (m : Machine (ℕ × ℕ) Notes) (i : ℕ) {seen : List (ℕ × ℕ)} {threads next : List Started} {ends : List (ℕ × ℕ)} → ((q r : ℕ × ℕ) → m.move i q ≡ reads r (i + 1) → ⊥) → StepsAll m i seen threads next ends → next ≡ []
 none_read m i never done = refl
@@ -79,9 +79,9 @@ ends_there p s i threads next ended step past =
     let le : highest s ≤ i = omega (arith, past) in
     none_read (byte_machine_in p s) i (λ q r. none_within (is_within h.low h.high i) (automata_of p) h i (i + 1) q r (slice_get (character_program p).nodes q.0) (nothing_left s.content (highest s) i le)) step.steps
 
--- ---- a place is passed
+-- ---- one offset
 
--- the best match, once the best end at a place was met
+-- the best match after the best match end at an offset
 abbrev pub best_after : ℕ → Option MetEnd → Option Found → Option Found
 best_after i None best = best
 best_after i (Some e) best = Some (record { pattern = e.pattern; span = record { start = e.start; end = i } })
@@ -107,9 +107,9 @@ way_passed_all p s q i live threads next ended best began step nodes way = recor
   past_end = ends_there p s i threads next ended step;
 }
 
--- ---- where a search begins
+-- ---- the start of a search
 
--- nothing begins at so many places
+-- no match begins at the next `k` offsets
 skipped : (p : ByteProgram) (s : Search) (q : ℕ) (k i : ℕ) (out : Option PatternMatch) → ((j : ℕ) → i ≤ j → j < i + k → MayBegin s j → ⊥)
     → SearchesAll (byte_machine_in p s) (MayBegin s) (q, 0) (i + k) [] None out → SearchesAll (byte_machine_in p s) (MayBegin s) (q, 0) i [] None out
 skipped p s q zero i out never rest = subst (λ j. SearchesAll (byte_machine_in p s) (MayBegin s) (q, 0) j [] None out) (omega arith) rest
@@ -133,17 +133,17 @@ way_begun_all p s q i live first none =
       past_end = λ past. none;
     }
 
--- ---- where it is over
+-- ---- the end of a search
 
 over_by : (p : ByteProgram) (s : Search) (q i : ℕ) (live : List Started) (best : Option Found) → live ≡ [] → ((j : ℕ) → i ≤ j → MayBegin s j → ⊥) → IsUnderWayAll (course_of p s q) i live best → IsOverAll (course_of p s q) best
 over_by p s q i live best none never way =
     way.come (option_map pattern_match best) (subst (λ xs. SearchesAll (byte_machine_in p s) (MayBegin s) (q, 0) i xs (option_map pattern_match best) (option_map pattern_match best)) (sym none) (over never))
 
--- no walk lives, and none starts past the search's start
+-- there is no thread, and none starts after the search's start
 pub way_over_all : (p : ByteProgram) (s : Search) (q i : ℕ) (live : List Started) (best : Option Found) → IsInside s i → live ≡ [] → IsTrue (is_anchored s.anchoring) → IsUnderWayAll (course_of p s q) (i + 1) live best → IsOverAll (course_of p s q) best
 way_over_all p s q i live best inside none tied way = over_by p s q (i + 1) live best none (λ j from begins. omega (arith, from, begins.0.1 tied, inside.2)) way
 
--- the last place was passed
+-- after the highest offset
 pub way_ended_all : (p : ByteProgram) (s : Search) (q i : ℕ) (live : List Started) (best : Option Found) → highest s < i + 1 → IsUnderWayAll (course_of p s q) (i + 1) live best → IsOverAll (course_of p s q) best
 way_ended_all p s q i live best past way =
     over_by p s q (i + 1) live best (way.past_end past) (λ j from begins. let inside = begins.0.0 in omega (arith, past, from, inside.1, inside.3, inside.4)) way

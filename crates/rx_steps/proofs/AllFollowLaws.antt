@@ -1,4 +1,4 @@
--- Following a node where all walks go on.
+-- Following a node in a search for all matches.
 use Rattle.std.proofs.Common.{inl, inr, ◌≡◌, ℕ, zero, suc, ◌+◌, ◌≤◌, Bool, true, false, All, List, [], ◌∷◌, ◌++◌, length, map, drop, Option, Some, None, Contains, slice_get, refl, sym, ap, subst, ◌∙◌, arith}
 use Rattle.std.proofs.lemmas.List.{append_assoc, append-nil}
 use Rattle.std.proofs.lemmas.List.Elements.{All-append, All-cons, All-nil}
@@ -47,7 +47,7 @@ nodes_noted : (n : Slots) (rs : List (ℕ × ℕ)) → nodes_of (map (λ r. (n, 
 nodes_noted n [] = refl
 nodes_noted n (r ∷ rs) = ap (λ zs. r ∷ zs) (nodes_noted n rs)
 
--- ---- a thread, whatever it does
+-- ---- a thread, whatever its move
 
 module _ (m : Machine (ℕ × ℕ) Notes) (i : ℕ) (threads : List Started) (widths ids : List ℕ) (s : ℕ) (q : ℕ × ℕ) (left out : List Started) (before : Ends) where
   abbrev Way : List ℕ → List Started → List Started → Ends → Type 0
@@ -97,7 +97,7 @@ module _ (m : Machine (ℕ × ℕ) Notes) (i : ℕ) (threads : List Started) (wi
         so_far = λ next more steps. subst (λ xs. StepsAll m i [] threads xs (before ++ more)) (sym (append_assoc out ((s, r) ∷ []) next)) (way.so_far ((s, r) ∷ next) more (read r new is steps));
       }
 
--- ---- the code's cases
+-- ---- the cases of the code
 
 -- nothing is reached, and nothing ends
 pub follows_none : (p : ByteProgram) (place : Place) (start : ℕ) (left left' : List (ℕ × ℕ)) (ids ids' : List ℕ) (next : List Thread)
@@ -128,7 +128,7 @@ all_skipped p place start q x waits ids ids' next (Some k) true at old is here m
 all_skipped p place start q x waits ids ids' next (Some k) false at old is here may = rw is.1 (follows_none p place start (q ∷ waits) waits ids ids next (λ m i threads others out ends moves way.
     all_seen m i threads (widths_of p) ids start q (started_at start waits ++ others) out ends k at is.0 way))
 
--- a move that is made at one place, at another one
+-- a move at one position, at another one
 abbrev SameAt : ℕ → Move (ℕ × ℕ) → Move (ℕ × ℕ) → Type 0
 SameAt i (ends k) x = x ≡ ends k
 SameAt i (goes rs) x = x ≡ goes rs
@@ -189,7 +189,7 @@ pub all_entered_new : (p : ByteProgram) (place : Place) (start : ℕ) (q : ℕ �
 all_entered_new p place start q k x noted met' w w' ids next next' at none here made =
     follow_new p place start q k x (move_at place 0 q x) noted met' w w' ids next next' at none here (λ i. same_at place i q x) (made 0)
 
--- ---- one after the other
+-- ---- one node after another
 
 pub follows_on : (p : ByteProgram) (place : Place) (start : ℕ) (left middle left' : List (ℕ × ℕ)) (ids mid ids' : List ℕ) (next between next' : List Thread) (one other best : Option MetEnd)
     → ((xs ys : Ends) → IsBestMet xs one → IsBestMet ys other → IsBestMet (xs ++ ys) best)
@@ -209,7 +209,7 @@ follows_on p place start left middle left' ids mid ids' next between next' one o
       (second.goes_on m i threads others (out ++ started_at start first.reached) (ends' ++ ended_from start first.ended) moves (first.goes_on m i threads others out ends' moves way)));
 }
 
--- ---- a step from its beginning to its end
+-- ---- a step from its start to its end
 
 pub all_over : (m : Machine (ℕ × ℕ) Notes) (i : ℕ) (widths ids : List ℕ) (threads out : List Started) (ends' : Ends) (best : Option MetEnd) → IsBestMet ends' best → AreUnderWayAll m i threads widths ids [] out ends' → IsStepAll m i threads out best
 all_over m i widths ids threads out ends' best is way = record {
@@ -221,7 +221,7 @@ all_over m i widths ids threads out ends' best is way = record {
 pub all_moves : (p : ByteProgram) (h : Haystack walks.Look) (i : ℕ) (place : Place) → IsPlace p.states h i place → MovesSo (byte_machine p h) i p.states place
 all_moves p h i place here = let moves = moves_at_place p h i place here in record { at_state = moves.at_state; elsewhere = moves.elsewhere }
 
--- ---- the threads that are left, and those put out
+-- ---- the threads that are left, and those in the next list
 
 pub first_left : (xs : List Started) (n : ℕ) (x : Started) → slice_get xs n ≡ Some x → drop n xs ≡ x ∷ drop (n + 1) xs
 first_left xs n x e =
@@ -246,7 +246,7 @@ started_nodes states s (t ∷ ts) all = All-cons (IsStartedOf states) (s, t.1) (
 pub with_started : (states : List State) (s : ℕ) (out : List Started) (ts : List Thread) → All (IsStartedOf states) out → All (IsThreadOf states) ts → All (IsStartedOf states) (out ++ started_at s (nodes_of ts))
 with_started states s out ts all more = All-append (IsStartedOf states) out (started_at s (nodes_of ts)) all (started_nodes states s ts more)
 
--- the step is under way after one more thread was followed
+-- the step is under way after one more thread
 pub all_next : (p : ByteProgram) (place : Place) (m : Machine (ℕ × ℕ) Notes) (i : ℕ) (threads out out' : List Started) (x : Started) (n : ℕ) (ids ids' : List ℕ) (old new : List Thread) (before met' after : Option MetEnd)
     → MovesSo m i p.states place → slice_get threads n ≡ Some x → old ≡ [] → FollowsAll p place x.0 (x.1 ∷ []) [] ids ids' old new met' → out' ≡ out ++ started_at x.0 (nodes_of new)
     → ((xs ys : Ends) → IsBestMet xs before → IsBestMet ys met' → IsBestMet (xs ++ ys) after)

@@ -1,4 +1,4 @@
--- Bytes before which no match begins, where all matches are wanted.
+-- Bytes at which no match begins, in a search for all matches.
 use Rattle.std.proofs.Common.{inl, inr, ◌≡◌, ℕ, zero, suc, ◌+◌, ◌-◌, ◌<◌, ◌≤◌, Bool, List, [], ◌∷◌, ◌++◌, map, Option, Some, None, Contains, refl, sym, subst, arith}
 use Rattle.std.proofs.lemmas.List.Elements.{All-nil}
 use Rattle.rx_util.specs.Search.{Found}
@@ -26,9 +26,9 @@ use Rattle.rx_steps.proofs.PartLaws.{part_highest}
 use Rattle.rx_steps.proofs.AllComeLaws.{way_passed_all}
 use Rattle.rx_steps.proofs.AllPartLaws.{part_over_all}
 
--- ---- a step that comes to nothing, with a cut and without one
+-- ---- a step that leads nowhere, with a cut and without one
 
--- walks stand at the same nodes
+-- threads at the same nodes
 abbrev SameNodes : List Started → List Thread → Type 0
 SameNodes [] [] = Unit {0}
 SameNodes (t ∷ ts) (u ∷ us) = (t.1 ≡ u.1) × SameNodes ts us
@@ -39,7 +39,7 @@ same_targets s n [] ts us same = same
 same_targets s n (r ∷ rs) ts us same = (refl, same_targets s n rs ts us same)
 
 module _ (p : ByteProgram) (h : Haystack walks.Look) (i : ℕ) where
-  -- where no end is met and nothing is read, there is nothing to cut
+  -- without a match end and reads there is nothing to cut
   as_cut : {seen : List (ℕ × ℕ)} {threads next : List Started} {ends : List (ℕ × ℕ)} → StepsAll (byte_machine p h) i seen threads next ends → next ≡ [] → ((s k : ℕ) → Met s k ends → ⊥)
       → (others : List Thread) → SameNodes threads others → cut.Steps (slot_machine p h) i seen others [] None
   as_cut done none never [] same = cut.done
@@ -68,7 +68,7 @@ module _ (p : ByteProgram) (h : Haystack walks.Look) (i : ℕ) where
       (opened rs new is (as_all rest none unmet (map (λ r. (s, r)) rs ++ us) (same_targets s noted rs us left same.1)))
   as_all (cut.read r new is rest) none unmet others same = absurd (cc none)
 
--- a step of one walk at the start that comes to nothing tells of its byte that it is idle
+-- if a step of one thread at the start leads nowhere, its byte is idle
 pub is_idle_all : (p : ByteProgram) (place : Place) (b start : ℕ) (threads next : List Started) (ended : Option MetEnd) → IsNextListAll p place threads next ended → threads ≡ (start, first_node p.start) ∷ [] → next ≡ [] → ended ≡ None
     → place.byte ≡ Some b → ((l : walks.Look) → Asks p.states l → ⊥) → IsIdle p b
 is_idle_all p place b start threads next ended list are none unmet byte never =
@@ -80,9 +80,9 @@ is_idle_all p place b start threads next ended list are none unmet byte never =
         subst (λ o. IsStepAll (byte_machine p h) i ((start, first_node p.start) ∷ []) next o) unmet (subst (λ xs. IsStepAll (byte_machine p h) i xs next ended) are (list h i here)) in
         as_cut p h i step.steps none step.best (([], first_node p.start) ∷ []) (refl, tt)
 
--- ---- what is idle may be skipped
+-- ---- idle bytes can be skipped
 
--- the step at a place that is passed over, with a walk that starts there or without one
+-- the step at an offset that is skipped, with a thread that starts there or without one
 record SkippedStepAll (p : ByteProgram) (s : Search) (i : ℕ) : Type 0 where
   threads : List Started
   began : HasStartedAll s p.start i [] threads
@@ -120,11 +120,11 @@ many_skipped p s idle (suc n) i best free are low high each way =
     subst (λ j. IsUnderWayAll (course_of p s p.start) j [] best) more
     (many_skipped p s idle n (i + 1) best free are (omega (arith, low)) (omega (arith, high)) (λ k from to. each k (omega (arith, from)) (omega (arith, to))) on)
 
--- what a search knows of the places between two, of which it passes over all
+-- what a search knows of the offsets from `i` to `j`, all of which it skips
 abbrev pub AreSkippedAll : List Bool → Bool → List ℕ → ℕ → ℕ → List Started → Type 0
 AreSkippedAll idle utf8_empty content i j live = (k : ℕ) → i ≤ k → k < j → (live ≡ []) × IsPassedAt idle utf8_empty content k
 
--- where walks start while none lives
+-- how threads start while there is none
 abbrev pub StartsFree : ByteProgram → Search → ℕ → List Started → Type 0
 StartsFree p s q live = live ≡ [] → (s.anchoring ≡ unanchored) × (q ≡ p.start)
 
@@ -142,13 +142,13 @@ way_skipped_all p s q i j idle live best le low high are free skipped way = elim
       subst (λ xs. IsUnderWayAll (course_of p s q) j xs best) (sym none) (subst (λ r. IsUnderWayAll (course_of p s r) j [] best) (sym tied.1) there)
 ]
 
--- so it is in the parts that go on behind them
+-- the search is under way in the parts of the span up to later offsets
 pub parts_skipped_all : (p : ByteProgram) (s : Search) (q i j : ℕ) (idle : List Bool) (live : List Started) (best : Option Found) → i ≤ j → lowest s ≤ i → j ≤ highest s → AreIdle p idle → StartsFree p s q live
     → AreSkippedAll idle s.utf8_empty s.content i j live → IsUnderWayAllInParts (course_of p s q) i live best → IsUnderWayAllInParts (course_of p s q) j live best
 parts_skipped_all p s q i j idle live best le low high are free skipped parts = λ e from within.
     way_skipped_all p (up_to_place s e) q i j idle live best le low (omega (arith, from, part_highest s e within)) are free skipped (parts e (omega (arith, le, from)) within)
 
--- and at such a place nothing ends in the part that is cut there
+-- and no match ends in the part up to such an offset
 pub none_skipped_all : (p : ByteProgram) (s : Search) (q first i j : ℕ) (idle : List Bool) (live : List Started) → lowest s ≤ i → j ≤ highest s → AreIdle p idle → StartsFree p s q live
     → AreSkippedAll idle s.utf8_empty s.content i j live → IsUnderWayAllInParts (course_of p s q) i live None → HasMetNoneAll (course_of p s q) first i → HasMetNoneAll (course_of p s q) first j
 none_skipped_all p s q first i j idle live low high are free skipped parts before k since to = elim (below_or_not k i) [

@@ -1,4 +1,4 @@
--- What a search for all matches has come to in the parts of its span.
+-- The progress of a search for all matches in the parts of its span.
 use Rattle.std.proofs.Common.{inl, inr, ◌≡◌, ℕ, ◌+◌, ◌<◌, ◌≤◌, Bool, true, false, All, List, [], Option, Some, None, IfSome, refl, ap, subst, ◌∙◌, arith}
 use Rattle.std.proofs.lemmas.List.Elements.{All-nil}
 use Rattle.rx_util.specs.Search.{Found}
@@ -43,7 +43,7 @@ module _ (p : ByteProgram) (s : Search) where
   started_in_part q e i live threads inside le (inl begun) = let begins = begun.0 in inl (((inside_part s e i begins.0.0 le, begins.0.1), begins.1), begun.1)
   started_in_part q e i live threads inside le (inr waits) = inr (λ begins. waits.0 (begins_whole p s e i inside.3 begins), waits.1)
 
-  -- ---- a place is passed, in the parts that go on behind it, and in the one that is cut there
+  -- ---- one offset, in the parts up to later offsets and in the part up to this one
 
   pub parts_passed_all : (q i : ℕ) (live threads next : List Started) (ended : Option MetEnd) (best : Option Found) → IsInside s i → HasStartedAll s q i live threads → IsStepAll (byte_machine_in p s) i threads next ended
       → All (IsStartedOf p.states) next → IsUnderWayAllInParts (course_of p s q) i live best → IsUnderWayAllInParts (course_of p s q) (i + 1) next (best_after i ended best)
@@ -62,7 +62,7 @@ module _ (p : ByteProgram) (s : Search) where
   pub parts_begun_all : (q i : ℕ) (live : List Started) → i ≡ lowest s → live ≡ [] → IsUnderWayAllInParts (course_of p s q) i live None
   parts_begun_all q i live first none = λ e from within. way_begun_all p (up_to_place s e) q i live first none
 
-  -- ---- no end was met so far
+  -- ---- no match end so far
 
   pub none_more_all : (q first i : ℕ) (best : Option Found) → best ≡ None → HasMetNoneAll (course_of p s q) first i → IsOverAll (course_of p (up_to_place s i) q) best → HasMetNoneAll (course_of p s q) first (i + 1)
   none_more_all q first i best unmet before here k from to = elim (below_or_not k i) [
@@ -70,7 +70,7 @@ module _ (p : ByteProgram) (s : Search) where
     | inr le ↦ subst (λ j. IsOverAll (course_of p (up_to_place s j) q) None) (omega (arith, le, to)) (subst (λ o. IsOverAll (course_of p (up_to_place s i) q) o) unmet here)
   ]
 
-  -- ---- where a search is over
+  -- ---- the end of a search
 
   pub over_whole_all : (earliest : Bool) (q first i : ℕ) (best : Option Found) → (earliest ≡ true → best ≡ None) → IsOverAll (course_of p s q) best → IsOverAllAt earliest (course_of p s q) first i best
   over_whole_all false q first i best unmet all = all

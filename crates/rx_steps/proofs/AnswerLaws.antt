@@ -1,4 +1,4 @@
--- What the loop over places came to is what the program finds, with its slots.
+-- The result of the search loop is what the program finds, with its slots.
 use Rattle.std.proofs.Common.{◌≡◌, ℕ, ◌≤◌, Bool, List, [], length, replicate, Option, Some, None, option_map, refl, sym, ap, subst, ◌∙◌}
 use Rattle.std.proofs.lemmas.List.{length-replicate}
 use Rattle.unicode.specs.Perl.{is_word_char}
@@ -19,12 +19,13 @@ use Rattle.rx_steps.specs.Lists.{slot_machine, met_at}
 use Rattle.rx_steps.specs.Searching.{haystack_in, slots_from, answer_slots, IsAnswer}
 use Rattle.rx_steps.proofs.SlotLaws.{slots_keep, slots_from_len, slots_of_noted, empty_slots}
 
--- the law of rx_walks on searches that keep slots, as a call of `program_is_searched_keeping` tells it
+-- the law of rx_walks on searches that keep slots, in the form of the contract of
+-- `program_is_searched_keeping`
 abbrev pub KeepingLaw : Type 0
 KeepingLaw = (keeping : Keeping Slots) (member : List Range → ℕ → Bool) (is_word : ℕ → Bool) (c : Program walks.Look (List Range)) (step : ℕ → Automaton)
     → ProgramIsSearchedKeeping keeping member is_word c step
 
--- of a search's outcome the pattern, and the slots: with none no slot holds a place
+-- the pattern of a search's outcome, and its slots, which are empty if there is none
 abbrev pub pattern_met : Option (Outcome Slots) → Option ℕ
 pattern_met out = option_map (λ t. t.pattern) out
 
@@ -32,7 +33,7 @@ abbrev pub slots_met : ℕ → Option (Outcome Slots) → Slots
 slots_met len None = replicate len None
 slots_met len (Some t) = t.notes
 
--- the slots of a walk, whatever its start was
+-- the slots of a walk, whatever its start
 abbrev kept_from : ℕ → Notes → Slots
 kept_from len n = slots_from 0 len (record { start = 0; noted = n.noted })
 
@@ -51,12 +52,12 @@ met_pattern : (len : ℕ) (found : Option (Outcome Notes)) → pattern_met (opti
 met_pattern len None = refl
 met_pattern len (Some t) = refl
 
--- an answer by what the program finds
+-- the result, from what the program finds
 answer_by : (p : ByteProgram) (s : Search) (len : ℕ) (found : Option (Outcome Notes)) → ProgramFinds is_in is_word_char (character_program p) s found
     → IsAnswer p s (option_map (λ t. t.pattern) found) (answer_slots len found)
 answer_by p s len found finds = record { found = found; finds = finds; pattern_is = refl; slots_are = ap (λ n. answer_slots n found) (sym (answer_len len found)) }
 
--- what the loop over places came to, from the state that walks start from
+-- the result of the search loop, from the start state
 pub is_answer : (p : ByteProgram) (s : Search) (q len : ℕ) (out : Option (Outcome Slots)) → IsByteProgram p → KeepingLaw → start_node (character_program p) s.anchoring ≡ Some q
     → Searches (slot_machine p (haystack_in p.line_terminator s)) (MayBegin s) (λ j. slots_from 0 len (fresh_notes 0)) (q, 0) s.start [] None out
     → IsAnswer p s (pattern_met out) (slots_met len out)
@@ -67,7 +68,7 @@ is_answer p s q len out reads law starts searches =
     let slots : answer_slots len on.0 ≡ slots_met len out = sym (met_slots len on.0) ∙ ap (slots_met len) on.1 in
     subst (λ k. IsAnswer p s k (slots_met len out)) pattern (subst (λ xs. IsAnswer p s (option_map (λ t. t.pattern) on.0) xs) slots answer)
 
--- the same of a pattern and slots, in which nothing is noted where no end was met
+-- the same for a pattern and slots, which are empty if no match end was met
 pub over_is_answer : (p : ByteProgram) (s : Search) (q end : ℕ) (pattern : Option ℕ) (slots : Slots) → IsByteProgram p → KeepingLaw → start_node (character_program p) s.anchoring ≡ Some q
     → Searches (slot_machine p (haystack_in p.line_terminator s)) (MayBegin s) (λ j. replicate (length slots) None) (q, 0) s.start [] None (met_at end pattern slots)
     → (pattern ≡ None → slots ≡ replicate (length slots) None) → IsAnswer p s pattern slots
@@ -89,18 +90,18 @@ over_is_answer p s q end pattern slots reads law starts searches none_met =
     slots_at None none = sym (none refl)
     slots_at (Some k) none = refl
 
--- an unknown pattern has no state that walks start from, and nothing is found
+-- an unknown pattern has no start state, and nothing is found
 pub none_known : (p : ByteProgram) (s : Search) (slots : Slots) → start_node (character_program p) s.anchoring ≡ None → slots ≡ replicate (length slots) None → IsAnswer p s None slots
 none_known p s slots starts empty =
     let finds : ProgramFinds is_in is_word_char (character_program p) s None = subst (λ x. IfStarts x (λ q. IsFind (machine_of is_in is_word_char (character_program p) s) fresh_notes s q) None) (sym starts) refl in
     subst (λ xs. IsAnswer p s None xs) (sym empty) (answer_by p s (length slots) None finds)
 
--- where no match may begin nothing is found
+-- if no match may begin, nothing is found
 pub none_begins : (p : ByteProgram) (s : Search) (q : ℕ) (slots : Slots) → IsByteProgram p → KeepingLaw → start_node (character_program p) s.anchoring ≡ Some q → ((j : ℕ) → s.start ≤ j → MayBegin s j → ⊥)
     → slots ≡ replicate (length slots) None → IsAnswer p s None slots
 none_begins p s q slots reads law starts never empty = over_is_answer p s q 0 None slots reads law starts (over (λ e j from begins. never j from begins)) (λ e. empty)
 
--- nor where no place lies inside span, slice and content
+-- nor if no offset is inside span, slice and haystack
 pub none_inside : (p : ByteProgram) (s : Search) (q : ℕ) (slots : Slots) → IsByteProgram p → KeepingLaw → start_node (character_program p) s.anchoring ≡ Some q → ((j : ℕ) → IsInside s j → ⊥)
     → slots ≡ replicate (length slots) None → IsAnswer p s None slots
 none_inside p s q slots reads law starts never empty = none_begins p s q slots reads law starts (λ j from begins. never j begins.0.0) empty

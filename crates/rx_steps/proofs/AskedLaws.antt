@@ -1,4 +1,4 @@
--- Which looks so many of a program's states ask for.
+-- The assertions among the first states of a program.
 use Rattle.std.proofs.Common.{inl, inr, ◌≡◌, ◌⊎◌, ℕ, ◌+◌, ◌<◌, ◌≤◌, Bool, true, false, ◌||◌, List, length, Some, slice_get, refl, sym, ap, ◌∙◌, arith}
 use Rattle.std.specs.Prelude.{IsTrue, ◌↔◌}
 use Rattle.std.proofs.lemmas.Option.{slice_get_within}
@@ -10,7 +10,7 @@ use Rattle.rx_steps.specs.Lists.{Asks}
 use Rattle.rx_steps.specs.Asked.{AsksSome, asks_for}
 use Rattle.rx_steps.proofs.ByteLaws.{below_or_not}
 
--- one of the first states asks for a look of this kind
+-- one of the first states is an assertion of this kind
 pub record AskedSoFar (states : List State) (kind : walks.Look → Bool) (n : ℕ) : Type 0 where
   pub number : ℕ
   pub first : number < n
@@ -76,6 +76,6 @@ all_told states kind n told le so = (
       })),
 )
 
--- what isn't told isn't asked
+-- without the flag there is no assertion
 pub none_asked : (states : List State) (told : Bool) → (IsTrue told ↔ AsksSome states (λ l. true)) → told ≡ false → (l : walks.Look) → Asks states l → ⊥
 none_asked states told so e l asks = absurd (cc (sym e ∙ so.1 (l, refl, asks)))

@@ -1,4 +1,4 @@
--- What a search back came to is what the program finds back.
+-- The result of a backward search is what the program finds backward.
 use Rattle.std.proofs.Common.{inl, inr, ◌≡◌, ℕ, ◌≤◌, ◌⊎◌, Bool, true, false, IsTrue, List, [], ◌∷◌, map, length, Option, Some, None, option_map, slice_get, refl, sym, ap, subst, ◌∙◌, arith}
 use Rattle.std.specs.Prelude.{◌↔◌}
 use Rattle.std.specs.Str.{IsCharBoundary}
@@ -30,7 +30,7 @@ use Rattle.rx_steps.specs.ComingBack.{IsHalfToldBack, IsOverBack, mirror_match, 
 abbrev pub SearchedBackLaw : Type 0
 SearchedBackLaw = (member : List Range → ℕ → Bool) (is_word : ℕ → Bool) (p : Program walks.Look (List Range)) (step : ℕ → Automaton) → ProgramIsSearchedBack member is_word p step
 
--- ---- the program turned round, as a program over bytes
+-- ---- the reverse program, as a program over bytes
 
 same_node : (x : ReverseState) → node_of (state_of x) ≡ back_node_of x
 same_node (back.Ranges automaton next) = refl
@@ -60,12 +60,12 @@ reads_back : (p : ReverseByteProgram) (nodes : List (Node walks.Look (List Range
 reads_back p nodes e is = λ q r x at bs.
     ap (λ step. run step 0 bs) (same_automata p q) ∙ is.reads q r x (subst (λ ns. slice_get ns q ≡ Some (set x r)) (sym e) at) bs
 
--- ---- where nothing is found
+-- ---- nothing is found
 
 abbrev Finds : ByteProgram → Search → Option PatternMatch → Type 0
 Finds p s out = ProgramFindsBack is_in is_word_char (character_program p) s out
 
--- where the end doesn't lie inside, no match ends there
+-- if the end isn't inside, no match ends there
 none_ends : (p : ByteProgram) (s : Search) (q : ℕ) → (IsInside s (end_in_content s) → ⊥) → IsFindBack (machine_of is_in is_word_char (character_program p) s) fresh_notes s q None
 none_ends p s q never = none_back (λ a counts.
     let h = haystack_of (holds_in is_word_char (character_program p).line_terminator s) s in
@@ -114,7 +114,7 @@ module _ (p : ByteProgram) (turned : ReverseByteProgram) (s : Search) (is : IsRe
         met_is = is_told.is;
       }
 
--- ---- what is told
+-- ---- what is reported
 
 no_truth : (b : Bool) → IsTrue b → b ≡ false → ⊥
 no_truth b is e = let told : b ≡ true = is in absurd (cc (sym told ∙ e))
@@ -122,7 +122,7 @@ no_truth b is e = let told : b ≡ true = is in absurd (cc (sym told ∙ e))
 abbrev MayBeEmpty : Search → ℕ → Type 0
 MayBeEmpty s i = IsTrue s.utf8_empty → IsCharBoundary s.content i
 
--- where an empty match may stand at the end, or not
+-- whether an empty match may be at the end
 abbrev pub Tells : Search → Bool → Type 0
 Tells s may = IsTrue may ↔ MayBeEmpty s (end_in_content s)
 
@@ -133,7 +133,7 @@ told_none s best answer e f = record {
   told = subst (λ o. IsToldBack s (option_map (mirror_match s) o) None) (sym e) none_found;
 }
 
--- there and back
+-- mirrored twice
 start_is : (s : Search) (f : HalfFound) → f.offset ≤ length s.content → (turned_match s (mirror_match s f)).start ≡ f.offset
 start_is s f le = omega (arith, le)
 

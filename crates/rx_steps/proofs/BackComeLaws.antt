@@ -1,4 +1,4 @@
--- How far a search back has come, from the end to where it is over.
+-- How far a backward search has got, from its start to its end.
 use Rattle.std.proofs.Common.{inl, inr, ◌≡◌, ℕ, suc, ◌+◌, ◌-◌, ◌<◌, ◌≤◌, ◌⊎◌, true, false, cond, IsTrue, List, [], ◌∷◌, map, length, reverse, take, drop, min, Option, Some, None, option_map, slice_get, All, refl, sym, ap, ap₂, subst, ◌∙◌, arith}
 use Rattle.std.proofs.lemmas.Bool.{le-ltb, lt-ltb}
 use Rattle.std.proofs.lemmas.List.{get_or-reverse, length-reverse}
@@ -28,16 +28,16 @@ use Rattle.rx_steps.proofs.AllFollowLaws.{all_moves}
 use Rattle.rx_steps.proofs.ByteLaws.{below_or_not, next_byte_is, no_byte, within_is}
 use Rattle.rx_steps.proofs.WayLaws.{none_within, nothing_left}
 
--- ---- the place in the content turned round
+-- ---- an offset in the reversed haystack
 
--- a byte of the content turned round
+-- a byte of the reversed haystack
 turned_byte : (content : List ℕ) (k : ℕ) → k < length content → slice_get (reverse content) k ≡ slice_get content (length content - 1 - k)
 turned_byte content k lt =
     slice_get-get_or (reverse content) k 0 (omega (arith, lt, length-reverse content))
     ∙ ap Some (get_or-reverse content k 0 lt)
     ∙ sym (slice_get-get_or content (length content - 1 - k) 0 (omega (arith, lt)))
 
--- the byte that is taken next there
+-- the byte that is read next there
 byte_there : (s : Search) (j : ℕ) → IsInside s j → slice_get (drop (mirror_of s j) (take (length s.content - lowest s) (reverse s.content))) 0 ≡ byte_taken_back s j
 byte_there s j inside = elim (below_or_not (lowest s) j) [
   | inl lt ↦
@@ -64,7 +64,7 @@ same_move place at i q (state.Union alternates) = refl
 same_move place at i q (state.Capture slot r) = refl
 same_move place at i q (state.Match k) = refl
 
--- the machine of the content turned round makes these moves there
+-- the machine of the reversed haystack makes these moves there
 pub moves_back : (p : ByteProgram) (s : Search) (j : ℕ) (place : Place) → IsInside s j → place.byte ≡ byte_taken_back s j → ((l : walks.Look) → Asks p.states l → (haystack_in p.line_terminator s).holds l j ≡ is_among place.looks l)
     → MovesSo (back_machine_in p s) (mirror_of s j) p.states place
 moves_back p s j place inside byte looks =
@@ -81,7 +81,7 @@ moves_back p s j place inside byte looks =
     let moves = all_moves p (mirrored h) i (record place { at = i }) there in
     record { at_state = λ q x is. moves.at_state q x is ∙ same_move place i i q x; elsewhere = moves.elsewhere }
 
--- ---- the first place
+-- ---- the first offset
 
 abbrev zeros : List ℕ → List ℕ
 zeros xs = map (λ b. 0) xs
@@ -96,11 +96,11 @@ not_true is = let told : false ≡ true = is in absurd (cc told)
 begins_back : (s : Search) → MayBegin (mirrored_search s) (mirror_of s s.end)
 begins_back s = (((omega arith, omega arith, omega arith, omega arith, omega (arith, length_zeros s.content)), λ on. refl), λ on. absurd (not_true on))
 
--- no walk begins at a further place
+-- no walk starts at a later offset
 pub begins_not : (s : Search) (k : ℕ) → mirror_of s s.end < k → MayBegin (mirrored_search s) k → ⊥
 begins_not s k lt begins = omega (arith, lt, begins.0.1 refl)
 
--- a search begins with one walk
+-- a search starts with one walk
 pub come_first : (p : ByteProgram) (s : Search) (q : ℕ) → HasComeBack p s q (end_in_content s) ((q, 0) ∷ []) None
 come_first p s q = λ next ends after out steps latest rest.
     let here : mirror_of s (end_in_content s) ≡ mirror_of s s.end = omega arith in
@@ -109,9 +109,9 @@ come_first p s q = λ next ends after out steps latest rest.
     (subst (λ k. Latest k None ends after) here latest)
     (subst (λ k. SearchesAll (back_machine_in p s) (MayBegin (mirrored_search s)) (q, 0) (k + 1) next after out) here rest)
 
--- ---- a place is passed
+-- ---- one offset
 
--- the best match, once the least pattern at a place was met, if one was
+-- the best match after the least pattern at an offset
 abbrev pub best_back : ℕ → Option ℕ → Option HalfFound → Option HalfFound
 best_back j None best = best
 best_back j (Some k) best = Some (record { pattern = k; offset = j })
@@ -121,7 +121,7 @@ latest_back : (s : Search) (j : ℕ) (ends : List (ℕ × ℕ)) (met' : Option �
 latest_back s j ends None best none = none_met none
 latest_back s j ends (Some k) best (here, least) = some_met here (λ s' k' there. let no_worse = least s' k' there in (no_worse.by_start, λ is. no_worse.by_pattern (sym is)))
 
--- what comes of the step at a place, and then on
+-- the step at an offset, and what follows
 abbrev GoesOn : ByteProgram → Search → ℕ → ℕ → List (ℕ × ℕ) → Option HalfFound → Type 0
 GoesOn p s q j next best = (out : Option PatternMatch)
     → SearchesAll (back_machine_in p s) (MayBegin (mirrored_search s)) (q, 0) (mirror_of s j + 1) (started_at (mirror_of s s.end) next) (option_map (mirror_match s) best) out
@@ -132,14 +132,14 @@ goes_on : (p : ByteProgram) (s : Search) (q j : ℕ) (nodes next : List (ℕ × 
 goes_on p s q j nodes next met' best step come = λ out rest.
     come (started_at (mirror_of s s.end) next) step.ends (option_map (mirror_match s) (best_back j met' best)) out step.steps (latest_back s j step.ends met' best step.best) rest
 
--- the place before it is come to
+-- the search reaches the offset before
 come_back : (p : ByteProgram) (s : Search) (q j : ℕ) (next : List (ℕ × ℕ)) (best : Option HalfFound) → IsInside s (end_in_content s) → IsInside s j → lowest s < j → GoesOn p s q j next best → HasComeBack p s q (j - 1) next best
 come_back p s q j next best last inside lt on = λ next' ends after out steps latest rest.
     let place : mirror_of s (j - 1) ≡ mirror_of s j + 1 = omega (arith, lt, inside.4) in
     let past : mirror_of s s.end < mirror_of s (j - 1) = omega (arith, lt, inside.3, inside.4, last.4) in
     on out (subst (λ i. SearchesAll (back_machine_in p s) (MayBegin (mirrored_search s)) (q, 0) i (started_at (mirror_of s s.end) next) (option_map (mirror_match s) best) out) place (stepped (begins_not s (mirror_of s (j - 1)) past) steps latest rest))
 
--- or the search is over there, where no walk lives
+-- or it is over, without threads
 over_back : (p : ByteProgram) (s : Search) (q j : ℕ) (next : List (ℕ × ℕ)) (best : Option HalfFound) → IsInside s j → next ≡ [] → GoesOn p s q j next best → IsOverBack p s q best
 over_back p s q j next best inside none on =
     on (option_map (mirror_match s) best)
@@ -157,7 +157,7 @@ none_started : (start : ℕ) (nodes : List (ℕ × ℕ)) → started_at start no
 none_started start [] e = refl
 none_started start (q ∷ nodes) e = absurd (cc e)
 
--- at the first place inside no byte is taken, and no walk goes on
+-- at the lowest offset no byte is read, and no thread is left
 none_beyond : (p : ByteProgram) (s : Search) (j : ℕ) (nodes next : List (ℕ × ℕ)) (met' : Option ℕ) → j ≤ lowest s → IsStepAll (back_machine_in p s) (mirror_of s j) (started_at (mirror_of s s.end) nodes) (started_at (mirror_of s s.end) next) (end_met_by (mirror_of s s.end) met')
     → next ≡ []
 none_beyond p s j nodes next met' le step =
@@ -166,7 +166,7 @@ none_beyond p s j nodes next met' le step =
     none_started (mirror_of s s.end) next (none_read (back_machine_in p s) i
     (λ q r. none_within (is_within h.low h.high i) (automata_of p) h i (i + 1) q r (slice_get (character_program p).nodes q.0) (nothing_left (reverse s.content) (length s.content - lowest s) i (omega (arith, le)))) step.steps)
 
--- ---- what the loop keeps
+-- ---- the loop's invariant
 
 -- a step was made at a place
 pub record Stepped (p : ByteProgram) (s : Search) (q j : ℕ) (nodes next : List (ℕ × ℕ)) (met' : Option ℕ) (best after : Option HalfFound) : Type 0 where
@@ -185,7 +185,7 @@ ended_back p s q j nodes next met' best after on why =
     let none : next ≡ [] = elim why [ inl gone ↦ gone | inr le ↦ none_beyond p s j nodes next met' le on.step ] in
     subst (λ o. IsOverBack p s q o) (sym on.best_is) (over_back p s q j next (best_back j met' best) on.inside none (goes_on p s q j nodes next met' best on.step on.come))
 
--- ---- the code's words
+-- ---- the code's terms
 
 pub went_back : (s : Search) (i j : ℕ) → HasSteppedBack s i j → (j ≡ i → ⊥) → (lowest s < i) × (j + 1 ≡ i)
 went_back s i j (inl went) other = went

@@ -1,4 +1,4 @@
--- A step back, one walk after the other.
+-- A backward step, thread by thread.
 use Rattle.std.proofs.Common.{◌≡◌, ℕ, zero, suc, ◌+◌, ◌≤◌, List, [], ◌∷◌, ◌++◌, length, drop, Option, Some, None, option_map, slice_get, IsSomeAnd, refl, sym, ap, subst, ◌∙◌, arith}
 use Rattle.std.proofs.lemmas.Option.{slice_get-map}
 use Rattle.std.proofs.Math.ListN.{drop_of_length-le}
@@ -14,11 +14,11 @@ use Rattle.rx_steps.proofs.AllFollowLaws.{all_over, started_append}
 abbrev Ends : Type 0
 Ends = List (ℕ × ℕ)
 
--- of two lists of ends of which these are the best this is the best of both
+-- the best of two lists of match ends with these best ones
 abbrev pub IsBetter : ℕ → Option ℕ → Option ℕ → Option ℕ → Type 0
 IsBetter start one other best = (xs ys : Ends) → IsBestMet xs (end_met_by start one) → IsBestMet ys (end_met_by start other) → IsBestMet (xs ++ ys) (end_met_by start best)
 
--- a step from these nodes is under way, with these left and these put out
+-- a step from these nodes is under way, with these left and these in the next list
 abbrev pub BackWay : ByteProgram → Place → List (ℕ × ℕ) → List ℕ → List (ℕ × ℕ) → List Thread → Option ℕ → Type 0
 BackWay p place nodes ids left out best = (m : Machine (ℕ × ℕ) Notes) (i start : ℕ) → MovesSo m i p.states place
     → (ends : Ends) × IsBestMet ends (end_met_by start best) × AreUnderWayAll m i (started_at start nodes) (widths_of p) ids (started_at start left) (started_at start (nodes_of out)) ends
@@ -43,7 +43,7 @@ first_left xs n x e =
     by (y ∷ xs) zero x e = ap (λ z. z ∷ xs) (the_first e)
     by (y ∷ xs) (suc n) x e = by xs n x e
 
--- one more walk was followed
+-- one more thread was followed
 pub back_next : (p : ByteProgram) (place : Place) (threads old new : List Thread) (q : ℕ × ℕ) (n : ℕ) (ids ids' : List ℕ) (before met after : Option ℕ)
     → IsSomeAnd (slice_get threads n) (λ t. q ≡ t.1) → ((start : ℕ) → FollowsAll p place start (q ∷ []) [] ids ids' old new (end_met_by start met)) → ((start : ℕ) → IsBetter start before met after)
     → BackWay p place (nodes_of threads) ids (drop n (nodes_of threads)) old before → BackWay p place (nodes_of threads) ids' (drop (n + 1) (nodes_of threads)) new after
@@ -64,7 +64,7 @@ length_nodes : (threads : List Thread) → length (nodes_of threads) ≡ length 
 length_nodes [] = refl
 length_nodes (t ∷ threads) = ap suc (length_nodes threads)
 
--- and at last the step is made
+-- at the end the step is made
 pub back_over : (p : ByteProgram) (place : Place) (threads new : List Thread) (n : ℕ) (ids : List ℕ) (best : Option ℕ) → length threads ≤ n → BackWay p place (nodes_of threads) ids (drop n (nodes_of threads)) new best
     → (m : Machine (ℕ × ℕ) Notes) (i start : ℕ) → MovesSo m i p.states place → IsStepAll m i (started_at start (nodes_of threads)) (started_at start (nodes_of new)) (end_met_by start best)
 back_over p place threads new n ids best past way m i start moves =

@@ -1,4 +1,4 @@
--- The byte at a place, in a content and in the piece that is shown.
+-- The byte at an offset, in a haystack and in the current chunk.
 use Rattle.std.proofs.Common.{◌≡◌, ℕ, zero, suc, ◌+◌, ◌-◌, ◌<◌, ◌≤◌, ◌⊎◌, List, [], ◌∷◌, length, take, drop, min, true, ◌&&◌, None, slice_get, refl, sym, ap, ap₂, ◌∙◌, arith, inl, inr}
 use Rattle.rx_input.specs.Cursors.{CursorState, piece_of}
 use Rattle.rx_input.specs.Inputs.{HoldsPlace}
@@ -61,13 +61,13 @@ piece_byte c i k holds e = elim (below_or_not k (c.end - c.start)) [
       no_further (drop c.start c.content) (c.end - c.start) k past ∙ sym (nothing_past c.content i (omega (arith, at, holds.at_end at)))
 ]
 
--- the next byte, below a place where walks go no further
+-- the next byte, below the offset at which reading stops
 pub next_byte_is : (content : List ℕ) (n i : ℕ) → i < n → slice_get (drop i (take (min n (length content)) content)) 0 ≡ slice_get content i
 next_byte_is content n i lt = elim (below_or_not i (length content)) [
   | inl inside ↦ byte_before content (min n (length content)) i (omega (arith, lt, inside))
   | inr out ↦ no_byte content (min n (length content)) i (omega (arith, out)) ∙ sym (nothing_past content i out)
 ]
 
--- where walks may stand
+-- an offset between both is one that walks can reach
 pub within_is : (low high i : ℕ) → low ≤ i → i ≤ high → is_within low high i ≡ true
 within_is low high i above below = ap₂ (λ a b. a && b) (le-leb low i above) (le-leb i high below)

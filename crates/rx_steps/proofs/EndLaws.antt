@@ -1,4 +1,4 @@
--- The best of the ends that are met at a place.
+-- The best of the match ends at an offset.
 use Rattle.std.proofs.Common.{inl, inr, ◌≡◌, ◌⊎◌, ℕ, zero, suc, ◌+◌, ◌<◌, List, [], ◌∷◌, ◌++◌, length, take, Option, Some, None, slice_get, IsSomeAnd, refl, ap, ◌∙◌, arith}
 use Rattle.std.proofs.lemmas.List.{append_assoc}
 use Rattle.rx_walks.specs.StepsAll.{Met, met_first, met_other}
@@ -26,7 +26,7 @@ met_either (x ∷ xs) ys s k (met_other m) = elim (met_either xs ys s k m) [ inl
 none_in : (s k : ℕ) → Met s k [] → ⊥
 none_in s k m = elim m [ ]
 
--- one is no worse than a third that is no worse than another
+-- one that is no worse than a second is no worse than a third that the second is no worse than
 still_no_worse : (a b c : MetEnd) → IsNoWorse a b → IsNoWorse b c → IsNoWorse a c
 still_no_worse a b c ab bc = record {
   by_start = omega (arith, ab.by_start, bc.by_start);
@@ -73,7 +73,7 @@ one_met start k = (met_first refl refl, λ s k' m. only m)
     only (met_first e f) = record { by_start = omega (arith, e); by_pattern = λ g. omega (arith, f) }
     only {s = s} {k' = k'} (met_other m) = absurd (none_in s k' m)
 
--- ---- walks that are added one after the other
+-- ---- threads that are added one by one
 
 one_more_started : (s : ℕ) (xs : List Thread) (n : ℕ) (q : ℕ × ℕ) → n < length xs → IsSomeAnd (slice_get xs n) (λ t. q ≡ t.1) → started_at s (nodes_of (take n xs)) ++ (s, q) ∷ [] ≡ started_at s (nodes_of (take (suc n) xs))
 one_more_started s [] n q lt here = absurd (omega (arith, lt))

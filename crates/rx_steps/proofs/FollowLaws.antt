@@ -1,4 +1,4 @@
--- Following a node, whatever its move is.
+-- Following a node, whatever its move.
 use Rattle.std.proofs.Common.{◌≡◌, ℕ, zero, suc, ◌+◌, ◌-◌, ◌*◌, ◌≤◌, ◌⊎◌, Bool, true, false, Result, Ok, Err, IfOk, OnOk, List, [], ◌∷◌, ◌++◌, length, map, max, Option, Some, None, Contains, slice_get, refl, sym, ap, ap₂, subst, ◌∙◌, arith, inl, inr}
 use Rattle.std.proofs.lemmas.List.{append_assoc, append-nil, length-append, get_or_past}
 use Rattle.std.proofs.lemmas.List.Elements.{Contains-append_left, Contains-push_cases, Contains-append_right}
@@ -137,7 +137,7 @@ thread_nowhere m i threads widths ids n q left out at is way = elim (seen_or_new
   }
 ]
 
--- at a node that wasn't seen a match ends, or empty edges lead on, or a byte is read
+-- at a node that wasn't seen a match ends, or epsilon transitions lead on, or a byte is read
 
 pub thread_ends : {N : Type 0} (m : Machine (ℕ × ℕ) N) (i : ℕ) (threads : List (N × (ℕ × ℕ))) (widths ids : List ℕ) (n : N) (q : ℕ × ℕ) (k p : ℕ) (left out : List (N × (ℕ × ℕ))) → index_from 0 widths q.0 q.1 ≡ Some k → (Contains ids k → ⊥)
     → m.move i q ≡ ends p → AreUnderWay m i threads widths ids ((n, q) ∷ left) out → Steps m i [] threads out (Some (record { pattern = p; end = i; notes = n }))
@@ -166,7 +166,7 @@ thread_reads m i threads widths ids n q r k left out at none is way =
       so_far = λ on end steps. subst (λ xs. Steps m i [] threads xs end) (sym (append_assoc out ((n, r) ∷ []) on)) (way.so_far ((n, r) ∷ on) end (read r new is steps));
     }
 
--- ---- the code's cases
+-- ---- the cases of the code
 
 follow_new : (m : SlotMachine) (i : ℕ) (threads : List Thread) (widths ids : List ℕ) (q : ℕ × ℕ) (k : ℕ) (move : Move (ℕ × ℕ)) (noted : Slots) (met' : Option ℕ) (w w' : Waiting) (others next next' : List Thread)
     → index_from 0 widths q.0 q.1 ≡ Some k → (Contains ids k → ⊥) → m.move i q ≡ move → m.note i q w.slots ≡ noted → OnlyNext i move → IsMade move noted met' w w' next next'

@@ -1,4 +1,4 @@
--- Bytes before which no match begins: which they are, and that they may be skipped.
+-- Bytes at which no match begins: which they are, and that they can be skipped.
 use Rattle.std.proofs.Common.{inl, inr, ◌≡◌, ◌⊎◌, ℕ, zero, suc, ◌+◌, ◌-◌, ◌<◌, ◌≤◌, Bool, true, false, ◌&&◌, eqb, IsTrue, Contains, List, [], ◌∷◌, ◌++◌, map, length, take, drop, min, replicate, get_or, Option, Some, None, slice_get, slice_index, IsSomeAnd, refl, sym, ap, ap₂, subst, ◌∙◌, arith}
 use Rattle.std.proofs.lemmas.List.{get_or-take, get_or-drop, length-take, length-drop}
 use Rattle.std.proofs.lemmas.List.Elements.{All-nil}
@@ -41,7 +41,7 @@ none_known zero b e = absurd (cc e)
 none_known (suc n) zero e = absurd (cc e)
 none_known (suc n) (suc b) e = none_known n b e
 
--- so many are passed over, and one more
+-- one more byte can be skipped
 pub one_more_passed : (idle : List Bool) (utf8_empty : Bool) (bytes : List ℕ) (n b : ℕ) → ((k : ℕ) → k < n → IsPassedAt idle utf8_empty bytes k) → slice_get bytes n ≡ Some b → IsPassed idle utf8_empty b
     → (k : ℕ) → k < n + 1 → IsPassedAt idle utf8_empty bytes k
 one_more_passed idle utf8_empty bytes n b so_far is one k lt = elim (below_or_not k n) [
@@ -49,7 +49,7 @@ one_more_passed idle utf8_empty bytes n b so_far is one k lt = elim (below_or_no
   | inr le ↦ (b, ap (λ j. slice_get bytes j) (omega (arith, le, lt)) ∙ is, one)
 ]
 
--- none more is, where this byte isn't, and behind the last one
+-- none more can, if this byte can't, or after the last one
 pub no_more_passed : (idle : List Bool) (utf8_empty : Bool) (bytes : List ℕ) (n b : ℕ) → slice_get bytes n ≡ Some b → (IsPassed idle utf8_empty b → ⊥) → IsPassedAt idle utf8_empty bytes n → ⊥
 no_more_passed idle utf8_empty bytes n b is never (c, there, one) =
     let same : c ≡ b = the_byte (sym there ∙ is) in
@@ -61,7 +61,7 @@ no_more_passed idle utf8_empty bytes n b is never (c, there, one) =
 pub none_behind : (idle : List Bool) (utf8_empty : Bool) (bytes : List ℕ) (n : ℕ) → length bytes ≤ n → IsPassedAt idle utf8_empty bytes n → ⊥
 none_behind idle utf8_empty bytes n le (b, is, one) = let inside = slice_get_within bytes n b is in absurd (omega (arith, inside, le))
 
--- what is said of the bytes of a part is so in the whole
+-- what holds of the bytes of a part holds in the whole
 passed_in_part : (idle : List Bool) (utf8_empty : Bool) (bytes : List ℕ) (pos few k : ℕ) → IsPassedAt idle utf8_empty (take few (drop pos bytes)) k → IsPassedAt idle utf8_empty bytes (pos + k)
 passed_in_part idle utf8_empty bytes pos few k (b, is, one) =
     let part = take few (drop pos bytes) in
@@ -71,7 +71,7 @@ passed_in_part idle utf8_empty bytes pos few k (b, is, one) =
     let same : get_or part k 0 ≡ get_or bytes (pos + k) 0 = get_or-take few (drop pos bytes) k 0 lt ∙ get_or-drop pos bytes k 0 in
     (b, slice_get-get_or bytes (pos + k) 0 within ∙ ap Some (sym same ∙ get_or_from_slice_get part k b 0 is), one)
 
--- and what is said of a piece is so in the content
+-- what holds of a chunk holds in the haystack
 pub passed_in_piece : (idle : List Bool) (utf8_empty : Bool) (c : CursorState) (i pos : ℕ) (piece : List ℕ) (few n k : ℕ) → piece ≡ piece_of c → c.start + pos ≡ i → i ≤ k → k < i + n
     → ((j : ℕ) → j < n → IsPassedAt idle utf8_empty (take few (take (length piece - pos) (drop pos piece))) j) → IsPassedAt idle utf8_empty c.content k
 passed_in_piece idle utf8_empty c i pos piece few n k is at from to each =
@@ -99,7 +99,7 @@ some_left idle utf8_empty c i pos piece is at holds (b, here, one) =
     let inside = slice_get_within piece pos b (ap (λ xs. slice_get xs pos) is ∙ piece_byte c i pos holds at ∙ here) in
     omega (arith, inside, length-take (length piece - pos) (drop pos piece), length-drop pos piece)
 
--- a byte of the content that is passed over stands first in what is left of the piece
+-- a byte of the haystack that can be skipped is the first one left in the chunk
 pub passed_first : (idle : List Bool) (utf8_empty : Bool) (c : CursorState) (i pos : ℕ) (piece : List ℕ) (few : ℕ) → piece ≡ piece_of c → c.start + pos ≡ i → HoldsPlace c i → 0 < few → IsPassedAt idle utf8_empty c.content i
     → IsPassedAt idle utf8_empty (take few (take (length piece - pos) (drop pos piece))) 0
 passed_first idle utf8_empty c i pos piece few is at holds some (b, here, one) =
@@ -109,7 +109,7 @@ pub passed_joined : (idle : List Bool) (utf8_empty : Bool) (content : List ℕ) 
     → ((k : ℕ) → i ≤ k → k < j → IsPassedAt idle utf8_empty content k) → (k : ℕ) → first ≤ k → k < j → IsPassedAt idle utf8_empty content k
 passed_joined idle utf8_empty content first i j before behind k from to = elim (below_or_not k i) [ inl less ↦ before k from less | inr le ↦ behind k le to ]
 
--- ---- which bytes are learnt
+-- ---- which bytes are found
 
 same_node : (a b : ℕ × ℕ) → (eqb a.0 b.0 && eqb a.1 b.1) ≡ true → a ≡ b
 same_node a b e = ap₂ (λ x y. (x, y)) (eqb-true a.0 b.0 (first_of (eqb a.0 b.0) (eqb a.1 b.1) e)) (eqb-true a.1 b.1 (second_of (eqb a.0 b.0) (eqb a.1 b.1) e))
@@ -142,7 +142,7 @@ no_value (Some k) e = absurd (cc e)
 abbrev nodes_of : List Thread → List (ℕ × ℕ)
 nodes_of threads = map (λ t. t.1) threads
 
--- threads at the same nodes, whatever they noted, go on to threads at the same nodes
+-- threads at the same nodes, whatever their slots, step to threads at the same nodes
 same_on : (rs : List (ℕ × ℕ)) (n n' : Slots) (threads threads' : List Thread) → nodes_of threads' ≡ nodes_of threads
     → nodes_of (map (λ r. (n', r)) rs ++ threads') ≡ nodes_of (map (λ r. (n, r)) rs ++ threads)
 same_on [] n n' threads threads' e = e
@@ -151,7 +151,7 @@ same_on (r ∷ rs) n n' threads threads' e = ap (λ xs. r ∷ xs) (same_on rs n 
 abbrev SlotMachine : Type 0
 SlotMachine = Machine (ℕ × ℕ) Slots
 
--- where a node goes on without a read it does so in both
+-- a node that goes on without a read does so in both
 abbrev GoesAlike : SlotMachine → ℕ → SlotMachine → ℕ → Type 0
 GoesAlike m i m' i' = (q : ℕ × ℕ) (rs : List (ℕ × ℕ)) → m.move i q ≡ goes rs → m'.move i' q ≡ goes rs
 
@@ -161,7 +161,7 @@ head_is a b xs ys e = cc e
 tail_is : (a b : ℕ × ℕ) (xs ys : List (ℕ × ℕ)) → a ∷ xs ≡ b ∷ ys → xs ≡ ys
 tail_is a b xs ys e = cc e
 
--- so a step that comes to nothing does so wherever nodes go on alike
+-- therefore a step that leads nowhere does so in every machine with these moves
 nothing_alike : (m : SlotMachine) (i : ℕ) (m' : SlotMachine) (i' : ℕ) → GoesAlike m i m' i' → {seen : List (ℕ × ℕ)} {threads next : List Thread} {ended : Option (Outcome Slots)}
     → Steps m i seen threads next ended → next ≡ [] → ended ≡ None → (threads' : List Thread) → nodes_of threads' ≡ nodes_of threads → Steps m' i' seen threads' [] None
 nothing_alike m i m' i' alike done e f [] g = done
@@ -179,7 +179,7 @@ nothing_alike m i m' i' alike {seen = seen} (opened {n = n} {q = q} {others = ot
     (opened rs new (alike q rs is) (nothing_alike m i m' i' alike rest e f (map (λ r. (m'.note i' q n', r)) rs ++ threads') (same_on rs (m.note i q n) (m'.note i' q n') others threads' behind)))
 nothing_alike m i m' i' alike (read r new is rest) e f threads' g = absurd (cc e)
 
--- at two places with the same next byte the states of a program that asks for no look go on alike
+-- without assertions, a program's states make the same moves at two offsets with the same next byte
 reads_alike : (step : ℕ → ℕ → Option (Option ℕ)) (q r s i i' : ℕ) (o : Option ℕ) (rs : List (ℕ × ℕ)) → read_next step q r s i o ≡ goes rs → read_next step q r s i' o ≡ goes rs
 reads_alike step q r s i i' None rs e = e
 reads_alike step q r s i i' (Some b) rs e = on (step s b) e
@@ -208,16 +208,16 @@ goes_alike p m m' i i' place place' same never moves moves' q rs is = by_state (
     by_state None none = moves'.elsewhere q none ∙ sym (moves.elsewhere q none) ∙ is
     by_state (Some x) here = moves'.at_state q x here ∙ moves_alike p.states place place' i i' q x rs same never here (sym (moves.at_state q x here) ∙ is)
 
--- the byte stands last in so many and one of it
+-- the byte at index `n` of `n + 1` copies
 pub last_of : (n b : ℕ) → slice_get (drop n (take (suc n) (replicate (suc n) b))) 0 ≡ Some b
 last_of zero b = refl
 last_of (suc n) b = last_of n b
 
--- a content with this byte at this place
+-- a haystack with this byte at this offset
 abbrev pub with_byte : ℕ → ℕ → Haystack walks.Look
 with_byte i b = record { content = replicate (suc i) b; low = 0; high = suc i; holds = λ l j. false }
 
--- where a step comes to nothing, no other step of the same threads comes to something
+-- if a step leads nowhere, no other step of the same threads leads anywhere
 nothing_else : {m : SlotMachine} {i : ℕ} {seen : List (ℕ × ℕ)} {threads next next' : List Thread} {ended ended' : Option (Outcome Slots)} → Steps m i seen threads next ended → next ≡ [] → ended ≡ None
     → Steps m i seen threads next' ended' → (next' ≡ []) × (ended' ≡ None)
 nothing_else done e f done = (refl, refl)
@@ -236,7 +236,7 @@ nothing_else {m = m} {i = i} {seen = seen} {next' = next'} {ended' = ended'} (op
 nothing_else (opened rs new is rest) e f (read r new' is' rest') = absurd (cc (sym is ∙ is'))
 nothing_else (read r new is rest) e f other = absurd (cc e)
 
--- a step of one thread at the start that comes to nothing tells of its byte that it is idle
+-- if a step of one thread at the start leads nowhere, its byte is idle
 pub is_idle : (p : ByteProgram) (place : Place) (b : ℕ) (threads next : List Thread) (ended : Option ℕ) (noted slots : Slots) → IsNextList p place threads next ended noted
     → threads ≡ (slots, first_node p.start) ∷ [] → next ≡ [] → ended ≡ None → place.byte ≡ Some b → ((l : walks.Look) → Asks p.states l → ⊥) → IsIdle p b
 is_idle p place b threads next ended noted slots list are none unmet byte never h i slots' next' ended' inside left steps =
@@ -260,9 +260,9 @@ is_idle p place b threads next ended noted slots list are none unmet byte never 
     let told = nothing_else nothing refl refl steps in
     (ap (λ xs. length xs) told.0, ap (λ o. is_some o) told.1)
 
--- ---- what is idle may be skipped
+-- ---- idle bytes can be skipped
 
--- whether a start begins at a place inside is known
+-- whether a match may begin at an offset inside is decidable
 begins_or_not : (s : Search) (i : ℕ) → s.anchoring ≡ unanchored → IsInside s i → MayBegin s i ⊎ (MayBegin s i → ⊥)
 begins_or_not s i free inside = by_flag s.utf8_empty refl
   where
@@ -297,7 +297,7 @@ unanchored_start p unanchored q free starts = (refl, sym (some_is starts))
 unanchored_start p anchored q free starts = absurd (cc free)
 unanchored_start p (anchored_pattern k) q free starts = absurd (cc free)
 
--- the looks that hold at a place
+-- the assertions that hold at an offset
 abbrev looks_at : Haystack walks.Look → ℕ → Looks
 looks_at h i = record {
   start = h.holds start_text i;
@@ -316,7 +316,7 @@ looks_are h i end_line = refl
 looks_are h i word_boundary = refl
 looks_are h i no_word_boundary = refl
 
--- at a place before an idle byte a step of a fresh walk comes to nothing
+-- at an idle byte the step of a new thread leads nowhere
 idle_step : (p : ByteProgram) (h : Haystack walks.Look) (i b : ℕ) (slots : Slots) → IsIdle p b → is_within h.low h.high i ≡ true → slice_get (left_from h i) 0 ≡ Some b → Steps (slot_machine p h) i [] ((slots, first_node p.start) ∷ []) [] None
 idle_step p h i b slots idle inside left =
     let place : Place = record { at = i; byte = slice_get (left_from h i) 0; looks = looks_at h i } in
@@ -331,7 +331,7 @@ idle_step p h i b slots idle inside left =
     no_end None e = refl
     no_end (Some t) e = absurd (cc e)
 
--- the step at a place that is passed over, with a walk that starts there or without one
+-- the step at an offset that is skipped, with a thread that starts there or without one
 pub record SkippedStep (p : ByteProgram) (s : Search) (i : ℕ) (slots : Slots) : Type 0 where
   pub threads : List Thread
   pub started : HasStarted s p.start i None (record { slot_len = length slots; threads = [] }) threads
@@ -362,14 +362,14 @@ skipped_step p s idle i slots free inside lt are (b, is, one) = elim (begins_or_
         let lead = cut.1 before (omega (arith, byte, high)) in
         absurd (omega (arith, byte, low, lead))
 
--- one place
+-- one offset
 one_skipped : (p : ByteProgram) (s : Search) (idle : List Bool) (i : ℕ) (slots : Slots) → s.anchoring ≡ unanchored → IsInside s i → i < highest s → AreIdle p idle → IsPassedAt idle s.utf8_empty s.content i
     → IsUnderWay (course_of p s p.start) i [] None slots → IsUnderWay (course_of p s p.start) (i + 1) [] None slots
 one_skipped p s idle i slots free inside lt are passed_over way =
     let one = skipped_step p s idle i slots free inside lt are passed_over in
     way_passed p s p.start i (record { slot_len = length slots; threads = [] }) one.threads [] None slots None slots inside refl one.started one.steps (All-nil (IsThreadOf p.states)) way
 
--- so many places
+-- several offsets
 many_skipped : (p : ByteProgram) (s : Search) (idle : List Bool) (n i : ℕ) (slots : Slots) → s.anchoring ≡ unanchored → AreIdle p idle → lowest s ≤ i → i + n ≤ highest s
     → ((k : ℕ) → i ≤ k → k < i + n → IsPassedAt idle s.utf8_empty s.content k) → IsUnderWay (course_of p s p.start) i [] None slots → IsUnderWay (course_of p s p.start) (i + n) [] None slots
 many_skipped p s idle zero i slots free are low high each way = subst (λ j. IsUnderWay (course_of p s p.start) j [] None slots) (omega arith) way
@@ -380,7 +380,7 @@ many_skipped p s idle (suc n) i slots free are low high each way =
     subst (λ j. IsUnderWay (course_of p s p.start) j [] None slots) more
     (many_skipped p s idle n (i + 1) slots free are (omega (arith, low)) (omega (arith, high)) (λ k from to. each k (omega (arith, from)) (omega (arith, to))) on)
 
--- what a search knows of the places between two, of which it passes over all
+-- what a search knows of the offsets from `i` to `j`, all of which it skips
 abbrev pub AreSkipped : List Bool → Bool → List ℕ → ℕ → ℕ → List Thread → Option ℕ → Type 0
 AreSkipped idle utf8_empty content i j live pattern =
     (k : ℕ) → i ≤ k → k < j → (live ≡ []) × (pattern ≡ None) × IsPassedAt idle utf8_empty content k

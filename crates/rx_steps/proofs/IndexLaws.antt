@@ -19,7 +19,7 @@ widths_back first [] = refl
 widths_back first (n ∷ []) = ap (λ x. x ∷ []) (omega arith)
 widths_back first (n ∷ k ∷ widths) = ap₂ (λ x xs. x ∷ xs) (omega arith) (widths_back (first + n) (k ∷ widths))
 
--- what two starts tell of an index
+-- an index from two neighbouring first nodes
 pub index_between : (first : ℕ) (widths : List ℕ) (q s x y : ℕ) → slice_get (node_starts first widths) q ≡ Some x → slice_get (node_starts first widths) (suc q) ≡ Some y
     → index_from first widths q s ≡ cond (nat_lt s (y - x)) (Some (x + s)) None
 index_between first [] q s x y e f = absurd (cc f)
@@ -70,7 +70,7 @@ index_inside first (n ∷ widths) zero s k e =
 index_inside first (n ∷ widths) (suc q) s k e =
     let h = index_inside (first + n) widths q s k e in (omega (arith, h.0), h.1)
 
--- an index is of one node
+-- an index belongs to one node
 pub one_index : (first : ℕ) (widths : List ℕ) (q s q' s' k : ℕ) → index_from first widths q s ≡ Some k → index_from first widths q' s' ≡ Some k → (q ≡ q') × (s ≡ s')
 one_index first [] q s q' s' k e f = absurd (cc e)
 one_index first (n ∷ widths) zero s zero s' k e f =
@@ -90,7 +90,7 @@ one_index first (n ∷ widths) (suc q) s zero s' k e f =
 one_index first (n ∷ widths) (suc q) s (suc q') s' k e f =
     let h = one_index (first + n) widths q s q' s' k e f in (ap (λ x. suc x) h.0, h.1)
 
--- a node without an index is behind the nodes of its state
+-- a node without an index is past the nodes of its state
 pub behind : (first : ℕ) (states : List State) (q s : ℕ) (x : State) → slice_get states q ≡ Some x → index_from first (map width_of states) q s ≡ None → width_of x ≤ s
 behind first [] q s x e f = absurd (cc e)
 behind first (y ∷ states) zero s x e f = subst (λ z. width_of z ≤ s) (the_state e) (not_below (nat_lt s (width_of y)) refl f)
@@ -103,7 +103,7 @@ behind first (y ∷ states) zero s x e f = subst (λ z. width_of z ≤ s) (the_s
     not_below false is g = grind (arith, nat_tests)
 behind first (y ∷ states) (suc q) s x e f = behind (first + width_of y) states q s x e f
 
--- ---- whether an index is there is known
+-- ---- whether there is an index is decidable
 
 pub same_number : (a b : ℕ) → (a ≡ b) ⊎ (a ≡ b → ⊥)
 same_number zero zero = inl refl
@@ -138,7 +138,7 @@ inserted false k ids ids' iff is = (elim (has_or_not ids k) [ inl c ↦ c | inr 
     not_true : IsTrue false → ⊥
     not_true e = cc e
 
--- indices below an end, none of them twice, are at most as many
+-- distinct indices below a number are at most as many
 pub few : (end : ℕ) (ids : List ℕ) → All (λ k. k < end) ids → AllPairs (λ a b. a ≢ b) ids → length ids ≤ end
 few end ids below apart = length-le_from_distinct_below ids end (IsDistinct-from_AllPairs Decides-eqb ids apart)
     (λ q any. let at = Contains-from_any {eq = eqb} (λ x y. (Decides-eqb x y).0) q ids any in subst (λ x. x < end) at.2 (below at.0 q at.1))

@@ -1,4 +1,5 @@
--- From a thread at a state's first node a step is made at each place: empty edges are followed until all nodes were seen.
+-- From a thread at a state's first node a step is made at each offset: epsilon transitions are
+-- followed until all nodes were seen.
 use Rattle.std.proofs.Common.{inl, inr, ◌≡◌, ◌⊎◌, ℕ, zero, suc, ◌+◌, ◌<◌, ◌≤◌, Bool, true, false, Contains, List, [], ◌∷◌, ◌++◌, map, length, Option, Some, None, slice_get, refl, sym, ap, subst, ◌∙◌, arith}
 use Rattle.std.proofs.lemmas.Option.{slice_get_within}
 use Rattle.rx_program.specs.declared.states.State.{State}
@@ -24,7 +25,7 @@ Node = ℕ × ℕ
 abbrev SlotMachine : Type 0
 SlotMachine = Machine Node Slots
 
--- ---- how many of some nodes weren't seen
+-- ---- the number of nodes that weren't seen
 
 abbrev count : {A B : Type 0} → A ⊎ B → ℕ → ℕ
 count (inl a) n = n
@@ -72,7 +73,8 @@ first_threads : (n : Slots) (rs : List ℕ) (threads : List (Slots × ℕ)) → 
 first_threads n [] threads = refl
 first_threads n (r ∷ rs) threads = ap (λ xs. (n, first_node r) ∷ xs) (first_threads n rs threads)
 
--- at a place a machine goes on among these nodes: empty edges lead to first nodes, and reads to the next place
+-- a machine's moves at an offset stay among these nodes: epsilon transitions lead to first nodes,
+-- and reads to the next offset
 record MovesAmong (m : SlotMachine) (i : ℕ) (all : List Node) : Type 0 where
   among : (r : ℕ) → Contains all (first_node r) ⊎ (m.move i (first_node r) ≡ goes [])
   to_firsts : (r : ℕ) (rs : List Node) → m.move i (first_node r) ≡ goes rs → (numbers : List ℕ) × (rs ≡ map first_node numbers)
@@ -133,7 +135,7 @@ made m i all c (suc n) seen le ((x, r) ∷ threads) = elim (seen_or_new seen (fi
       (λ q j is. made m i all c (suc n) (first_node r ∷ seen) (omega (arith, le, fewer all seen (first_node r))) threads)
 ]
 
--- ---- at each place
+-- ---- at each offset
 
 abbrev first_nodes : ℕ → List Node
 first_nodes zero = []

@@ -6,7 +6,7 @@ use Rattle.rx_steps.specs.declared.place.Place.{Place}
 use Rattle.rx_steps.specs.Threads.{Slots, Thread, Waiting}
 use Rattle.rx_steps.specs.Lists.{IsMade, move_at, noted_at}
 
--- empty edges lead to these nodes
+-- epsilon transitions lead to these nodes
 pub made_goes : (place : Place) (i : ℕ) (q : ℕ × ℕ) (x : State) (rs : List (ℕ × ℕ)) (noted : Slots) (w w' : Waiting) (next next' : List Thread) → move_at place i q x ≡ goes rs → noted_at place x w.slots ≡ noted
     → w'.threads ≡ map (λ r. (noted, r)) rs ++ w.threads → next' ≡ next → IsMade (move_at place i q x) (noted_at place x w.slots) None w w' next next'
 made_goes place i q x rs noted w w' next next' e f g h = rw e (rw f (refl, g, h))

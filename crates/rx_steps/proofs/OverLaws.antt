@@ -1,4 +1,4 @@
--- Where a search begins, and where it is over.
+-- The start and the end of a search.
 use Rattle.std.proofs.Common.{inl, inr, ◌≡◌, ◌⊎◌, ℕ, ◌+◌, ◌-◌, ◌≤◌, ◌<◌, Bool, true, false, All, IsTrue, List, [], length, max, Option, Some, None, option_map, refl, sym, ap₂, subst, arith}
 use Rattle.std.specs.Option.{ForSome}
 use Rattle.unicode.specs.Perl.{is_word_char}
@@ -32,7 +32,7 @@ search_by utf8_empty content asked = record {
   utf8_empty = utf8_empty;
 }
 
--- an input that was moved asks for the same search
+-- a moved input asks for the same search
 pub same_search : (utf8_empty : Bool) (i j : InputState) → i.cursor.content ≡ j.cursor.content → i.asked ≡ j.asked → search_of utf8_empty i ≡ search_of utf8_empty j
 same_search utf8_empty i j content asked = ap₂ (search_by utf8_empty) content asked
 
@@ -67,28 +67,28 @@ over_by p s q i live pattern slots none never way =
       none_met = way.none_met;
     }
 
--- no thread lives, and none starts past the search's start, or an end was met
+-- there is no thread, and none starts after the search's start, or a match end was met
 pub way_over : (p : ByteProgram) (s : Search) (q i : ℕ) (live : List Thread) (pattern : Option ℕ) (slots : Slots) → IsInside s i → live ≡ [] → (pattern ≡ None → IsTrue (is_anchored s.anchoring))
     → IsUnderWay (course_of p s q) (i + 1) live pattern slots → IsOver (course_of p s q) pattern slots
 way_over p s q i live pattern slots inside none anchored way =
     over_by p s q (i + 1) live pattern slots none (λ unmet j from begins. omega (arith, from, begins.0.1 (anchored unmet), inside.2)) way
 
--- the last place was passed
+-- after the highest offset
 pub way_ended : (p : ByteProgram) (s : Search) (q i : ℕ) (live : List Thread) (pattern : Option ℕ) (slots : Slots) → highest s < i + 1 → IsUnderWay (course_of p s q) (i + 1) live pattern slots → IsOver (course_of p s q) pattern slots
 way_ended p s q i live pattern slots past way =
     over_by p s q (i + 1) live pattern slots (way.past_end past)
     (λ unmet j from begins. let inside = begins.0.0 in omega (arith, past, from, inside.1, inside.3, inside.4)) way
 
--- what a search that is over answers
+-- the result of a search that is over
 pub over_answers : (p : ByteProgram) (s other : Search) (q : ℕ) (pattern : Option ℕ) (slots : Slots) → other ≡ s → IsByteProgram p → KeepingLaw → start_node (character_program p) s.anchoring ≡ Some q
     → IsOver (course_of p other q) pattern slots → IsAnswer p s pattern slots
 over_answers p s other q pattern slots same reads law starts way =
     let is : IsOver (course_of p s q) pattern slots = subst (λ x. IsOver (course_of p x q) pattern slots) same way in
     over_is_answer p s q is.end pattern slots reads law starts is.searches is.none_met
 
--- ---- at the first end of a match
+-- ---- at the first match end
 
--- where no pattern is answered nothing is found
+-- without a pattern, nothing is found
 nothing_found : (p : ByteProgram) (s : Search) (slots : Slots) → IsAnswer p s None slots → ProgramFinds is_in is_word_char (character_program p) s None
 nothing_found p s slots answer = by answer.found answer.finds answer.pattern_is
   where
@@ -96,7 +96,7 @@ nothing_found p s slots answer = by answer.found answer.finds answer.pattern_is
     by None finds e = finds
     by (Some t) finds e = absurd (cc e)
 
--- and where one is something is
+-- with one, something is
 something_found : (p : ByteProgram) (s : Search) (k : ℕ) (slots : Slots) → IsAnswer p s (Some k) slots → (t : Outcome Notes) × ProgramFinds is_in is_word_char (character_program p) s (Some t)
 something_found p s k slots answer = by answer.found answer.finds answer.pattern_is
   where
@@ -104,7 +104,7 @@ something_found p s k slots answer = by answer.found answer.finds answer.pattern
     by None finds e = absurd (cc e)
     by (Some t) finds e = (t, finds)
 
--- nothing is answered, whether any match will do or not
+-- no result, whether any match may be reported or not
 pub none_at : (earliest : Bool) (p : ByteProgram) (s : Search) (end : ℕ) (slots : Slots) → IsAnswer p s None slots → IsAnswerAt earliest p s end None slots
 none_at false p s end slots answer = answer
 none_at true p s end slots answer = answer
@@ -124,7 +124,7 @@ module _ (p : ByteProgram) (s : Search) (q : ℕ) (reads : IsByteProgram p) (law
       let some = something_found p (up_to_place s end) at.pattern at.slots (part_answers end (Some at.pattern) at.slots at.met) in
       record { in_span = omega (arith, at.inside); found = some.0; finds = some.1; none_before = nothing_before first end is at.none_before }
 
-  -- what a search that is over at a place answers
+  -- the result of a search that stops at an offset
   pub over_at_answers : (earliest : Bool) (first i : ℕ) (pattern : Option ℕ) (slots : Slots) → first ≡ lowest s → IsOverAt earliest (course_of p s q) first i pattern slots → IsAnswerAt earliest p s i pattern slots
   over_at_answers false first i pattern slots is way = over_answers p s s q pattern slots refl reads law starts way
   over_at_answers true first i None slots is way = over_answers p s s q None slots refl reads law starts way

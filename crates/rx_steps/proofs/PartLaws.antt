@@ -1,4 +1,4 @@
--- What a search has come to in the parts of its span.
+-- The progress of a search in the parts of its span.
 use Rattle.std.proofs.Common.{inl, inr, ◌≡◌, ◌⊎◌, ℕ, ◌+◌, ◌<◌, ◌≤◌, Bool, true, false, All, List, [], ◌∷◌, length, take, drop, min, Option, Some, None, slice_get, refl, sym, ap, subst, ◌∙◌, arith}
 use Rattle.std.proofs.lemmas.List.Elements.{All-nil}
 use Rattle.rx_walks.specs.Looks as walks
@@ -25,7 +25,7 @@ use Rattle.rx_steps.proofs.IdleLaws.{AreSkipped, SkippedStep, skipped_step, way_
 
 -- ---- the machine of a part
 
--- the place at which it is cut is its last one
+-- the offset at which it is cut is its highest one
 pub part_highest : (s : Search) (e : ℕ) → e ≤ highest s → highest (up_to_place s e) ≡ e
 part_highest s e le = omega (arith, le)
 
@@ -58,7 +58,7 @@ stopped_if true rs = refl
 stopped_if false rs = refl
 
 module _ (p : ByteProgram) (s : Search) where
-  -- before the place at which a part is cut a node does the same in it
+  -- before the end of a part a node's move is the same in it
   node_alike : {S : Type 0} (e i : ℕ) (q : ℕ × ℕ) (o : Option (Node walks.Look S))
       → slice_get (left_from (haystack_in p.line_terminator s) i) 0 ≡ slice_get (left_from (haystack_in p.line_terminator (up_to_place s e)) i) 0
       → by_byte (automata_of p) (haystack_in p.line_terminator s) i q.0 q.1 o ≡ by_byte (automata_of p) (haystack_in p.line_terminator (up_to_place s e)) i q.0 q.1 o
@@ -82,7 +82,7 @@ module _ (p : ByteProgram) (s : Search) where
       let same = same_byte s.content (min s.slice_end s.end) (min s.slice_end e) i (omega (arith, lt, le)) (omega (arith, lt, le)) in
       ap (λ b. only_if b (by_byte (automata_of p) h' i q.0 q.1 o)) there ∙ sym (node_alike e i q o same) ∙ sym (ap (λ b. only_if b (by_byte (automata_of p) h i q.0 q.1 o)) here)
 
-  -- and at that place it does the same but for reads
+  -- at its end the move is the same except for reads
   node_cut : {S : Type 0} (i : ℕ) (q : ℕ × ℕ) (o : Option (Node walks.Look S)) → left_from (haystack_in p.line_terminator (up_to_place s i)) i ≡ []
       → by_byte (automata_of p) (haystack_in p.line_terminator (up_to_place s i)) i q.0 q.1 o ≡ stopped (by_byte (automata_of p) (haystack_in p.line_terminator s) i q.0 q.1 o)
   node_cut i q None none = refl
@@ -130,7 +130,7 @@ module _ (p : ByteProgram) (s : Search) where
   started_in_part q e i pattern live threads inside le (inl begun) = let begins = begun.1 in inl (begun.0, ((inside_part s e i begins.0.0 le, begins.0.1), begins.1), begun.2)
   started_in_part q e i pattern live threads inside le (inr waits) = inr (λ none begins. waits.0 none (begins_whole e i inside.3 begins), waits.1)
 
-  -- ---- a place is passed, in the parts that go on behind it, and in the one that is cut there
+  -- ---- one offset, in the parts up to later offsets and in the part up to this one
 
   pub parts_passed : (q i : ℕ) (live : ThreadListView) (threads next : List Thread) (pattern : Option ℕ) (slots : Slots) (k : Option ℕ) (noted : Slots)
       → IsInside s i → live.slot_len ≡ length slots → HasStarted s q i pattern live threads → Steps (machine_in p s) i [] threads next (met_at i k noted) → All (IsThreadOf p.states) next
@@ -153,7 +153,7 @@ module _ (p : ByteProgram) (s : Search) where
   pub parts_begun : (q i : ℕ) (live : List Thread) (slots : Slots) → i ≡ lowest s → live ≡ [] → slots ≡ no_slots (length slots) → IsUnderWayInParts (course_of p s q) i live None slots
   parts_begun q i live slots first none empty = λ e from within. way_begun p (up_to_place s e) q i live slots first none empty
 
-  -- ---- places are skipped
+  -- ---- offsets are skipped
 
   pub parts_skipped : (q i j : ℕ) (idle : List Bool) (live : List Thread) (pattern : Option ℕ) (slots : Slots) → i ≤ j → lowest s ≤ i → j ≤ highest s → AreIdle p idle
       → (live ≡ [] → pattern ≡ None → (s.anchoring ≡ unanchored) × (q ≡ p.start)) → AreSkipped idle s.utf8_empty s.content i j live pattern
@@ -161,7 +161,7 @@ module _ (p : ByteProgram) (s : Search) where
   parts_skipped q i j idle live pattern slots le low high are free skipped parts = λ e from within.
       way_skipped p (up_to_place s e) q i j idle live pattern slots le low (omega (arith, from, part_highest s e within)) are free skipped (parts e (omega (arith, le, from)) within)
 
-  -- at such a place nothing ends in the part that is cut there
+  -- no match ends in the part up to such an offset
   pub none_skipped : (q i j : ℕ) (idle : List Bool) (live : List Thread) (pattern : Option ℕ) (slots : Slots) → lowest s ≤ i → j ≤ highest s → AreIdle p idle
       → (live ≡ [] → pattern ≡ None → (s.anchoring ≡ unanchored) × (q ≡ p.start)) → AreSkipped idle s.utf8_empty s.content i j live pattern
       → IsUnderWayInParts (course_of p s q) i live pattern slots → HasMetNone (course_of p s q) i j
@@ -180,7 +180,7 @@ module _ (p : ByteProgram) (s : Search) where
             (part_over p.start k (record { slot_len = length slots; threads = [] }) one.threads [] None slots None slots inside refl one.started one.steps alone),
       )
 
-  -- ---- where a search is over
+  -- ---- the end of a search
 
   pub none_more : (q first i j : ℕ) (pattern : Option ℕ) (slots : Slots) → HasMetNone (course_of p s q) first i → IsOver (course_of p (up_to_place s i) q) pattern slots → pattern ≡ None → HasMetNone (course_of p s q) (i + 1) j → HasMetNone (course_of p s q) first j
   none_more q first i j pattern slots before here unmet behind k from to = elim (below_or_not k i) [
@@ -203,12 +203,12 @@ module _ (p : ByteProgram) (s : Search) where
   over_early q first i None slots some le over before = absurd (some refl)
   over_early q first i (Some k) slots some le over before = (le, over, before)
 
-  -- ---- the first end that is met
+  -- ---- the first match end
 
   met_here : (q first i : ℕ) (k : ℕ) (noted : Slots) → IsInside s i → IsOver (course_of p (up_to_place s i) q) (Some k) noted → HasMetNone (course_of p s q) first i → IsFirstMet (course_of p s q) first i
   met_here q first i k noted inside over before = record { inside = omega (arith, inside.1, inside.3, inside.4); pattern = k; slots = noted; met = over; none_before = before }
 
-  -- once an end was met no walk starts
+  -- after a match end no thread starts
   no_start : (q i : ℕ) (k : ℕ) (live : ThreadListView) (threads : List Thread) → HasStarted s q i (Some k) live threads → threads ≡ live.threads
   no_start q i k live threads (inl begun) = absurd (cc begun.0)
   no_start q i k live threads (inr waits) = waits.1

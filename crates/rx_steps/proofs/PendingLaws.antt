@@ -1,4 +1,4 @@
--- What waits on a stack, by what lies on top.
+-- The threads that wait on a stack, from its top.
 use Rattle.std.proofs.Common.{◌≡◌, ℕ, List, [], ◌∷◌, ◌++◌, set, reverse, Option, Some, slice_get, ap, ◌∙◌}
 use Rattle.std.proofs.lemmas.List.{reverse-append}
 use Rattle.rx_steps.specs.declared.pending.FollowEpsilon.{FollowEpsilon}
@@ -10,7 +10,7 @@ use Rattle.rx_steps.proofs.ThreadLaws.{put_back}
 pub on_top : (slots : Slots) (stack : List FollowEpsilon) (frame : FollowEpsilon) → waiting slots (reverse (stack ++ frame ∷ [])) ≡ waiting slots (frame ∷ reverse stack)
 on_top slots stack frame = ap (λ xs. waiting slots xs) (reverse-append stack (frame ∷ []))
 
--- a slot that is noted gets back what it held before the threads that wait
+-- a written slot gets its value back before the threads that wait
 pub noted : (slots : Slots) (stack : List FollowEpsilon) (slot : ℕ) (held new : Option ℕ) → slice_get slots slot ≡ Some held
     → waiting (set slots slot new) (reverse (stack ++ RestoreCapture slot held ∷ [])) ≡ waiting slots (reverse stack)
 noted slots stack slot held new e = on_top (set slots slot new) stack (RestoreCapture slot held) ∙ ap (λ xs. waiting xs (reverse stack)) (put_back slots slot held new e)

@@ -1,4 +1,4 @@
--- What the machine of a program does at a place, and a step from its beginning to its end.
+-- The moves of a program's machine at an offset, and a step from its start to its end.
 use Rattle.std.proofs.Common.{◌≡◌, ℕ, zero, suc, List, [], ◌∷◌, map, Some, None, slice_get, refl, sym, ap, subst, ◌∙◌}
 use Rattle.std.proofs.lemmas.List.{append-nil}
 use Rattle.rx_program.specs.declared.states.State.{State}

@@ -1,4 +1,4 @@
--- What an input sees around a place, and what stands there in the slice.
+-- What an input sees around an offset, and the bytes of the slice there.
 use Rattle.std.proofs.Common.{◌≡◌, ℕ, ◌+◌, ◌-◌, ◌≤◌, Bool, List, length, take, drop, reverse, min, max, refl, sym, ap, ap₂, ◌∙◌, arith, inl, inr}
 use Rattle.std.proofs.lemmas.List.{drop-take, drop-drop, take-take, length-take, length-drop, reverse-reverse}
 use Rattle.rx_util.specs.declared.search.Span.{Span}
@@ -7,7 +7,7 @@ use Rattle.rx_walks.specs.Looks.{Look, holds_between}
 use Rattle.rx_walks.specs.Laws.{FourBytesTell}
 use Rattle.rx_steps.proofs.SideLaws.{take_all, less_or_more, back_is}
 
--- the last four bytes before the place, from the place back
+-- the last four bytes before the offset, in reverse order
 pub four_before : (content : List ℕ) (low i : ℕ) → low ≤ i → i ≤ length content → take 4 (reverse (drop low (take i content))) ≡ reverse (drop (max low (i - 4)) (take i content))
 four_before content low i above within =
     let ys = drop low (take i content) in
@@ -25,7 +25,7 @@ seen_len content low high i before within =
     let to = min high (i + 4) in
     omega (arith, before, within, length-drop from (take to content), length-take to content)
 
--- the bytes that are seen before the place
+-- the bytes that are seen before the offset
 pub seen_before : (content : List ℕ) (low high i : ℕ) → low ≤ i → i ≤ high → i ≤ length content
     → take (min (i - max low (i - 4)) (length (drop (max low (i - 4)) (take (min high (i + 4)) content)))) (drop (max low (i - 4)) (take (min high (i + 4)) content)) ≡ drop (max low (i - 4)) (take i content)
 seen_before content low high i above before within =
@@ -38,7 +38,7 @@ seen_before content low high i above before within =
     ∙ ap (λ n. drop from (take n (take to content))) up
     ∙ ap (λ xs. drop from xs) (take-take i to content (omega (arith, before)))
 
--- and those behind it
+-- and those after it
 pub seen_after : (content : List ℕ) (low high i : ℕ) → low ≤ i → i ≤ high → i ≤ length content
     → drop (min (i - max low (i - 4)) (length (drop (max low (i - 4)) (take (min high (i + 4)) content)))) (drop (max low (i - 4)) (take (min high (i + 4)) content)) ≡ take 4 (drop i (take high content))
 seen_after content low high i above before within =
@@ -56,7 +56,7 @@ seen_after content low high i above before within =
     ] in
     ap (λ n. drop n (drop from (take to content))) (seen_len content low high i before within) ∙ behind ∙ four
 
--- so what is seen tells whether a look holds in the slice
+-- therefore what is seen decides whether an assertion holds in the slice
 pub seen_tells : FourBytesTell → (is_word : ℕ → Bool) (terminator : ℕ) (l : Look) (content : List ℕ) (slice : Span) (i : ℕ) (seen : Seen) (front back : List ℕ) (told : Bool) → slice.start ≤ i → i ≤ slice.end → i ≤ length content
     → seen ≡ record { bytes = seen_bytes slice i content; position = min (i - seen_from slice i) (length (seen_bytes slice i content)) }
     → front ≡ take seen.position seen.bytes → back ≡ drop seen.position seen.bytes → told ≡ holds_between is_word terminator l (reverse front) back

@@ -1,4 +1,4 @@
--- The characters on the sides of a place, by a few bytes of each side.
+-- The characters on both sides of an offset, from a few bytes of each side.
 use Rattle.std.proofs.Common.{◌≡◌, ℕ, zero, suc, ◌-◌, ◌≤◌, ◌⊎◌, Bool, true, false, List, [], ◌∷◌, ◌++◌, length, take, drop, reverse, min, cond, Option, Some, None, refl, sym, ap, ◌∙◌, arith, inl, inr}
 use Rattle.std.specs.Str.{is_utf8, IsUtf8, chars}
 use Rattle.std.proofs.Math.Utf8.{encode}
@@ -6,7 +6,7 @@ use Rattle.std.proofs.lemmas.Str.{IsUtf8-from_is_utf8, is_utf8-from_IsUtf8, IsUt
 use Rattle.std.proofs.lemmas.List.{take-append-drop, take-append-le, reverse-append, reverse-reverse, length-reverse, length-drop}
 use Rattle.rx_walks.specs.Characters.{only_one, character_of}
 
--- a text that has no bytes after its first character, and one that has a second character
+-- a text without bytes after its first character, and one with a second character
 pub one_character : (text rest : List ℕ) (c : ℕ) → IsUtf8 text → text ≡ encode c ++ rest → length rest ≡ 0 → Some c ≡ only_one (chars text)
 one_character text [] c utf8 e none = sym (ap only_one (chars_past_char text [] c utf8 e ∙ ap (λ cs. c ∷ cs) chars-nil))
 one_character text (b ∷ rest) c utf8 e none = absurd (omega (arith, none))
@@ -36,7 +36,7 @@ less_or_more zero n = inl (omega arith)
 less_or_more (suc k) zero = inr (omega arith)
 less_or_more (suc k) (suc n) = elim (less_or_more k n) [ inl le ↦ inl (omega (arith, le)) | inr le ↦ inr (omega (arith, le)) ]
 
--- the last bytes, as they stand and as they are read back
+-- the last bytes, in order and in reverse order
 pub back_is : (xs : List ℕ) (k m : ℕ) → m ≡ min k (length xs) → take (length xs - (length xs - m)) (drop (length xs - m) xs) ≡ reverse (take k (reverse xs))
 back_is xs k m e =
     let j = length xs - m in

@@ -1,4 +1,4 @@
--- Slots as what is kept of the notes of a walk.
+-- Slots as what is kept of a walk's notes.
 use Rattle.std.proofs.Common.{◌≡◌, ℕ, zero, suc, ◌+◌, ◌<◌, cond, ◌∷◌, length, replicate, set, Some, None, refl, sym, ap, ap₂, ◌∙◌, arith}
 use Rattle.std.proofs.lemmas.Bool.{eq-eqb, ne_eqb}
 use Rattle.rx_walks.specs.Programs.{Notes, fresh_notes, put_note, last_noted}
@@ -19,7 +19,7 @@ noted_among from (suc len) (suc k) i n =
     ap₂ (λ x xs. x ∷ xs) (sym (ap (λ b. cond b (Some i) (last_noted from n.noted)) (ne_eqb from (from + suc k) (λ e. absurd (omega (arith, e))))))
     (noted_among (suc from) len k i n ∙ ap (λ j. slots_from (suc from) len (put_note j i n)) same)
 
--- noting a place in a slot is keeping the note
+-- writing an offset into a slot is keeping the note
 pub slots_keep : (len slot i : ℕ) (n : Notes) → note_slot slot i (slots_from 0 len n) ≡ slots_from 0 len (put_note slot i n)
 slots_keep len slot i n =
     let same : 0 + slot ≡ slot = omega arith in
@@ -29,12 +29,12 @@ pub slots_from_len : (from len : ℕ) (n : Notes) → length (slots_from from le
 slots_from_len from zero n = refl
 slots_from_len from (suc len) n = ap suc (slots_from_len (suc from) len n)
 
--- slots don't tell where a walk began
+-- slots don't depend on where a walk started
 pub slots_of_noted : (from len start : ℕ) (n : Notes) → slots_from from len (record { start = start; noted = n.noted }) ≡ slots_from from len n
 slots_of_noted from zero start n = refl
 slots_of_noted from (suc len) start n = ap (λ xs. last_noted from n.noted ∷ xs) (slots_of_noted (suc from) len start n)
 
--- where nothing is noted no slot holds a place
+-- without notes all slots are empty
 pub empty_slots : (from len : ℕ) → slots_from from len (fresh_notes 0) ≡ replicate len None
 empty_slots from zero = refl
 empty_slots from (suc len) = ap (λ xs. None ∷ xs) (empty_slots (suc from) len)

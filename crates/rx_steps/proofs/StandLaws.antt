@@ -1,4 +1,4 @@
--- Where walks stand that a step goes on with.
+-- What walks reach after a step.
 use Rattle.std.proofs.Common.{inl, inr, ◌≡◌, ℕ, suc, ◌+◌, ◌≤◌, All, List, [], ◌∷◌, map, Option, Some, None, slice_get, refl, sym, subst, arith}
 use Rattle.std.proofs.lemmas.List.Elements.{All-append, All-cons, All-nil}
 use Rattle.rx_walks.specs.Machines.{Machine, Outcome}
@@ -21,11 +21,11 @@ targets : (P : Thread → Type 0) (n : Slots) (rs : List (ℕ × ℕ)) → ((k :
 targets P n [] each = All-nil P
 targets P n (r ∷ rs) each = All-cons P (n, r) (map (λ r. (n, r)) rs) (each 0 r refl) (targets P n rs (λ k t at. each (suc k) t at))
 
--- a walk that began at a place or before it did so before a further one
+-- a walk that started at an offset or before it did so before a later one
 pub reached_later : (m : Machine (ℕ × ℕ) Slots) (s : Search) (q last later i : ℕ) (threads : List Thread) → last ≤ later → All (IsReached m s q last i) threads → All (IsReached m s q later i) threads
 reached_later m s q last later i threads le all = λ k d lt. (let here = all k d lt in (here.0, omega (arith, here.1, le), here.2, here.3))
 
--- a step goes on with walks that stand at the next place
+-- the walks of a step reach the next offset
 pub reached_on : (m : Machine (ℕ × ℕ) Slots) (s : Search) (q last i : ℕ) {seen : List (ℕ × ℕ)} {threads next : List Thread} {ended : Option (Outcome Slots)} → Steps m i seen threads next ended
     → All (IsReached m s q last i) threads → All (IsReached m s q last (i + 1)) next
 reached_on m s q last i done all = All-nil (IsReached m s q last (i + 1))
@@ -52,13 +52,13 @@ started_reached m s q i pattern live threads (inl begun) all =
     (All-cons (IsReached m s q i i) fresh [] (i, omega arith, begun.1, at_once) (All-nil (IsReached m s q i i))))
 started_reached m s q i pattern live threads (inr waits) all = subst (All (IsReached m s q i i)) (sym waits.1) all
 
--- where there is a thread a walk stands
+-- if there is a thread, a walk reaches the offset
 pub one_stands : (p : ByteProgram) (s : Search) (q last i : ℕ) (threads : List Thread) → start_node (character_program p) s.anchoring ≡ Some q → (threads ≡ [] → ⊥) → All (IsReached (machine_in p s) s q last i) threads
     → WalkStands p s last i
 one_stands p s q last i [] starts some all = absurd (some refl)
 one_stands p s q last i (x ∷ threads) starts some all = record { start = q; starts = starts; thread = x; reached = first_of (IsReached (machine_in p s) s q last i) x threads all }
 
--- where an end is met there is a thread
+-- if a match ends, there is a thread
 some_threads : {m : Machine (ℕ × ℕ) Slots} {i : ℕ} {seen : List (ℕ × ℕ)} {threads next : List Thread} {ended : Option (Outcome Slots)} → Steps m i seen threads next ended → (ended ≡ None → ⊥) → threads ≡ [] → ⊥
 some_threads done some e = some refl
 some_threads (passed c rest) some e = absurd (cc e)

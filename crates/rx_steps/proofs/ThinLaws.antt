@@ -1,4 +1,4 @@
--- Threads of which some are left out.
+-- Thinned threads.
 use Rattle.std.proofs.Common.{◌≡◌, ℕ, ◌+◌, ◌≤◌, length, arith, List, [], ◌∷◌, ◌++◌, Option, Some, None, Bool, true, false, refl, sym, ap, subst}
 use Rattle.std.proofs.lemmas.List.{append_assoc, append-nil, length-append}
 use Rattle.rx_walks.specs.Steps.{Thins, thin_end, kept, left_out}
@@ -7,7 +7,7 @@ use Rattle.rx_steps.specs.Threads.{Slots, Thread}
 use Rattle.rx_steps.specs.Lists.{IsThinning, Tells}
 use Rattle.rx_steps.proofs.FollowLaws.{tells_more, tells_outside}
 
--- one stood at its node before
+-- there was one at its node before
 pub thin_passed : (threads : List Thread) (widths ids : List ℕ) (slots : Slots) (q : ℕ × ℕ) (others out : List Thread) (o : Option ℕ) → index_from 0 widths q.0 q.1 ≡ o → IsMember o true ids
     → IsThinning threads widths ids ((slots, q) ∷ others) out → IsThinning threads widths ids others out
 thin_passed threads widths ids slots q others out None at is way = absurd (cc is)
@@ -17,7 +17,7 @@ thin_passed threads widths ids slots q others out (Some k) at is way = record {
   so_far = λ rest thins. way.so_far rest (left_out ((way.tells q k at).1 (is.0 refl)) thins);
 }
 
--- none did: it is seen from now on
+-- there was none: the node is seen from now on
 told_more : (widths ids ids' : List ℕ) (seen : List (ℕ × ℕ)) (q : ℕ × ℕ) (o : Option ℕ) (is_new : Bool) → index_from 0 widths q.0 q.1 ≡ o → IsMember o false ids → IsInserted o is_new ids ids' → Tells widths ids seen → Tells widths ids' (q ∷ seen)
 told_more widths ids ids' seen q None is_new at is put tells = subst (λ xs. Tells widths xs (q ∷ seen)) (sym put.1) (tells_outside widths ids seen q at tells)
 told_more widths ids ids' seen q (Some k) true at is put tells = subst (λ xs. Tells widths xs (q ∷ seen)) (sym put.1) (tells_more widths ids seen q k at tells)

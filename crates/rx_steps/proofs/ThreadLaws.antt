@@ -1,4 +1,4 @@
--- Threads that come one after another, and slots that are put back.
+-- Threads one after another, and slots that are restored.
 use Rattle.std.proofs.Common.{◌≡◌, ℕ, zero, suc, ◌+◌, ◌*◌, ◌<◌, ◌≤◌, List, [], ◌∷◌, ◌++◌, length, take, drop, set, get_or, Option, Some, None, slice_get, IsSomeAnd, refl, sym, ap, ap₂, subst, ◌∙◌, arith}
 use Rattle.std.proofs.Math.Nat.{suc-mul}
 use Rattle.std.proofs.lemmas.List.{drop-drop}
@@ -61,7 +61,7 @@ thread_slots n (y ∷ nodes) slots (suc k) x lt =
     let further : n + k * n ≡ suc k * n = omega (arith, suc-mul k n) in
     thread_slots n nodes (drop n slots) k x (omega (arith, lt)) ∙ ap (λ xs. take n xs) (drop-drop (k * n) n slots ∙ ap (λ j. drop j slots) further)
 
--- the slots of a thread end where there still are some
+-- the slots of a thread are inside the list
 pub thread_room : (k n len : ℕ) → k < len → k * n + n ≤ len * n
 thread_room k n zero lt = absurd (omega (arith, lt))
 thread_room zero n (suc len) lt = omega (arith, suc-mul len n)
@@ -72,7 +72,7 @@ more_slots len n slots own e f =
     let more : len + 1 ≡ suc len = omega arith in
     omega (arith, e, f, suc-mul len n) ∙ ap (λ m. m * n) (sym more)
 
--- a slot that is noted and put back is as it was
+-- a slot that is written and restored is unchanged
 pub put_back : (slots : Slots) (slot : ℕ) (old new : Option ℕ) → slice_get slots slot ≡ Some old → set (set slots slot new) slot old ≡ slots
 put_back [] slot old new e = absurd (cc e)
 put_back (x ∷ slots) zero old new e = ap (λ y. y ∷ slots) (was e)
@@ -98,7 +98,7 @@ bare_threads (q ∷ nodes) slots = (refl, bare_threads nodes slots)
 pub none_has_slots : (n : ℕ) (nodes : List (ℕ × ℕ)) (slots : Slots) → n ≡ 0 → AreBare (threads_of n nodes slots)
 none_has_slots n nodes slots e = subst (λ k. AreBare (threads_of k nodes slots)) (sym e) (bare_threads nodes slots)
 
--- threads from one on
+-- no threads after the last
 pub none_after : (xs : List Thread) (n : ℕ) → length xs ≤ n → drop n xs ≡ []
 none_after [] zero le = refl
 none_after [] (suc n) le = refl
@@ -110,11 +110,11 @@ one_left [] n x d lt e = absurd (omega (arith, lt))
 one_left (y ∷ xs) zero x d lt e = ap (λ z. z ∷ xs) e
 one_left (y ∷ xs) (suc n) x d lt e = one_left xs n x d (omega (arith, lt)) e
 
--- a thread by its slots and its node
+-- a thread from its slots and its node
 this : (x d : Thread) (slots : Slots) (q : ℕ × ℕ) → slots ≡ x.0 → q ≡ x.1 → x ≡ (slots, q)
 this x d slots q e f = sym (ap₂ (λ s r. (s, r)) e f)
 
--- what is known of the thread at an index, of its slots and of its node
+-- the slots and the node of the thread at an index
 slots_of : (xs : List Thread) (n : ℕ) (slots : Slots) → n < length xs → IsSomeAnd (slice_get xs n) (λ t. slots ≡ t.0) → (d : Thread) → slots ≡ (get_or xs n d).0
 slots_of xs n slots lt h d = subst (λ o. IsSomeAnd o (λ t. slots ≡ t.0)) (slice_get-get_or xs n d lt) h
 
@@ -131,7 +131,7 @@ has_node xs n q lt e =
     let d : Thread = ([], q) in
     subst (λ o. IsSomeAnd o (λ t. q ≡ t.1)) (sym (slice_get-get_or xs n d lt)) (e d)
 
--- the first of the threads from one on
+-- the first of the threads from an index on
 pub first_after : (xs : List Thread) (n : ℕ) (slots : Slots) (q : ℕ × ℕ) → n < length xs → IsSomeAnd (slice_get xs n) (λ t. slots ≡ t.0) → IsSomeAnd (slice_get xs n) (λ t. q ≡ t.1)
     → drop n xs ≡ (slots, q) ∷ drop (n + 1) xs
 first_after xs n slots q lt e f =

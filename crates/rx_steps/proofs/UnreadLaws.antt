@@ -1,4 +1,5 @@
--- A step of threads without slots meets the same end where the next byte isn't read, and leaves no thread.
+-- A step of threads without slots meets the same match end if the next byte isn't read, and leaves
+-- no thread.
 use Rattle.std.proofs.Common.{◌≡◌, ℕ, Bool, true, false, List, [], ◌∷◌, ◌++◌, map, Option, Some, None, slice_get, refl, sym, ap, subst, ◌∙◌}
 use Rattle.rx_program.specs.declared.states.State.{State}
 use Rattle.rx_program.specs.declared.states.State.TheVariants as state
@@ -18,9 +19,9 @@ use Rattle.rx_steps.specs.Unread.{EndsAreMetUnread}
 use Rattle.rx_steps.proofs.PlaceLaws.{moves_at_place}
 use Rattle.rx_steps.proofs.AlikeLaws.{SlotMachine, none_noted, bare_end, bare_map, sample, is_sample, end_is}
 
--- ---- moves where no byte is read
+-- ---- moves without a byte to read
 
--- a move as it is where no byte is read
+-- a move as it is without a byte to read
 abbrev pub Stopped : Move (ℕ × ℕ) → Move (ℕ × ℕ) → Type 0
 Stopped (ends k) x = x ≡ ends k
 Stopped (goes rs) x = x ≡ goes rs
@@ -48,7 +49,8 @@ move_stopped place i j q (state.Union alternates) = refl
 move_stopped place i j q (state.Capture slot r) = refl
 move_stopped place i j q (state.Match k) = refl
 
--- the second machine goes on as the first, but reads nothing; both note nothing where there is no slot
+-- the second machine makes the moves of the first, but reads nothing; both write nothing without
+-- slots
 record GoStopped (m : SlotMachine) (i : ℕ) (m' : SlotMachine) (j : ℕ) : Type 0 where
   moves : (q : ℕ × ℕ) → Stopped (m.move i q) (m'.move j q)
   notes : (q : ℕ × ℕ) → m.note i q [] ≡ []

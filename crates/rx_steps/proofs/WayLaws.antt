@@ -1,4 +1,5 @@
--- One place of a search: all slots stay as many, and no thread lives past the last place.
+-- One offset of a search: the number of slots stays, and no thread is left after the highest
+-- offset.
 use Rattle.std.proofs.Common.{inl, inr, ◌≡◌, ℕ, ◌+◌, ◌≤◌, ◌<◌, Bool, true, false, All, List, [], ◌∷◌, ◌++◌, length, map, take, drop, Option, Some, None, slice_get, refl, sym, ap, subst, ◌∙◌, arith}
 use Rattle.std.proofs.lemmas.List.{length-set, length-take, length-replicate}
 use Rattle.std.proofs.lemmas.List.Elements.{All-append, All-cons, All-nil}
@@ -18,7 +19,7 @@ use Rattle.rx_steps.specs.Coming.{course_of, HasSlots, machine_in, HasCome, HasS
 use Rattle.rx_steps.proofs.ComeLaws.{passed_with_start, passed_on, none_read}
 use Rattle.rx_steps.proofs.StandLaws.{first_of, rest_of, pattern_after, reached_later, reached_on, started_reached}
 
--- ---- slots stay as many
+-- ---- the number of slots stays
 
 note_len : {L S : Type 0} (i : ℕ) (o : Option (Node L S)) (n : Slots) → length (note_at note_slot i o n) ≡ length n
 note_len i None n = refl
@@ -32,7 +33,7 @@ all_noted : (len : ℕ) (n : Slots) (rs : List (ℕ × ℕ)) → length n ≡ le
 all_noted len n [] e = All-nil (HasSlots len)
 all_noted len n (r ∷ rs) e = All-cons (HasSlots len) (n, r) (map (λ r. (n, r)) rs) e (all_noted len n rs e)
 
--- what was met has so many slots
+-- a match end has `len` slots
 abbrev EndHas : ℕ → Option (Outcome Slots) → Type 0
 EndHas len None = Unit {0}
 EndHas len (Some t) = length t.notes ≡ len
@@ -50,7 +51,7 @@ slots_stay p h i len (read {n = n} {q = q} {others = others} {next = next} r new
     let on = slots_stay p h i len rest (rest_of (HasSlots len) (n, q) others all) in
     (All-cons (HasSlots len) (n, r) next (first_of (HasSlots len) (n, q) others all) on.0, on.1)
 
--- ---- no thread lives past the last place
+-- ---- no thread is left after the highest offset
 
 only_goes : (b : Bool) (rs : List (ℕ × ℕ)) (r : ℕ × ℕ) (j : ℕ) → only_if b (goes rs) ≡ reads r j → ⊥
 only_goes true rs r j e = absurd (cc e)
@@ -82,9 +83,9 @@ ends_there p s i inside steps past =
     let le : highest s ≤ i = omega (arith, past) in
     none_read (λ q r. none_within (is_within h.low h.high i) (automata_of p) h i (i + 1) q r (slice_get (character_program p).nodes q.0) (nothing_left s.content (highest s) i le)) steps
 
--- ---- a place is passed
+-- ---- one offset
 
--- the slots of the end that was met last
+-- the slots of the last match end
 abbrev pub slots_after : Option ℕ → Slots → Slots → Slots
 slots_after None noted slots = slots
 slots_after (Some k) noted slots = noted
@@ -101,7 +102,7 @@ alone : (a : Option (Outcome Slots)) → either a None ≡ a
 alone None = refl
 alone (Some t) = refl
 
--- the threads of which a step is made have so many slots
+-- the threads of a step have `len` slots
 all_started : (s : Search) (q i len : ℕ) (pattern : Option ℕ) (live : ThreadListView) (threads : List Thread) → live.slot_len ≡ len → HasStarted s q i pattern live threads
     → All (HasSlots len) live.threads → All (HasSlots len) threads
 all_started s q i len pattern live threads e (inl begun) all =
@@ -158,7 +159,7 @@ way_passed p s q i live threads next pattern slots (Some k) noted inside e start
       reached = reached_later (machine_in p s) s q i (i + 1) (i + 1) next (omega arith) (reached_on (machine_in p s) s q i i steps (started_reached (machine_in p s) s q i pattern live threads started way.reached));
     }
 
--- the slots of an end are as many
+-- the slots of a match end are as many
 pub noted_len : (p : ByteProgram) (s : Search) (q i : ℕ) (live : ThreadListView) (threads next : List Thread) (pattern : Option ℕ) (slots : Slots) (k : ℕ) (noted : Slots)
     → live.slot_len ≡ length slots → HasStarted s q i pattern live threads → Steps (machine_in p s) i [] threads next (met_at i (Some k) noted) → All (HasSlots (length slots)) live.threads → length slots ≡ length noted
 noted_len p s q i live threads next pattern slots k noted e started steps all =

@@ -1,5 +1,5 @@
--- Steps back that come to the same: at places that are alike, where the byte isn't taken, and of
--- walks of which some were left out.
+-- Backward steps that are the same: at positions that are alike, if the byte isn't read, and with
+-- threads left out.
 use Rattle.std.specs.Prelude.{ℕ, List, [], Option, None}
 use Rattle.rx_walks.specs.Steps.{Thins}
 use Rattle.rx_program.specs.Programs.{ByteProgram}
@@ -9,19 +9,19 @@ use Rattle.rx_steps.specs.ListsAll.{nodes_of}
 use Rattle.rx_steps.specs.Reversed.{IsNextListBack}
 use Rattle.rx_steps.specs.Threads.{Thread}
 
--- the step back that is made at one place is the step at each place that is alike
+-- a backward step is the same at all positions that are alike
 abbrev pub StepsBackAreAlike : ByteProgram → Type 0
 StepsBackAreAlike p = (place other : Place) (nodes next : List (ℕ × ℕ)) (met : Option ℕ)
     → AreAlike p place other → IsNextListBack p place nodes next met
     → IsNextListBack p other nodes next met
 
--- it meets the same starts where the byte isn't taken, and leaves no walk
+-- it meets the same match start if the byte isn't read, and leaves no thread
 abbrev pub StartsAreMetUnread : ByteProgram → Type 0
 StartsAreMetUnread p = (place : Place) (nodes next : List (ℕ × ℕ)) (met : Option ℕ)
     → IsNextListBack p place nodes next met
     → IsNextListBack p (record place { byte = None }) nodes [] met
 
--- walks at nodes at which one stood before come to nothing more
+-- it needs only the first of several threads at the same node
 abbrev pub StepsBackAreThinned : ByteProgram → Type 0
 StepsBackAreThinned p = (place : Place) (threads thin : List Thread) (next : List (ℕ × ℕ))
     (met : Option ℕ) → Thins [] threads thin → IsNextListBack p place (nodes_of thin) next met

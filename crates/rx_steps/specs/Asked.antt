@@ -1,4 +1,4 @@
--- Which looks a program asks for.
+-- Which look-around assertions a program contains.
 use Rattle.std.specs.Prelude.{Bool, true, false, List, IsTrue}
 use Rattle.rx_walks.specs.Looks as walks
 use Rattle.rx_walks.specs.Looks.{start_line, end_line}
@@ -10,17 +10,17 @@ use Rattle.rx_steps.specs.Lists.{Asks}
 abbrev pub is_look : walks.Look → Bool
 is_look l = true
 
--- those of lines; those of words are the ones that ask for characters
+-- a line assertion; the word assertions are those that ask for characters
 abbrev pub is_of_lines : walks.Look → Bool
 is_of_lines start_line = true
 is_of_lines end_line = true
 is_of_lines _ = false
 
--- some state asks for a look of this kind
+-- some state is an assertion of this kind
 abbrev pub AsksSome : List State → (walks.Look → Bool) → Type 0
 AsksSome states kind = (l : walks.Look) × IsTrue (kind l) × Asks states l
 
--- whether this state does
+-- whether this state is one
 abbrev pub asks_for : (walks.Look → Bool) → State → Bool
 asks_for kind (state.Look asked next) = kind (place_of asked)
 asks_for kind _ = false

@@ -1,4 +1,4 @@
--- How far a search has come that reads backwards.
+-- How far a backward search has got.
 use Rattle.std.specs.Prelude.{◌≡◌, ℕ, ◌+◌, ◌-◌, ◌<◌, ◌≤◌, ◌⊎◌, Bool, false, List, [], length, Option, None, option_map, slice_get, cond, nat_lt}
 use Rattle.rx_util.specs.Search.{HalfFound}
 use Rattle.rx_walks.specs.Backward.{IsToldBack, mirrored_search}
@@ -18,31 +18,30 @@ use Rattle.rx_steps.specs.Reversed.{byte_program_of}
 use Rattle.rx_steps.specs.ListsAll.{IsStepAll, Started, byte_machine, end_met_by, started_at}
 use Rattle.rx_steps.specs.Searching.{haystack_in}
 
--- the machine of a program turned round, over the content turned round
+-- the machine of a reverse program over the reversed haystack
 abbrev pub back_machine_in : ByteProgram → Search → Machine (ℕ × ℕ) Notes
 back_machine_in p s = byte_machine p (mirrored (haystack_in p.line_terminator s))
 
--- the place that a place is in the content turned round
+-- an offset's counterpart in the reversed haystack
 abbrev pub mirror_of : Search → ℕ → ℕ
 mirror_of s i = length s.content - i
 
--- the byte before a place that a walk back may take
+-- the byte before an offset that a backward step may read
 abbrev pub byte_taken_back : Search → ℕ → Option ℕ
 byte_taken_back s i = cond (nat_lt (lowest s) i) (slice_get s.content (i - 1)) None
 
--- a search goes back from a place to the one before it; at the first place inside, and before that,
--- it stays where it is
+-- a step moves a search to the offset before; at the lowest offset, or below it, the search stays
 abbrev pub HasSteppedBack : Search → ℕ → ℕ → Type 0
 HasSteppedBack s i j = ((lowest s < i) × (j + 1 ≡ i)) ⊎ ((i ≤ lowest s) × (j ≡ i))
 
--- the step of walks back at a place, which all began at the span's end, or at the content's where
--- that comes first
+-- the backward step of threads that started at the end of the span, or of the haystack if that is
+-- less
 abbrev pub IsStepBack : ByteProgram → Search → ℕ → List (ℕ × ℕ) → List (ℕ × ℕ) → Option ℕ → Type 0
 IsStepBack p s i nodes next met =
     IsStepAll (back_machine_in p s) (mirror_of s i) (started_at (mirror_of s s.end) nodes)
     (started_at (mirror_of s s.end) next) (end_met_by (mirror_of s s.end) met)
 
--- a match that began so, as one of the content turned round
+-- a match that ends there, as one of the reversed haystack
 abbrev pub mirror_match : Search → HalfFound → PatternMatch
 mirror_match s met = record {
   start = mirror_of s s.end;
@@ -50,14 +49,14 @@ mirror_match s met = record {
   end = mirror_of s met.offset;
 }
 
--- a search is over, from a start node: the best match that was met
+-- a search from a start state is over, with this best match
 abbrev pub IsOverBack : ByteProgram → Search → ℕ → Option HalfFound → Type 0
 IsOverBack p s q best =
     SearchesAll (back_machine_in p s) (MayBegin (mirrored_search s)) (q, 0) (mirror_of s s.end) []
     None (option_map (mirror_match s) best)
 
--- a search has come back to a place with walks at these nodes, and this is the best match that was
--- met: what it comes to by a step from there, and then on, is what it comes to at all
+-- a search has reached an offset with threads at these nodes and this best match: the step there,
+-- and the search continued after it, give the result of the whole search
 abbrev pub HasComeBack : ByteProgram → Search → ℕ → ℕ → List (ℕ × ℕ) → Option HalfFound → Type 0
 HasComeBack p s q i nodes best =
     (next : List Started) (ends : List (ℕ × ℕ)) (after out : Option PatternMatch)
@@ -70,23 +69,23 @@ HasComeBack p s q i nodes best =
     → SearchesAll (back_machine_in p s) (MayBegin (mirrored_search s)) (q, 0) (mirror_of s s.end) []
     None out
 
--- how many nodes each state is of the program turned round that a cache was made for, and whether
--- that asks for looks
+-- a cache of backward searches: the number of nodes of each state of its reverse program, and
+-- whether that has assertions
 pub record ReverseCacheView : Type 0 where
   pub widths : List ℕ
   pub asks_looks : Bool
 
--- they are those of this program turned round: where no look is asked for, no state asks for one
+-- they are those of this reverse program: without the flag it has no assertion
 pub record AreOfReverse (turned : ReverseByteProgram) (widths : List ℕ) (asks_looks : Bool)
     : Type 0 where
   pub widths_are : widths ≡ widths_of (byte_program_of turned)
   pub looks : asks_looks ≡ false → (l : walks.Look) → Asks (byte_program_of turned).states l → ⊥
 
--- a cache made for a program turned round
+-- a cache for backward searches with a reverse program
 abbrev pub IsReverseCacheOf : ReverseByteProgram → ReverseCacheView → Type 0
 IsReverseCacheOf turned cache = AreOfReverse turned cache.widths cache.asks_looks
 
--- what is told of the best match that was met, if one was: an empty one only where it may stand
+-- the match to report: the best one, unless it is empty and may not be there
 pub record IsHalfToldBack (s : Search) (best answer : Option HalfFound) : Type 0 where
   pub found : Option PatternMatch
   pub is : answer ≡ option_map (λ a. record { pattern = a.pattern; offset = a.start }) found

@@ -1,4 +1,4 @@
--- Bytes before which no match begins.
+-- Bytes at which no match begins.
 use Rattle.std.specs.Prelude.{◌≡◌, ℕ, ◌<◌, ◌≤◌, ◌⊎◌, Bool, true, false, List, [], ◌∷◌, length, Option, Some, slice_get}
 use Rattle.std.specs.Option.{is_some}
 use Rattle.rx_walks.specs.Looks as walks
@@ -9,22 +9,22 @@ use Rattle.rx_program.specs.Programs.{ByteProgram}
 use Rattle.rx_steps.specs.Threads.{Slots, Thread, first_node}
 use Rattle.rx_steps.specs.Lists.{slot_machine}
 
--- a byte is a member, in a list that tells so of each byte
+-- a byte is a member, in a list with a flag for each byte
 abbrev pub Knows : List Bool → ℕ → Type 0
 Knows idle b = slice_get idle b ≡ Some true
 
--- this byte is passed over: it is a member, or it continues a character and no match may begin
--- inside one
+-- this byte can be skipped: it is a member, or a continuation byte and no match may begin inside a
+-- character
 abbrev pub IsPassed : List Bool → Bool → ℕ → Type 0
 IsPassed idle utf8_empty b = Knows idle b ⊎ ((utf8_empty ≡ true) × (128 ≤ b) × (b < 192))
 
--- the byte at this place is one that is passed over
+-- the byte at this offset can be skipped
 abbrev pub IsPassedAt : List Bool → Bool → List ℕ → ℕ → Type 0
 IsPassedAt idle utf8_empty bytes k =
     (b : ℕ) × (slice_get bytes k ≡ Some b) × IsPassed idle utf8_empty b
 
--- wherever this byte is the next one, a walk from the program's start comes to nothing: a step of it
--- meets no end, and reads nothing
+-- before this byte, a thread from the program's start leads nowhere: its step meets no match end
+-- and reads nothing
 abbrev pub IsIdle : ByteProgram → ℕ → Type 0
 IsIdle p b = (h : Haystack walks.Look) (i : ℕ) (slots : Slots) (next : List Thread)
     (ended : Option (Outcome Slots)) → is_within h.low h.high i ≡ true

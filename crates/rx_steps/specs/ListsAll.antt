@@ -1,5 +1,5 @@
--- The step from the nodes at a place to those at the next one where no end of a match cuts it: all
--- walks go on, each with the place at which it began.
+-- The step for all matches, from the nodes at an offset to those at the next one: no match end
+-- stops other threads, and each has the offset at which it started.
 use Rattle.std.specs.Prelude.{◌≡◌, ℕ, ◌≤◌, List, [], ◌++◌, map, Option, Some, None, option_map, slice_get}
 use Rattle.rx_program.specs.declared.states.State.{State}
 use Rattle.rx_program.specs.Programs.{ByteProgram, character_program, automata_of}
@@ -14,46 +14,47 @@ use Rattle.rx_steps.specs.Nodes.{widths_of, IsNodeIn}
 use Rattle.rx_steps.specs.Threads.{Thread}
 use Rattle.rx_steps.specs.Lists.{IsPlace, Tells, move_at}
 
--- where a walk began, and the node at which it stands
+-- the offset at which a thread started, and its node
 abbrev pub Started : Type 0
 Started = ℕ × (ℕ × ℕ)
 
--- a walk at a node of a program
+-- a thread at a node of a program
 abbrev pub IsStartedOf : List State → Started → Type 0
 IsStartedOf states thread = IsNodeIn states thread.1
 
--- walks at these nodes that began at one place, and the ends of these patterns' matches that did
+-- threads at these nodes that started at one offset, and the match ends of these patterns that did
 abbrev pub started_at : ℕ → List (ℕ × ℕ) → List Started
 started_at s nodes = map (λ q. (s, q)) nodes
 
 abbrev pub ended_from : ℕ → List ℕ → List (ℕ × ℕ)
 ended_from s patterns = map (λ k. (s, k)) patterns
 
--- the machine of a program's bytes
+-- the machine of a program over bytes
 abbrev pub byte_machine : ByteProgram → Haystack walks.Look → Machine (ℕ × ℕ) Notes
 byte_machine p h = over_bytes put_note (automata_of p) (character_program p).nodes h
 
--- of two ends at one place the first has the lesser start, or else the lesser pattern; or the same
+-- of two match ends at one offset the first has the lesser start, or else the lesser pattern, or it
+-- is the same
 pub record IsNoWorse (one other : MetEnd) : Type 0 where
   pub by_start : one.start ≤ other.start
   pub by_pattern : one.start ≡ other.start → one.pattern ≤ other.pattern
 
--- of the ends that are met, each as its start and its pattern, the one of the least start, then of
--- the least pattern; none where none is met
+-- of the match ends, each a start and a pattern, the one with the least start, then the least
+-- pattern; none if there is none
 abbrev pub IsBestMet : List (ℕ × ℕ) → Option MetEnd → Type 0
 IsBestMet ends None = (s k : ℕ) → Met s k ends → ⊥
 IsBestMet ends (Some best) = Met best.start best.pattern ends
     × ((s k : ℕ) → Met s k ends → IsNoWorse best (record { start = s; pattern = k }))
 
--- a step of all walks: from these threads it gives those, and of the ends that it meets it tells
--- the best
+-- a step for all matches: from some threads it gives others, and the best of the match ends that it
+-- meets
 pub record IsStepAll {N : Type 0} (m : Machine (ℕ × ℕ) N) (i : ℕ) (threads next : List Started)
     (met : Option MetEnd) : Type 0 where
   pub ends : List (ℕ × ℕ)
   pub steps : StepsAll m i [] threads next ends
   pub best : IsBestMet ends met
 
--- so it is at this place, in whatever content
+-- that step at this position, in any haystack
 abbrev pub IsNextListAll : ByteProgram → Place → List Started → List Started → Option MetEnd
     → Type 0
 IsNextListAll p place threads next met =
@@ -62,7 +63,7 @@ IsNextListAll p place threads next met =
 
 -- ---- inside a step
 
--- the end of this pattern's match that began at a place, if there is one
+-- this pattern's match end with this start, if there is one
 abbrev pub end_met_by : ℕ → Option ℕ → Option MetEnd
 end_met_by start pattern = option_map (λ k. record { start = start; pattern = k }) pattern
 
@@ -70,15 +71,15 @@ end_met_by start pattern = option_map (λ k. record { start = start; pattern = k
 abbrev pub nodes_of : List Thread → List (ℕ × ℕ)
 nodes_of threads = map (λ t. t.1) threads
 
--- a machine makes these moves at a place
+-- a machine makes these moves at a position
 pub record MovesSo {N : Type 0} (m : Machine (ℕ × ℕ) N) (i : ℕ) (states : List State)
     (place : Place) : Type 0 where
   pub at_state : (q : ℕ × ℕ) (x : State) → slice_get states q.0 ≡ Some x
       → m.move i q ≡ move_at place i q x
   pub elsewhere : (q : ℕ × ℕ) → slice_get states q.0 ≡ None → m.move i q ≡ goes []
 
--- a step of all walks that is not done yet, from these threads: what was seen, what is left, what
--- was put out, and the ends that were met
+-- a step for all matches from these threads is under way: what was seen, what is left, what was put
+-- into the next list, and the match ends
 pub record AreUnderWayAll {N : Type 0} (m : Machine (ℕ × ℕ) N) (i : ℕ) (threads : List Started)
     (widths ids : List ℕ) (left out : List Started) (ends : List (ℕ × ℕ)) : Type 0 where
   pub seen : List (ℕ × ℕ)
@@ -86,9 +87,9 @@ pub record AreUnderWayAll {N : Type 0} (m : Machine (ℕ × ℕ) N) (i : ℕ) (t
   pub so_far : (next : List Started) (more : List (ℕ × ℕ)) → StepsAll m i seen left next more
       → StepsAll m i [] threads (out ++ next) (ends ++ more)
 
--- Nodes are followed: from those left, which all walks of one start have come to, to those left
--- then. Reached are those put out for the next place, and these patterns' matches ended, of which
--- one is told.
+-- Nodes are followed, which threads with one start have reached, until others are left: `reached`
+-- went into the next list, and the matches of the patterns `ended` ended, of which the best is
+-- reported.
 pub record FollowsAll (p : ByteProgram) (place : Place) (start : ℕ) (left left' : List (ℕ × ℕ))
     (ids ids' : List ℕ) (next next' : List Thread) (met : Option MetEnd) : Type 0 where
   pub reached : List (ℕ × ℕ)

@@ -1,5 +1,5 @@
--- Searches that read backwards: by a program turned round, whose walks are followed from where they
--- end to where they start.
+-- Backward searches with a reverse program, whose walks go from the ends of matches to their
+-- starts.
 use Rattle.std.specs.Prelude.{◌≡◌, ℕ, false, IsTrue, List, map, Option, option_map}
 use Rattle.unicode.specs.Perl.{is_word_char}
 use Rattle.rx_util.specs.Search.{HalfFound}
@@ -24,21 +24,21 @@ use Rattle.rx_steps.specs.ListsAll.{IsStepAll, MovesSo, end_met_by, started_at}
 
 -- ---- what is found
 
--- what a search answers that reads backwards from the end of the span, or of the content where that
--- comes first: of the matches that end there the least start, and the least pattern with it
+-- the result of a search backward from the end of the span, or of the haystack if that is less: of
+-- the matches that end there the least start, with the least pattern for it
 pub record IsHalfAnswerBack (p : ByteProgram) (s : Search) (met : Option HalfFound) : Type 0 where
   pub found : Option PatternMatch
   pub finds : ProgramFindsBack is_in is_word_char (character_program p) s found
   pub met_is : met ≡ option_map (λ a. record { pattern = a.pattern; offset = a.start }) found
 
--- why it answers nothing: it is anchored and there was no memory, or it isn't anchored
+-- why it fails: it is anchored and out of memory, or it isn't anchored
 abbrev pub IsRefusalBack : Search → MatchError → Type 0
 IsRefusalBack s error.Memory = IsTrue (is_anchored s.anchoring)
 IsRefusalBack s (error.UnsupportedAnchored mode) =
     (mode ≡ No) × (is_anchored s.anchoring ≡ false)
 IsRefusalBack s _ = ⊥
 
--- this is a program turned round, whose walks stay with their pattern
+-- this is the reverse of a program, whose walks stay in their pattern
 pub record IsReverseOf (p : ByteProgram) (turned : ReverseByteProgram) : Type 0 where
   pub characters : back_characters_of turned ≡ back_program (character_program p)
   pub above : IsAbovePatterns (character_program p)
@@ -46,8 +46,8 @@ pub record IsReverseOf (p : ByteProgram) (turned : ReverseByteProgram) : Type 0 
 
 -- ---- its steps
 
--- a state of a program turned round, as one of a program: it does the same, with bytes that are
--- given from the last one back
+-- a state of a reverse program as one of a program: it does the same, with bytes given from the
+-- last to the first
 abbrev pub state_of : ReverseState → State
 state_of (back.Ranges automaton next) = state.Ranges automaton next
 state_of (back.Look asked next) = state.Look asked next
@@ -56,7 +56,7 @@ state_of (back.BinaryUnion first second) = state.BinaryUnion first second
 state_of (back.Union alternates) = state.Union alternates
 state_of (back.Match pattern) = state.Match pattern
 
--- the whole program so
+-- the whole program in that form
 abbrev pub byte_program_of : ReverseByteProgram → ByteProgram
 byte_program_of turned = record {
   states = map state_of turned.states;
@@ -65,9 +65,9 @@ byte_program_of turned = record {
   line_terminator = turned.line_terminator;
 }
 
--- where walks that began at one place stand at these nodes they stand at those at the next place,
--- whatever content it is and wherever, if the program's moves are these; and of the ends of matches
--- that are met this is the least pattern
+-- a step takes threads that started at one offset from these nodes to others, in any haystack in
+-- which the program makes these moves; and of the match ends that it meets this is the least
+-- pattern
 abbrev pub IsNextListBack : ByteProgram → Place → List (ℕ × ℕ) → List (ℕ × ℕ) → Option ℕ → Type 0
 IsNextListBack p place nodes next met =
     (m : Machine (ℕ × ℕ) Notes) (i start : ℕ) → MovesSo m i p.states place

@@ -18,7 +18,7 @@ anchoring_of No = unanchored
 anchoring_of Yes = anchored
 anchoring_of (Pattern k) = anchored_pattern k
 
--- with a program that passes over empty matches inside a character, or doesn't
+-- with a program that skips empty matches inside a character, or doesn't
 abbrev pub search_of : Bool → InputState → Search
 search_of utf8_empty i = record {
   content = i.cursor.content;
@@ -30,11 +30,11 @@ search_of utf8_empty i = record {
   utf8_empty = utf8_empty;
 }
 
--- where walks may stand in a search, and which looks hold
+-- the offsets that walks can reach in a search, and the assertions that hold at them
 abbrev pub haystack_in : ℕ → Search → Haystack walks.Look
 haystack_in terminator s = haystack_of (holds_in is_word_char terminator s) s
 
--- what a walk noted, in so many slots from one on
+-- what a walk noted, in `len` slots from `first` on
 abbrev pub slots_from : ℕ → ℕ → Notes → Slots
 slots_from first zero n = []
 slots_from first (suc len) n = slot_of n first ∷ slots_from (suc first) len n
@@ -43,8 +43,7 @@ abbrev pub answer_slots : ℕ → Option (Outcome Notes) → Slots
 answer_slots len None = no_slots len
 answer_slots len (Some t) = slots_from 0 len t.notes
 
--- what a search answers: the pattern that the program finds, and its slots, as many as are asked
--- for
+-- the result of a search: the pattern that the program finds, and its slots, as many as requested
 pub record IsAnswer (p : ByteProgram) (s : Search) (pattern : Option ℕ) (slots : Slots)
     : Type 0 where
   pub found : Option (Outcome Notes)
@@ -52,8 +51,7 @@ pub record IsAnswer (p : ByteProgram) (s : Search) (pattern : Option ℕ) (slots
   pub pattern_is : pattern ≡ option_map (λ t. t.pattern) found
   pub slots_are : slots ≡ answer_slots (length slots) found
 
--- the first end of a match in a search: something is found up to this place, and nothing up to one
--- before it
+-- the first match end in a search: there is a match up to this offset, and none up to one before it
 pub record IsFirstEnd (p : ByteProgram) (s : Search) (end : ℕ) : Type 0 where
   pub in_span : end ≤ s.end
   pub found : Outcome Notes
@@ -61,8 +59,8 @@ pub record IsFirstEnd (p : ByteProgram) (s : Search) (end : ℕ) : Type 0 where
   pub none_before : (i : ℕ) → i < end
       → ProgramFinds is_in is_word_char (character_program p) (up_to_place s i) None
 
--- what a search answers that stands at a place then: what the program finds; or, if any match will
--- do and there is one, what it finds up to this place, which is the first end of a match
+-- the result of a search that stops at an offset: what the program finds; or, if any match may be
+-- reported and there is one, what it finds up to this offset, which is the first match end
 abbrev pub IsAnswerAt : Bool → ByteProgram → Search → ℕ → Option ℕ → Slots → Type 0
 IsAnswerAt false p s end pattern slots = IsAnswer p s pattern slots
 IsAnswerAt true p s end None slots = IsAnswer p s None slots

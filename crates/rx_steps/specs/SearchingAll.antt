@@ -1,4 +1,4 @@
--- What a search for all matches answers.
+-- The result of a search for all matches.
 use Rattle.std.specs.Prelude.{◌≡◌, ℕ, Bool, true, false, Option, Some, None, option_map}
 use Rattle.unicode.specs.Perl.{is_word_char}
 use Rattle.rx_util.specs.Search.{Found}
@@ -13,13 +13,13 @@ abbrev pub pattern_match : Found → PatternMatch
 pattern_match found =
     record { start = found.span.start; pattern = found.pattern; end = found.span.end }
 
--- what a program finds where all matches are wanted
+-- what a program finds among all matches
 abbrev pub IsAnswerAll : ByteProgram → Search → Option Found → Type 0
 IsAnswerAll p s found =
     ProgramFindsAll is_in is_word_char (character_program p) s (option_map pattern_match found)
 
--- what a search answers that stands at a place then: what the program finds; or, if any match will
--- do and there is one, what it finds up to this place, which is the first end of a match
+-- the result of a search that stops at an offset: what the program finds; or, if any match may be
+-- reported and there is one, what it finds up to this offset, which is the first match end
 abbrev pub IsAnswerAllAt : Bool → ByteProgram → Search → ℕ → Option Found → Type 0
 IsAnswerAllAt false p s end found = IsAnswerAll p s found
 IsAnswerAllAt true p s end None = IsAnswerAll p s None

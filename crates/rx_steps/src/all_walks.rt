@@ -1,4 +1,4 @@
-//! The loop over the places of a content where all matches are wanted.
+//! The search loop for all matches.
 
 ghost use Rattle.std.specs.Prelude.{ℕ, Bool, ◌≡◌, ◌+◌, ◌*◌, ◌<◌, ◌≤◌, [], ◌∷◌, Some, None, true, false, All, IsTrue, IfOk, IfErr, IfSome, OnOk, max};
 ghost use Rattle.rx_util.specs.declared.search.MatchError.{MatchError};
@@ -27,7 +27,7 @@ use rx_util::{Anchored, Match, MatchError, Span, StateID};
 use std::alloc::{AllocError, Global};
 use std::mem::{self, size_of};
 
-/// Whether there is one walk alone, at a program's start.
+/// Returns whether the only thread is one at the program's start.
 fn is_fresh(program: &Program, threads: &[StartedNode]) -> bool
     ensures { result ≡ true → (start : ℕ)
         × (threads.now ≡ (start, first_node program.now.start) ∷ []) }
@@ -38,20 +38,19 @@ fn is_fresh(program: &Program, threads: &[StartedNode]) -> bool
     }
 }
 
-/// Walks of a search for all matches that are followed side by side, from place to place. What a
-/// step needs they take from the walks of other searches of the same program.
+/// The threads of a search for all matches. The other parts of a step are those of `Walks`.
 #[derive(Debug, Drop)]
 pub(crate) struct AllWalks {
-    // Those at the place, the one first that began first.
+    // The threads at the current offset, in the order in which they started.
     live: Vec<StartedNode>,
-    // Room for those at the next place.
+    // Room for those at the next offset.
     next: Vec<StartedNode>,
-    // The best match whose end was met.
+    // The best match so far.
     best: Option<Match>,
 }
 
 impl AllWalks {
-    /// None yet.
+    /// Returns this without threads.
     pub(crate) fn new(alloc: Global) -> AllWalks {
         AllWalks {
             live: Vec::new(alloc),
@@ -60,7 +59,7 @@ impl AllWalks {
         }
     }
 
-    /// About how many bytes their lists take.
+    /// Returns the approximate number of bytes of the lists.
     pub(crate) fn memory_usage(&self) -> usize {
         self.live
             .capacity()
@@ -68,7 +67,7 @@ impl AllWalks {
             .saturating_mul(size_of::<StartedNode>())
     }
 
-    /// Starts a walk where an input stands, after the others, if a match may begin there.
+    /// Starts a thread at the input's position, after the others, if a match may begin there.
     fn start_walk<C: Cursor>(
         &mut self,
         input: &Input<C>,
@@ -87,8 +86,7 @@ impl AllWalks {
         Ok(())
     }
 
-    /// Whether a step of these walks was one of a walk alone, from a program's start, and came to
-    /// nothing.
+    /// Returns whether a step was one of a single thread at the program's start, and led nowhere.
     fn came_to_nothing(&self, program: &Program, has_ended: bool) -> bool
         ensures fresh { result ≡ true → (start : ℕ)
             × (self.now.live.items ≡ (start, first_node program.now.start) ∷ []) }
@@ -97,8 +95,7 @@ impl AllWalks {
         !has_ended && self.next.is_empty() && is_fresh(program, &self.live)
     }
 
-    /// The step from the place at which an input stands: the walks at the next place are those that
-    /// live then.
+    /// Makes the step from the input's position: the threads at the next offset become `live`.
     fn pass<C: Cursor>(
         &mut self,
         walks: &mut Walks,
@@ -125,7 +122,7 @@ impl AllWalks {
         let met = walks
             .stepper
             .next_list_all(program, &place, &self.live, &mut self.next)?;
-        // Where looks are asked for they may be why nothing came of it.
+        // With assertions in the program, these may be the reason that it led nowhere.
         if !walks.asks_looks && self.came_to_nothing(program, met.is_some()) {
             walks.idle.insert(place.byte);
         }
@@ -133,8 +130,8 @@ impl AllWalks {
         Ok(met)
     }
 
-    /// Visits the place at which an input stands: a walk starts there if a match may begin there;
-    /// and where an end is met, the best one is the answer, as its end is greater than each before.
+    /// Visits the input's position: starts a thread if a match may begin there, and makes the best
+    /// match that ends there the best so far, because its end is greater than each before.
     fn visit<C: Cursor>(
         &mut self,
         walks: &mut Walks,
@@ -182,7 +179,7 @@ impl AllWalks {
         Ok(())
     }
 
-    /// Whether no walk lives, and none will start at a further place.
+    /// Returns whether there is no thread, and none will start at a later offset.
     fn are_over(&self, anchored: Anchored) -> bool
         ensures live { result ≡ true → self.now.live.items ≡ [] }
         ensures starts { result ≡ true → IsTrue (is_anchored (anchoring_of anchored)) }
@@ -192,8 +189,8 @@ impl AllWalks {
         self.live.is_empty() && anchored.is_anchored()
     }
 
-    /// Moves an input to the next place inside its span, its slice and its content, if there is
-    /// one; while no walk lives, to the next one at which a match may begin.
+    /// Moves the input to the next offset inside span, slice and haystack, if there is one; without
+    /// threads, to the next one at which a match may begin.
     fn go_on<C: Cursor>(&self, idle: &IdleBytes, input: &mut Input<C>, utf8_empty: bool) -> bool
         ensures above { result ≡ true → input.old.position + 1 ≤ input.new.position }
         ensures inside { result ≡ true
@@ -215,9 +212,9 @@ impl AllWalks {
         true
     }
 
-    /// Follows the walks from a state, from the place at which an input stands on, which is the
-    /// first one inside: answers the match of the greatest end, then of the least start, then of
-    /// the least pattern. With `earliest` it stops at the first end of a match.
+    /// Follows threads from a start state, from the input's position on, which must be the first
+    /// one inside. Returns the match with the greatest end, then the least start, then the least
+    /// pattern. With `earliest` it stops at the first match end.
     pub(crate) fn follow<C: Cursor>(
         &mut self,
         walks: &mut Walks,

@@ -1,4 +1,4 @@
-//! Which looks a program asks for.
+//! Which look-around assertions a program contains.
 
 ghost use Rattle.std.specs.Prelude.{◌≡◌, ◌↔◌, ◌||◌, IsTrue, map};
 ghost use Rattle.rx_walks.specs.Looks.{asks_characters};
@@ -9,18 +9,18 @@ ghost use Rattle.rx_steps.specs.Reversed.{state_of};
 use rx_grammar::Look;
 use rx_program::{ReverseState, State};
 
-/// Which kinds of looks a program asks for.
+/// The kinds of look-around assertions that a program contains.
 #[derive(Clone, Copy, Debug, Default, PartialEq, Eq)]
 pub struct AskedLooks {
     /// Any.
     pub any: bool,
-    /// `^` and `$` of lines.
+    /// `^` and `$` in multi-line mode.
     pub lines: bool,
     /// `\b` and `\B`.
     pub words: bool,
 }
 
-/// Whether it is a look of lines.
+/// Returns whether this is a line assertion.
 fn is_line_look(look: Look) -> bool
     ensures { result ≡ is_of_lines (place_of look) }
 {
@@ -30,7 +30,7 @@ fn is_line_look(look: Look) -> bool
     }
 }
 
-/// Whether it is a look of words.
+/// Returns whether this is a word assertion.
 fn is_word_look(look: Look) -> bool
     ensures { result ≡ asks_characters (place_of look) }
 {
@@ -41,7 +41,7 @@ fn is_word_look(look: Look) -> bool
 }
 
 impl AskedLooks {
-    /// With a further look that is asked for.
+    /// Adds an assertion.
     fn with_look(self, look: Look) -> AskedLooks
         ensures any { result.any ≡ (is_look (place_of look) || self.any) }
         ensures lines { result.lines ≡ (is_of_lines (place_of look) || self.lines) }
@@ -54,7 +54,7 @@ impl AskedLooks {
         }
     }
 
-    /// With what a further state asks for.
+    /// Adds the assertion of a state, if it is one.
     fn with(self, state: &State) -> AskedLooks
         ensures any { result.any ≡ (asks_for is_look state.now || self.any) }
         ensures lines { result.lines ≡ (asks_for is_of_lines state.now || self.lines) }
@@ -66,8 +66,7 @@ impl AskedLooks {
         }
     }
 
-    /// Those that some of these states asks for: a kind is told exactly where one asks for a look
-    /// of it. `O(n)` in the states.
+    /// Returns the kinds of assertions in these states. `O(n)` in the states.
     pub fn of(states: &[State]) -> AskedLooks
         ensures any { IsTrue result.any ↔ AsksSome states.now is_look }
         ensures lines { IsTrue result.lines ↔ AsksSome states.now is_of_lines }
@@ -80,7 +79,7 @@ impl AskedLooks {
         asked
     }
 
-    /// With what a further state of a program turned round asks for.
+    /// Adds the assertion of a state of a reverse program, if it is one.
     fn with_back(self, state: &ReverseState) -> AskedLooks
         ensures any { result.any ≡ (asks_for is_look (state_of state.now) || self.any) }
         ensures lines { result.lines
@@ -94,7 +93,7 @@ impl AskedLooks {
         }
     }
 
-    /// Those that some of these states of a program turned round asks for. `O(n)` in the states.
+    /// Returns the kinds of assertions in these states of a reverse program. `O(n)` in the states.
     pub fn of_back(states: &[ReverseState]) -> AskedLooks
         ensures any { IsTrue result.any ↔ AsksSome (map state_of states.now) is_look }
         ensures lines { IsTrue result.lines ↔ AsksSome (map state_of states.now) is_of_lines }

@@ -1,11 +1,11 @@
-//! How much is done in searches.
+//! The work of searches.
 
 use counters::Counter;
 use std::fmt;
 use std::marker::Model;
 
-/// How many nodes were followed. It takes no bytes when the program runs, so that only contracts
-/// can read it, and only what follows a node changes it.
+/// The number of nodes that were followed. It has no bytes at run time: only contracts can read it,
+/// and only following a node changes it.
 #[derive(Drop)]
 pub(crate) struct Followed {
     nodes: Counter,
@@ -28,7 +28,7 @@ impl fmt::Debug for Followed {
 impl Followed {
     ghost use Rattle.std.specs.Prelude.{◌≡◌, ◌+◌};
 
-    /// None yet.
+    /// Returns 0.
     #[inline(always)]
     pub(crate) fn new() -> Followed
         ensures { result ≡ 0 }
@@ -38,7 +38,7 @@ impl Followed {
         }
     }
 
-    /// One more.
+    /// Adds one.
     #[inline(always)]
     pub(crate) fn add(&mut self)
         ensures { self.new ≡ self.old + 1 }

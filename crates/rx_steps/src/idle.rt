@@ -1,4 +1,4 @@
-//! Bytes before which no match begins.
+//! Bytes at which no match begins.
 
 ghost use Rattle.std.specs.Prelude.{ℕ, ◌≡◌, ◌+◌, ◌<◌, ◌≤◌, ◌⊎◌, ◌↔◌, IsTrue, Some, length, min};
 ghost use Rattle.rx_walks.specs.Finds.{IsInside};
@@ -9,8 +9,8 @@ ghost use Rattle.rx_steps.specs.Searching.{search_of};
 use rx_input::{Cursor, Input};
 use std::marker::Model;
 
-/// A set of bytes: those before which a walk from a program's start is known to come to nothing, as
-/// far as searches have met them. Contracts see of each byte whether it is a member.
+/// The bytes at which a thread from the program's start leads nowhere, as far as searches have met
+/// them. Contracts see for each byte whether it is a member.
 #[derive(Debug, Drop)]
 pub(crate) struct IdleBytes {
     known: [bool; 256],
@@ -25,7 +25,7 @@ impl Model for IdleBytes {
 }
 
 impl IdleBytes {
-    /// No byte.
+    /// Returns the empty set.
     pub(crate) fn new() -> IdleBytes
         ensures { (b : ℕ) → Knows result b → ⊥ }
     {
@@ -34,7 +34,7 @@ impl IdleBytes {
         }
     }
 
-    /// The same bytes.
+    /// Returns a copy.
     pub(crate) fn copied(&self) -> IdleBytes
         ensures { result ≡ self.now }
     {
@@ -50,8 +50,8 @@ impl IdleBytes {
         }
     }
 
-    /// Whether a byte is passed over: it is a member, or it continues a character and no match may
-    /// begin inside one.
+    /// Returns whether a byte can be skipped: it is a member, or a continuation byte and no match
+    /// may begin inside a character.
     fn passes(&self, byte: u8, utf8_empty: bool) -> bool
         ensures { IsTrue result ↔ IsPassed self.now utf8_empty byte }
     {
@@ -61,7 +61,7 @@ impl IdleBytes {
         self.known[usize::from(byte)]
     }
 
-    /// How many bytes that are passed over stand at the front of these, one after the other.
+    /// Returns how many bytes at the start can be skipped.
     fn len_of(&self, bytes: &[u8], utf8_empty: bool) -> usize
         ensures within { result ≤ length bytes.now }
         ensures passed { (k : ℕ) → k < result → IsPassedAt self.now utf8_empty bytes.now k }
@@ -78,16 +78,16 @@ impl IdleBytes {
     }
 }
 
-/// The last place at which a walk may stand in a search, if the content goes so far: the end of the
-/// slice or of the span, whichever comes first.
+/// Returns the highest offset that a thread can reach, if the haystack is long enough: the lesser
+/// end of slice and span.
 pub fn last_place<C: Cursor>(input: &Input<C>) -> usize
     ensures { result ≡ min input.now.asked.slice.end input.now.asked.span.end }
 {
     input.get_slice().end.min(input.end())
 }
 
-/// How many bytes that are passed over stand where an input stands, in the piece that is shown and
-/// up to the last place.
+/// Returns how many bytes can be skipped from the input's position on, in its chunk and up to the
+/// highest offset.
 fn passed_ahead<C: Cursor>(idle: &IdleBytes, input: &Input<C>, utf8_empty: bool) -> usize
     ensures inside { IsInside (search_of utf8_empty input.now) input.now.position
         → IsInside (search_of utf8_empty input.now) (input.now.position + result) }
@@ -102,7 +102,8 @@ fn passed_ahead<C: Cursor>(idle: &IdleBytes, input: &Input<C>, utf8_empty: bool)
     idle.len_of(&ahead[..left.min(ahead.len())], utf8_empty)
 }
 
-/// Moves an input behind the bytes that are passed over where it stands, at most to the last place.
+/// Moves an input past the bytes at its position that can be skipped, at most to the highest
+/// offset.
 pub(crate) fn skip<C: Cursor>(idle: &IdleBytes, input: &mut Input<C>, utf8_empty: bool)
     ensures above { input.old.position ≤ input.new.position }
     ensures inside { IsInside (search_of utf8_empty input.old) input.old.position

@@ -1,5 +1,4 @@
-//! Searches in contents that lie in pieces, by walks through a program that are followed side by
-//! side.
+//! Searches in haystacks in chunks that follow all threads of a program at once.
 #![tactic(auto)]
 
 mod all_walks;

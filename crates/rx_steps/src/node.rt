@@ -1,12 +1,12 @@
-//! The nodes of a program's machine over bytes.
+//! The nodes of a program over bytes.
 
 ghost use Rattle.std.specs.Prelude.{◌≡◌, ℕ};
 
 use rx_util::StateID;
 use std::marker::Model;
 
-/// A state of a program, and a state of its automaton, which is 0 where it has none. Contracts see
-/// the pair of their numbers.
+/// A state of a program and a state of its automaton, 0 if it has none. Contracts see this as a
+/// pair of numbers.
 #[derive(Clone, Copy, Debug, PartialEq, Eq, Hash)]
 pub struct Node {
     state: StateID,
@@ -24,28 +24,28 @@ impl Model for Node {
 }
 
 impl Node {
-    /// The node at which a state is entered.
+    /// Returns the first node of a state.
     pub fn first(state: StateID) -> Node
         ensures { result ≡ (state, 0) }
     {
         Node { state, within: 0 }
     }
 
-    /// A state, and a state of its automaton.
+    /// Returns the node of a state and a state of its automaton.
     pub fn new(state: StateID, within: usize) -> Node
         ensures { result ≡ (state, within) }
     {
         Node { state, within }
     }
 
-    /// The state of the program.
+    /// Returns the state of the program.
     pub fn state(&self) -> StateID
         ensures { result ≡ self.now.0 }
     {
         self.state
     }
 
-    /// The state of its automaton.
+    /// Returns the state of its automaton.
     pub fn within(&self) -> usize
         ensures { result ≡ self.now.1 }
     {

@@ -1,4 +1,4 @@
-//! The threads that wait while empty edges are followed.
+//! The threads that wait while epsilon transitions are followed.
 
 ghost use Rattle.std.specs.Prelude.{◌≡◌, ◌+◌, ◌<◌, ◌≤◌, ◌++◌, ◌∷◌, [], map, length, OnOk, IfSome, MatchOption};
 ghost use Rattle.rx_steps.specs.Threads.{first_node, note_slot};
@@ -8,21 +8,21 @@ use std::alloc::{AllocError, Global};
 use std::marker::Model;
 use std::mem::size_of;
 
-/// What is left to do while empty edges are followed.
+/// A task while epsilon transitions are followed.
 #[derive(Clone, Copy, Debug)]
 enum FollowEpsilon {
-    /// A state is to be followed.
+    /// Follow a state.
     Explore(StateID),
-    /// A slot gets back what it held.
+    /// Restore a slot's value.
     RestoreCapture(usize, Option<NonMaxUsize>),
 }
 
-/// The slots of the thread that is followed, and the threads that wait. Contracts see these slots,
-/// the threads, the next one first, and how much lies on the stack.
+/// The slots of the current thread, and the threads that wait. Contracts see the slots, the threads
+/// with the next one first, and the size of the stack.
 #[derive(Debug, Drop)]
 pub(crate) struct Pending {
     slots: Vec<Option<NonMaxUsize>>,
-    // The next one last.
+    // The next task is the last element.
     stack: Vec<FollowEpsilon>,
 }
 
@@ -41,7 +41,7 @@ impl Model for Pending {
 }
 
 impl Pending {
-    /// No slots, and no thread.
+    /// Returns this without slots and threads.
     pub(crate) fn new(alloc: Global) -> Pending {
         Pending {
             slots: Vec::new(alloc),
@@ -49,7 +49,7 @@ impl Pending {
         }
     }
 
-    /// Begins with a thread that has these slots: none waits.
+    /// Starts with the slots of a thread, and no thread that waits.
     #[inline(always)]
     pub(crate) fn begin(&mut self, slots: &[Option<NonMaxUsize>]) -> Result<(), AllocError>
         ensures slots { OnOk result (self.new.slots ≡ slots.now) }
@@ -61,7 +61,7 @@ impl Pending {
         Ok(())
     }
 
-    /// About how many bytes its lists take.
+    /// Returns the approximate number of bytes of the lists.
     pub(crate) fn memory_usage(&self) -> usize {
         let slots = self
             .slots
@@ -74,15 +74,15 @@ impl Pending {
         slots.saturating_add(stack)
     }
 
-    /// The slots of the thread that is followed.
+    /// Returns the slots of the current thread.
     pub(crate) fn slots(&self) -> &[Option<NonMaxUsize>]
         ensures { result.now ≡ self.now.slots }
     {
         &self.slots
     }
 
-    /// Notes a place in a slot, if there is that slot, for the threads that come from now on until
-    /// those that wait.
+    /// Writes an offset into a slot, if there is that slot, for the threads pushed from now on, but
+    /// not for those that wait.
     #[inline(always)]
     pub(crate) fn note(&mut self, slot: usize, at: NonMaxUsize) -> Result<(), AllocError>
         ensures slots { OnOk result (self.new.slots ≡ note_slot slot at self.old.slots) }
@@ -97,7 +97,7 @@ impl Pending {
         Ok(())
     }
 
-    /// Lets a thread at a state wait before the others, with the slots at hand.
+    /// Pushes a thread at a state with the current slots, before those that wait.
     #[inline(always)]
     pub(crate) fn push(&mut self, state: StateID) -> Result<(), AllocError>
         ensures slots { OnOk result (self.new.slots ≡ self.old.slots) }
@@ -109,8 +109,8 @@ impl Pending {
         Ok(())
     }
 
-    /// Lets a thread at each of the states wait before the others, the first one first, with the
-    /// slots at hand.
+    /// Pushes a thread at each of the states with the current slots, before those that wait, the
+    /// first state first.
     pub(crate) fn push_all(&mut self, mut states: &[StateID]) -> Result<(), AllocError>
         ensures slots { OnOk result (self.new.slots ≡ self.old.slots) }
         ensures threads { OnOk result (self.new.threads
@@ -124,8 +124,7 @@ impl Pending {
         Ok(())
     }
 
-    /// Takes the next thread that waits: its slots are those at hand then, and it stands at this
-    /// state.
+    /// Pops the next thread: returns its state, and its slots become the current ones.
     #[inline(always)]
     pub(crate) fn pop(&mut self) -> Option<StateID>
         ensures next { MatchOption result (self.old.threads ≡ []) (λ state. self.old.threads

@@ -1,4 +1,4 @@
-//! What a step has to know of a place in a content.
+//! What a step needs to know of an offset.
 
 ghost use Rattle.std.specs.Prelude.{◌≡◌, Bool, List, false, slice_get};
 ghost use Rattle.rx_program.specs.declared.states.State.{State};
@@ -15,7 +15,7 @@ use rx_input::{Cursor, Input};
 use rx_util::NonMaxUsize;
 use rx_walks::laws::four_bytes_tell;
 
-/// Which looks hold at a place.
+/// Which look-around assertions hold at an offset.
 #[derive(Clone, Copy, Debug, Default, PartialEq, Eq, Hash)]
 pub struct Looks {
     /// The slice starts there.
@@ -26,16 +26,17 @@ pub struct Looks {
     pub start_line: bool,
     /// A line ends there.
     pub end_line: bool,
-    /// A word character stands on exactly one side.
+    /// A word character is on exactly one side.
     pub word_boundary: bool,
-    /// A word character stands on both sides or on neither, and no side is broken.
+    /// A word character is on both sides or on neither, and each side is empty or a whole
+    /// character.
     pub no_word_boundary: bool,
 }
 
 impl Looks {
-    /// Those that hold at a place, by the bytes of the slice that stand before it and those that
-    /// stand behind it: four of each side tell as much as all of them. A line ends before the line
-    /// terminator and starts behind it.
+    /// Returns the assertions that hold between the bytes of the slice before and after an offset;
+    /// four bytes on each side are enough. A line ends before the line terminator and starts after
+    /// it.
     pub fn between(before: &[u8], after: &[u8], line_terminator: u8) -> Looks
         ensures { HoldBetween result before.now after.now line_terminator }
     {
@@ -58,7 +59,7 @@ impl Looks {
         }
     }
 
-    /// Whether the look holds.
+    /// Returns whether the assertion holds.
     pub fn has(&self, look: Look) -> bool
         ensures { result ≡ is_among self.now (place_of look) }
     {
@@ -73,19 +74,19 @@ impl Looks {
     }
 }
 
-/// Where it is, the next byte, which is none where walks may go no further, and the looks that
+/// An offset, the byte after it, which is `None` if threads can't read on, and the assertions that
 /// hold.
 #[derive(Clone, Copy, Debug, PartialEq, Eq, Hash)]
 pub struct Place {
-    /// The byte index in the content.
+    /// The offset in the haystack.
     pub at: NonMaxUsize,
     /// The byte.
     pub byte: Option<u8>,
-    /// The looks.
+    /// The assertions that hold.
     pub looks: Looks,
 }
 
-/// The byte at which an input stands, unless it stands at the content's end.
+/// Returns the byte at the input's position, unless that is the end of the haystack.
 fn next_byte<C: Cursor>(input: &Input<C>) -> Option<u8>
     ensures { result ≡ slice_get input.now.cursor.content input.now.position }
 {
@@ -93,10 +94,9 @@ fn next_byte<C: Cursor>(input: &Input<C>) -> Option<u8>
 }
 
 impl Place {
-    /// The place at which an input stands. Its byte is none at the end of the span, of the slice
-    /// and of the content. Where looks are asked for, up to eight bytes around it are read, and the
-    /// piece that is shown may be another one afterwards; else it costs nothing of note, and no
-    /// look is told.
+    /// Returns this for the input's position. The byte is `None` at the end of the span, the slice
+    /// or the haystack. With `asks_looks` it reads up to eight bytes around the offset, and the
+    /// current chunk may be another one afterwards; without, no assertion is reported to hold.
     pub fn of<C: Cursor>(input: &mut Input<C>, line_terminator: u8, asks_looks: bool) -> Place
         ensures place { (states : List State) → (utf8_empty : Bool)
             → IsInside (search_of utf8_empty input.old) input.old.position
@@ -109,7 +109,7 @@ impl Place {
         let end = input.end().min(input.get_slice().end);
         let byte = if at < end { next_byte(input) } else { None };
         let looks = if asks_looks {
-            // A law, for the proof alone.
+            // A law, for the proof only.
             four_bytes_tell();
             let seen = input.look_around();
             Looks::between(seen.before(), seen.after(), line_terminator)

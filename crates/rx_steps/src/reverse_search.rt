@@ -1,4 +1,4 @@
-//! The loop back over the places of a content, from the end of matches to where they start.
+//! The backward search loop, from the end of matches to their start.
 
 ghost use Rattle.std.specs.Prelude.{Bool, List, ◌≡◌, ◌↔◌, ◌-◌, ◌<◌, [], ◌∷◌, Some, None, true, false, All, IsTrue, IfOk, IfErr, IfSome, OnOk};
 ghost use Rattle.std.specs.Str.{IsCharBoundary};
@@ -33,7 +33,7 @@ use std::alloc::{AllocError, Global};
 use std::marker::Model;
 use std::mem;
 
-/// The state from which walks back of a search start, if there is one: an unknown pattern has none.
+/// Returns the start state of a backward search; `None` for an unknown pattern.
 pub fn start_back(program: &ReverseProgram, anchored: Anchored) -> Option<StateID>
     ensures { result ≡ start_node (back_characters_of program.now) (anchoring_of anchored) }
 {
@@ -43,9 +43,9 @@ pub fn start_back(program: &ReverseProgram, anchored: Anchored) -> Option<StateI
     }
 }
 
-/// Moves an input to the end of its span, or of its content where that comes first, and tells
-/// whether that lies inside the slice and not before the start; where it doesn't, the input stands
-/// anywhere.
+/// Moves an input to the end of its span, or of its haystack if that is less. Returns whether that
+/// is inside the slice and not before the span's start; if it isn't, the input's position is
+/// unspecified.
 pub fn enter_end<C: Cursor>(input: &mut Input<C>) -> bool
     ensures inside { result ≡ true → (utf8_empty : Bool)
         → IsInside (search_of utf8_empty input.old) input.new.position }
@@ -63,8 +63,8 @@ pub fn enter_end<C: Cursor>(input: &mut Input<C>) -> bool
     input.start() <= end && slice.start <= end && end <= slice.end
 }
 
-/// The looks that hold where an input stands, if looks are asked for. The piece that is shown may
-/// be another afterwards.
+/// Returns the assertions that hold at the input's position, if the program has any. The current
+/// chunk may be another one afterwards.
 fn looks_at<C: Cursor>(input: &mut Input<C>, line_terminator: u8, asks_looks: bool) -> Looks
     ensures looks { (states : List State) → (utf8_empty : Bool)
         → IsInside (search_of utf8_empty input.old) input.old.position
@@ -77,7 +77,7 @@ fn looks_at<C: Cursor>(input: &mut Input<C>, line_terminator: u8, asks_looks: bo
     Place::of(input, line_terminator, asks_looks).looks
 }
 
-/// Moves an input to the place before, if that lies inside, and answers the byte that stands there.
+/// Moves an input one byte back, if that is inside, and returns that byte.
 fn step_back<C: Cursor>(input: &mut Input<C>) -> Option<u8>
     ensures byte { (utf8_empty : Bool)
         → IsInside (search_of utf8_empty input.old) input.old.position
@@ -97,8 +97,7 @@ fn step_back<C: Cursor>(input: &mut Input<C>) -> Option<u8>
     input.chunk().get(input.chunk_pos()).copied()
 }
 
-/// Whether an empty match may stand where an input stands, if those inside a character are passed
-/// over or not.
+/// Returns whether an empty match may be at the input's position.
 fn may_be_empty<C: Cursor>(input: &Input<C>, utf8_empty: bool) -> bool
     ensures { IsTrue result
         ↔ (IsTrue utf8_empty → IsCharBoundary input.now.cursor.content input.now.position) }
@@ -106,20 +105,20 @@ fn may_be_empty<C: Cursor>(input: &Input<C>, utf8_empty: bool) -> bool
     !utf8_empty || input.is_char_boundary()
 }
 
-/// Walks back through a program turned round that are followed side by side, from place to place.
+/// The threads of a backward search.
 #[derive(Debug, Drop)]
 struct WalksBack {
     stepper: Stepper,
-    // Whether the program asks for looks.
+    // Whether the program has assertions.
     asks_looks: bool,
-    // Those at the place. All began where the search did.
+    // The threads at the current offset. All started where the search did.
     live: ThreadList,
-    // Room for those at the place before.
+    // Room for those at the offset before.
     next: ThreadList,
 }
 
 impl WalksBack {
-    /// Begins with one walk, at a state.
+    /// Starts with one thread, at a state.
     fn begin(&mut self, start: StateID) -> Result<(), AllocError>
         ensures live { OnOk result (self.new.live.threads ≡ ([], first_node start) ∷ []) }
         ensures stepper { self.new.stepper ≡ self.old.stepper }
@@ -129,8 +128,8 @@ impl WalksBack {
         self.live.push(Node::first(start), &[])
     }
 
-    /// The step from the place at which an input stands, which stands at the place before then, if
-    /// that lies inside: the walks there are those that live then.
+    /// Makes the step from the input's position and moves the input one byte back, if that is
+    /// inside: the threads there become `live`.
     fn pass<C: Cursor>(
         &mut self,
         program: &ReverseProgram,
@@ -167,8 +166,8 @@ impl WalksBack {
         Ok(met)
     }
 
-    /// Follows the walk back from a state, from the place at which an input stands, the end of its
-    /// span or content, on: answers the match of the least start, then of the least pattern.
+    /// Follows a thread backward from a state, starting at the input's position, which is the end
+    /// of its span or haystack. Returns the match with the least start, then the least pattern.
     fn follow<C: Cursor>(
         &mut self,
         program: &ReverseProgram,
@@ -204,9 +203,8 @@ impl WalksBack {
     }
 }
 
-/// What searches back through a program turned round keep from one to the next: room. Contracts see
-/// how many nodes each state is of the program that it was made for, and whether that asks for
-/// looks.
+/// What backward searches with a reverse program keep between searches: room. Contracts see the
+/// number of nodes of each state of its program, and whether that has assertions.
 #[derive(Debug, Drop)]
 pub struct ReverseCache {
     walks: WalksBack,
@@ -224,8 +222,15 @@ impl Model for ReverseCache {
 }
 
 impl ReverseCache {
-    /// Room for searches back through a program. The one refusal is `Memory`. It takes memory in
-    /// proportion to the program's states and those of their automata.
+    /// Returns room for backward searches with a program.
+    ///
+    /// # Errors
+    ///
+    /// `Memory`.
+    ///
+    /// # Complexity
+    ///
+    /// Memory proportional to the program's states and those of their automata.
     pub fn new(alloc: Global, program: &ReverseProgram) -> Result<ReverseCache, MatchError>
         ensures made { IfOk result (IsReverseCacheOf program.now) }
         ensures refused { IfErr result (λ error. error ≡ MatchError.Memory) }
@@ -240,8 +245,11 @@ impl ReverseCache {
         })
     }
 
-    /// Room for searches back through the same program. The one refusal is `Memory`. It takes
-    /// memory as a new one does.
+    /// Returns room for backward searches with the same program, as `new` does.
+    ///
+    /// # Errors
+    ///
+    /// `Memory`.
     pub fn clone(&self) -> Result<ReverseCache, MatchError>
         ensures same { IfOk result (λ cache. cache ≡ self.now) }
         ensures refused { IfErr result (λ error. error ≡ MatchError.Memory) }
@@ -258,8 +266,7 @@ impl ReverseCache {
     }
 }
 
-/// What is told of the match that was met, if one was: an empty one, which starts at the end, only
-/// where it may stand there.
+/// Returns the match to report: the best one, unless it is empty and may not be at the end.
 pub fn told_back(best: Option<HalfMatch>, end: usize, may_be_empty: bool) -> Option<HalfMatch>
     ensures { (s : Search) → end_in_content s ≡ end → IsInside s end
         → IfSome best (λ met. IsInside s met.offset)
@@ -275,16 +282,23 @@ pub fn told_back(best: Option<HalfMatch>, end: usize, may_be_empty: bool) -> Opt
     Some(found)
 }
 
-/// Searches backwards: of the matches that end at the end of the span, or of the content where that
-/// comes first, and lie inside span and slice, answers the least start, and the least pattern with
-/// it. The program has to be turned round; the answer is that of the program that it was. The cache
-/// must be one for the program, and still is one afterwards, whatever is answered. `utf8_empty`
-/// passes over an empty match inside a character. The refusals are `UnsupportedAnchored` where the
-/// input isn't anchored, and else `Memory`.
+/// Searches backward with a reverse program. Of the matches that end at the end of the span, or of
+/// the haystack if that is less, and are inside span and slice, returns the least start with the
+/// least pattern for it, as the forward program finds them. `utf8_empty` skips an empty match
+/// inside a character.
 ///
-/// It reads back from the end of the span to its start, or to where no walk lives. It follows each
-/// node of the program once at most at each place, which takes time in proportion to the edges of
-/// that node.
+/// # Requires
+///
+/// The cache is for this program, for which it remains one, also after an error.
+///
+/// # Errors
+///
+/// `UnsupportedAnchored` if the input isn't anchored; `Memory`.
+///
+/// # Complexity
+///
+/// Reads from the end of the span to its start, or until no thread is left. At each offset it
+/// follows each node of the program at most once, in time proportional to that node's transitions.
 pub fn search_rev<C: Cursor>(
     program: &ReverseProgram,
     cache: &mut ReverseCache,
@@ -305,7 +319,7 @@ pub fn search_rev<C: Cursor>(
     if !mode.is_anchored() {
         return Err(MatchError::UnsupportedAnchored { mode });
     }
-    // Laws, for the proof alone.
+    // Laws, for the proof only.
     program.reads_backwards();
     program_is_searched_back::<CharacterSet>();
     if !enter_end(input) {

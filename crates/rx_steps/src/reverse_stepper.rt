@@ -1,5 +1,4 @@
-//! The step from the walks at a place to those at the place before it, through a program turned
-//! round.
+//! The step from the threads at an offset to those at the offset before, with a reverse program.
 
 ghost use Rattle.std.specs.Prelude.{ℕ, ◌≡◌, ◌+◌, ◌≤◌, ◌∷◌, [], All, List, length, map, None, Some, IfOk, OnOk, IfErr, MatchOption, slice_get};
 ghost use Rattle.rx_util.specs.declared.search.MatchError.{MatchError};
@@ -23,7 +22,7 @@ use rx_utf8::ReverseAutomaton;
 use rx_util::{MatchError, PatternID, StateID};
 use std::alloc::{AllocError, Global};
 
-/// The state with this number, if there is one.
+/// Returns the state with this number, if there is one.
 fn state_at(states: &[ReverseState], id: StateID) -> Option<&ReverseState>
     ensures { MatchOption result (slice_get (map state_of states.now) id ≡ None)
         (λ state. slice_get (map state_of states.now) id ≡ Some (state_of state.now)) }
@@ -31,7 +30,7 @@ fn state_at(states: &[ReverseState], id: StateID) -> Option<&ReverseState>
     states.get(id.as_usize())
 }
 
-/// Puts out a walk at the node to which a byte leads.
+/// Adds a thread at the node to which the byte leads.
 fn read(
     automaton: &ReverseAutomaton,
     on: StateID,
@@ -59,7 +58,7 @@ fn read(
     Ok(())
 }
 
-/// Makes the move of a state: a match starts, or walks wait at states, or a walk comes into the
+/// Makes the move of a state: a match starts, or threads wait at states, or a thread goes into the
 /// next list.
 fn make_move(
     pending: &mut Pending,
@@ -102,7 +101,7 @@ fn make_move(
 }
 
 impl Closure {
-    /// Follows a node of a program turned round, if it wasn't seen at this place.
+    /// Follows a node of a reverse program, unless it was seen at this offset.
     fn enter_back(
         &mut self,
         program: &ReverseProgram,
@@ -141,8 +140,8 @@ impl Closure {
         make_move(&mut self.pending, state, place, node, next)
     }
 
-    /// Follows a walk back and all to which empty edges lead from it: answers the least of the
-    /// patterns whose matches may start there.
+    /// Follows a thread and all epsilon transitions from it. Returns the least of the patterns
+    /// whose matches may start there.
     fn follow_back(
         &mut self,
         program: &ReverseProgram,
@@ -176,7 +175,7 @@ impl Closure {
     }
 }
 
-/// How many nodes a state is.
+/// Returns the number of nodes of a state.
 fn width(state: &ReverseState) -> usize
     ensures { result ≡ width_of (state_of state.now) }
 {
@@ -186,7 +185,8 @@ fn width(state: &ReverseState) -> usize
     }
 }
 
-/// Where the nodes of each state start and those of the last one end, as a list; and that end.
+/// Returns the index of each state's first node and the number of all nodes, as a list, and that
+/// number.
 fn starts_of(alloc: Global, states: &[ReverseState]) -> Result<(Vec<usize>, usize), AllocError>
     ensures starts { IfOk result (λ made. made.0.items
         ≡ node_starts 0 (map width_of (map state_of states.now))) }
@@ -207,8 +207,15 @@ fn starts_of(alloc: Global, states: &[ReverseState]) -> Result<(Vec<usize>, usiz
 }
 
 impl Stepper {
-    /// Room for steps of a program turned round. The one refusal is `Memory`. It takes memory in
-    /// proportion to the program's states and those of their automata.
+    /// Returns room for steps of a reverse program.
+    ///
+    /// # Errors
+    ///
+    /// `Memory`.
+    ///
+    /// # Complexity
+    ///
+    /// Memory proportional to the program's states and those of their automata.
     pub fn new_back(alloc: Global, program: &ReverseProgram) -> Result<Stepper, MatchError>
         ensures made { IfOk result
             (λ stepper. stepper.widths ≡ widths_of (byte_program_of program.now)) }
@@ -224,13 +231,22 @@ impl Stepper {
         })
     }
 
-    /// Puts into `next` all walks at the place before of walks back that stand as these do here: a
-    /// match that starts here stops none. Of the matches that start here it answers the least
-    /// pattern. A node is followed once at a place; nothing is noted. The one refusal is `Memory`;
-    /// what `next` then holds has no meaning.
+    /// Computes into `next` the threads at the offset before, for threads at these nodes at this
+    /// one. A match that starts here stops no thread; returns the least pattern of those that start
+    /// here. No slots are written.
     ///
-    /// It follows each node once at most, and takes time in proportion to the edges of those that
-    /// it follows, and no memory but what the program asks for.
+    /// # Requires
+    ///
+    /// This is for the program, and the threads are at nodes of it.
+    ///
+    /// # Errors
+    ///
+    /// `Memory`; the contents of `next` are unspecified then.
+    ///
+    /// # Complexity
+    ///
+    /// Follows each node at most once, in time proportional to its transitions, and takes no memory
+    /// beyond what the program needs.
     pub fn next_list_back(
         &mut self,
         program: &ReverseProgram,

@@ -1,4 +1,4 @@
-//! The loop over the places of a content.
+//! The search loop for the leftmost match.
 
 ghost use Rattle.std.specs.Prelude.{ℕ, Bool, List, ◌≡◌, ◌+◌, ◌*◌, ◌<◌, ◌≤◌, ◌⊎◌, ◌↔◌, [], ◌∷◌, Some, None, true, false, All, IsTrue, IfOk, IfErr, OnOk, OnErr, length, min, max};
 ghost use Rattle.rx_util.specs.declared.search.MatchError.{MatchError};
@@ -41,7 +41,7 @@ use std::alloc::{AllocError, Global};
 use std::marker::Model;
 use std::mem;
 
-/// The state from which walks of a search start, if there is one: an unknown pattern has none.
+/// Returns the start state of a search; `None` for an unknown pattern.
 pub fn start_state(program: &Program, anchored: Anchored) -> Option<StateID>
     ensures { result ≡ start_node (character_program program.now) (anchoring_of anchored) }
 {
@@ -51,9 +51,9 @@ pub fn start_state(program: &Program, anchored: Anchored) -> Option<StateID>
     }
 }
 
-/// Moves an input to the first place inside its span, its slice and its content, and tells whether
-/// there is one; where there is none, it stands anywhere. It costs the steps over the pieces that
-/// lie between.
+/// Moves an input to the first offset inside its span, slice and haystack, and returns whether
+/// there is one; if not, the input's position is unspecified. Costs the moves over the chunks
+/// between.
 pub fn enter<C: Cursor>(input: &mut Input<C>) -> bool
     ensures inside { result ≡ true → (utf8_empty : Bool)
         → IsInside (search_of utf8_empty input.old) input.new.position }
@@ -68,7 +68,7 @@ pub fn enter<C: Cursor>(input: &mut Input<C>) -> bool
     input.position() == start && start <= last_place(input)
 }
 
-/// Moves an input to the next place inside its span, its slice and its content, if there is one.
+/// Moves an input to the next offset inside its span, slice and haystack, if there is one.
 pub fn advance<C: Cursor>(input: &mut Input<C>) -> bool
     ensures next { result ≡ true → input.new.position ≡ input.old.position + 1 }
     ensures inside { result ≡ true → (utf8_empty : Bool)
@@ -87,9 +87,8 @@ pub fn advance<C: Cursor>(input: &mut Input<C>) -> bool
     input.position() > at
 }
 
-/// Whether a match may start where an input stands, which has to be a place inside: as the input's
-/// anchoring says, and where `utf8_empty` passes over empty matches inside a character, at none
-/// that cuts one.
+/// Returns whether a match may start at the input's position, which must be inside: by the input's
+/// anchoring, and with `utf8_empty` only at a character boundary.
 pub fn begins<C: Cursor>(input: &Input<C>, utf8_empty: bool) -> bool
     ensures { IsInside (search_of utf8_empty input.now) input.now.position
         → IsTrue result ↔ MayBegin (search_of utf8_empty input.now) input.now.position }
@@ -98,7 +97,7 @@ pub fn begins<C: Cursor>(input: &Input<C>, utf8_empty: bool) -> bool
         && (!utf8_empty || input.is_char_boundary())
 }
 
-/// Whether there is one thread alone, at a program's start.
+/// Returns whether the only thread is one at the program's start.
 fn is_fresh(program: &Program, threads: &ThreadList) -> bool
     ensures { result ≡ true → (slots : Slots)
         × (threads.now.threads ≡ (slots, first_node program.now.start) ∷ []) }
@@ -109,8 +108,7 @@ fn is_fresh(program: &Program, threads: &ThreadList) -> bool
     threads.node(0) == Node::first(program.start())
 }
 
-/// Whether a step of these threads was one of a walk alone, from a program's start, and came to
-/// nothing.
+/// Returns whether a step was one of a single thread at the program's start, and led nowhere.
 fn came_to_nothing(
     program: &Program,
     threads: &ThreadList,
@@ -124,25 +122,25 @@ fn came_to_nothing(
     !has_ended && next.len() == 0 && is_fresh(program, threads)
 }
 
-/// Walks through a program that are followed side by side, from place to place.
+/// The threads of a search.
 #[derive(Debug, Drop)]
 pub(crate) struct Walks {
     pub(crate) stepper: Stepper,
-    // Whether the program asks for looks.
+    // Whether the program has assertions.
     pub(crate) asks_looks: bool,
-    // Bytes before which no match begins, as far as searches have met them.
+    // The bytes at which no match begins, as far as searches have met them.
     pub(crate) idle: IdleBytes,
-    // The threads at the place, in order of preference.
+    // The threads at the current offset, in order of preference.
     live: ThreadList,
-    // Room for those at the next place.
+    // Room for those at the next offset.
     next: ThreadList,
-    // The pattern whose end was met last.
+    // The pattern of the last match end.
     met: Option<PatternID>,
 }
 
 impl Walks {
-    /// Starts a walk where an input stands, after the others, if no end was met and a match may
-    /// begin there.
+    /// Starts a thread at the input's position, after the others, if no match end was met and a
+    /// match may begin there.
     fn start_walk<C: Cursor>(
         &mut self,
         input: &Input<C>,
@@ -167,8 +165,7 @@ impl Walks {
         Ok(())
     }
 
-    /// The step from the place at which an input stands: the threads at the next place are those
-    /// that live then.
+    /// Makes the step from the input's position: the threads at the next offset become `live`.
     fn pass<C: Cursor>(
         &mut self,
         program: &Program,
@@ -196,7 +193,7 @@ impl Walks {
         let ended = self
             .stepper
             .next_list(program, &place, &self.live, &mut self.next)?;
-        // Where looks are asked for they may be why nothing came of it.
+        // With assertions in the program, these may be the reason that it led nowhere.
         if !self.asks_looks && came_to_nothing(program, &self.live, &self.next, ended.is_some()) {
             self.idle.insert(place.byte);
         }
@@ -204,8 +201,8 @@ impl Walks {
         Ok(ended)
     }
 
-    /// Visits the place at which an input stands: while no end was met, a walk starts there if a
-    /// match may begin there; and where an end is met, it is the answer, with its slots.
+    /// Visits the input's position: starts a thread if no match end was met and a match may begin
+    /// there; a match that ends there is the result so far, with its slots.
     fn visit<C: Cursor>(
         &mut self,
         program: &Program,
@@ -261,7 +258,7 @@ impl Walks {
         Ok(())
     }
 
-    /// Whether no thread lives, and none will start at a further place.
+    /// Returns whether there is no thread, and none will start at a later offset.
     fn are_over(&self, anchored: Anchored) -> bool
         ensures live { result ≡ true → self.now.live.threads ≡ [] }
         ensures starts { result ≡ true → self.now.met ≡ None
@@ -274,8 +271,8 @@ impl Walks {
         self.live.len() == 0 && (self.met.is_some() || anchored.is_anchored())
     }
 
-    /// Moves an input to the next place inside its span, its slice and its content, if there is
-    /// one; while no thread lives and no end was met, to the next one at which a match may begin.
+    /// Moves the input to the next offset inside span, slice and haystack, if there is one; without
+    /// threads and a match end, to the next one at which a match may begin.
     fn go_on<C: Cursor>(&self, input: &mut Input<C>, utf8_empty: bool) -> bool
         ensures above { result ≡ true → input.old.position + 1 ≤ input.new.position }
         ensures inside { result ≡ true
@@ -302,9 +299,9 @@ impl Walks {
         true
     }
 
-    /// Follows the walks from a state, from the place at which an input stands on, which is the
-    /// first one inside: answers the pattern of the match that is found, and puts its places into
-    /// the slots. With `earliest` it stops at the first end of a match.
+    /// Follows threads from a start state, from the input's position on, which must be the first
+    /// one inside. Returns the pattern of the match that is found, and writes its offsets into the
+    /// slots. With `earliest` it stops at the first match end.
     fn follow<C: Cursor>(
         &mut self,
         program: &Program,
@@ -350,14 +347,14 @@ impl Walks {
     }
 }
 
-/// What searches with one program keep from one to the next, so that they ask for memory once.
-/// Contracts see of it how many nodes each state is of the program that it was made for, whether
-/// that program asks for looks, before which bytes its matches are known not to begin, and how many
-/// nodes searches have followed with it.
+/// What searches with a program keep between searches, so that they allocate once. Contracts see
+/// the number of nodes of each state of its program, whether that program has assertions, the bytes
+/// at which its matches are known not to begin, and the number of nodes that searches have
+/// followed.
 #[derive(Debug, Drop)]
 pub struct Cache {
     walks: Walks,
-    // Those of searches for all matches.
+    // The threads of searches for all matches.
     all: AllWalks,
 }
 
@@ -375,8 +372,15 @@ impl Model for Cache {
 }
 
 impl Cache {
-    /// A cache for searches with a program. The one refusal is `Memory`. It takes memory in
-    /// proportion to the program's states and those of their automata.
+    /// Returns a cache for searches with a program.
+    ///
+    /// # Errors
+    ///
+    /// `Memory`.
+    ///
+    /// # Complexity
+    ///
+    /// Memory proportional to the program's states and those of their automata.
     pub fn new(alloc: Global, program: &Program) -> Result<Cache, MatchError>
         ensures made { IfOk result (λ cache. IsCacheOf program.now cache) }
         ensures refused { IfErr result (λ error. error ≡ MatchError.Memory) }
@@ -394,8 +398,12 @@ impl Cache {
         })
     }
 
-    /// A cache for searches with the same program, which knows what this one knows. The one
-    /// refusal is `Memory`. It takes memory as a new one does.
+    /// Returns a cache for the same program with what this one has learnt, of the size of a new
+    /// one.
+    ///
+    /// # Errors
+    ///
+    /// `Memory`.
     pub fn clone(&self) -> Result<Cache, MatchError>
         ensures same { IfOk result (λ cache. cache ≡ record self.now { followed = 0 }) }
         ensures refused { IfErr result (λ error. error ≡ MatchError.Memory) }
@@ -414,8 +422,11 @@ impl Cache {
         })
     }
 
-    /// Makes the cache one for searches with this program. The one refusal is `Memory`; the cache
-    /// is then as it was.
+    /// Makes the cache one for searches with this program.
+    ///
+    /// # Errors
+    ///
+    /// `Memory`; the cache is unchanged then.
     pub fn reset(&mut self, program: &Program) -> Result<(), MatchError>
         ensures made { OnOk result (IsCacheOf program.now self.new) }
         ensures kept { OnErr result (self.new ≡ self.old) }
@@ -428,7 +439,7 @@ impl Cache {
         Ok(())
     }
 
-    /// About how many bytes its lists take: a count that no contract fixes.
+    /// Returns the approximate number of bytes of the lists. No contract fixes this number.
     pub fn memory_usage(&self) -> usize {
         self.walks
             .stepper
@@ -439,7 +450,7 @@ impl Cache {
     }
 }
 
-/// Puts none into each slot.
+/// Clears all slots.
 pub fn clear_slots(slots: &mut [Option<NonMaxUsize>])
     ensures all { slots.new ≡ no_slots (length slots.old) }
     ensures none { slots.new ≡ no_slots (length slots.new) }
@@ -447,15 +458,25 @@ pub fn clear_slots(slots: &mut [Option<NonMaxUsize>])
     slots.fill(None);
 }
 
-/// Searches: answers the pattern of the match that the program finds, and puts its places into the
-/// slots, as many as there are; all others hold none. `utf8_empty` passes over empty matches inside
-/// a character. The cache must be one for searches with the program, and still is one afterwards.
-/// The one refusal is `Memory`: then no slot holds a place.
+/// Searches: returns the pattern of the match that the program finds, and writes its offsets into
+/// the slots, as many as there are; the others are cleared. `utf8_empty` skips empty matches inside
+/// a character.
 ///
-/// With `earliest` it stops at the first end of a match: the answer tells whether there is one, and
-/// is what is found up to that place. Without it a search that finds a match stops where no walk
-/// is left to follow. It follows each node of the program once at most at each place, which takes
-/// time in proportion to the edges of that node.
+/// With `earliest` it stops at the first match end, if there is a match, and returns what it found
+/// up to that offset. Without, it stops when no thread is left.
+///
+/// # Requires
+///
+/// The cache is for this program, for which it remains one, also after an error.
+///
+/// # Errors
+///
+/// `Memory`; all slots are cleared then.
+///
+/// # Complexity
+///
+/// At each offset it follows each node of the program at most once, in time proportional to that
+/// node's transitions.
 pub fn search_slots<C: Cursor>(
     program: &Program,
     cache: &mut Cache,
@@ -481,7 +502,7 @@ pub fn search_slots<C: Cursor>(
     let Some(start) = start_state(program, input.get_anchored()) else {
         return Ok(None);
     };
-    // Laws, for the proof alone.
+    // Laws, for the proof only.
     program.walks_are_those_of_characters();
     program_is_searched_keeping::<CharacterSet, Option<NonMaxUsize>>();
     if !enter(input) {
@@ -498,15 +519,24 @@ pub fn search_slots<C: Cursor>(
     Ok(pattern)
 }
 
-/// Searches where all matches are wanted: answers the match of the greatest end, of those the one
-/// of the least start, and of those the one of the least pattern. `utf8_empty` passes over empty
-/// matches inside a character. The cache must be one for searches with the program, and still is
-/// one afterwards. The one refusal is `Memory`.
+/// Searches among all matches: returns the one with the greatest end, then the least start, then
+/// the least pattern. `utf8_empty` skips empty matches inside a character.
 ///
-/// With `earliest` it stops at the first end of a match: the answer tells whether there is one, and
-/// is what is found up to that place. Without it a search that isn't anchored goes through all of
-/// its span. It follows each node of the program once at most at each place, which takes time in
-/// proportion to the edges of that node.
+/// With `earliest` it stops at the first match end, if there is a match, and returns what it found
+/// up to that offset. Without, an unanchored search reads its whole span.
+///
+/// # Requires
+///
+/// The cache is for this program, for which it remains one, also after an error.
+///
+/// # Errors
+///
+/// `Memory`.
+///
+/// # Complexity
+///
+/// At each offset it follows each node of the program at most once, in time proportional to that
+/// node's transitions.
 pub fn search_all<C: Cursor>(
     program: &Program,
     cache: &mut Cache,
@@ -527,7 +557,7 @@ pub fn search_all<C: Cursor>(
     let Some(start) = start_state(program, input.get_anchored()) else {
         return Ok(None);
     };
-    // Laws, for the proof alone.
+    // Laws, for the proof only.
     program.walks_are_those_of_characters();
     program_is_searched_for_all::<CharacterSet>();
     finds_agree::<CharacterSet>();
@@ -538,7 +568,7 @@ pub fn search_all<C: Cursor>(
     }
     let walks = &mut cache.walks;
     let all = &mut cache.all;
-    // Bound, for the proof alone: the answer tells of where the input stands then.
+    // Bound for the proof only: the result depends on the input's position after the search.
     let found = all.follow(walks, program, input, start, utf8_empty, earliest)?;
     Ok(found)
 }

@@ -1,4 +1,4 @@
-//! What stands on the two sides of a place.
+//! What is on the two sides of an offset.
 
 ghost use Rattle.std.specs.Prelude.{◌≡◌, take, reverse};
 ghost use Rattle.std.specs.Str.{chars};
@@ -10,18 +10,18 @@ ghost use Rattle.rx_steps.specs.Sides.{side};
 use std::str;
 use unicode::perl::is_word_character;
 
-/// What stands on one side of a place.
+/// What is on one side of an offset.
 #[derive(Clone, Copy, Debug)]
 pub(crate) enum Side {
-    /// Nothing: the slice starts or ends there.
+    /// The slice starts or ends there.
     Edge,
-    /// Bytes that are no whole character.
+    /// Bytes that aren't a whole character.
     Broken,
     /// A character.
     Whole(char),
 }
 
-/// The one character of a text, if it has one.
+/// Returns the only character of a text, if it has exactly one.
 fn only_one(text: &str) -> Option<char>
     ensures { result ≡ characters.only_one (chars text.now) }
 {
@@ -33,7 +33,7 @@ fn only_one(text: &str) -> Option<char>
     }
 }
 
-/// The character whose UTF-8 these bytes are, all of them.
+/// Returns the character whose UTF-8 these bytes are.
 fn character_of(bytes: &[u8]) -> Option<char>
     ensures { result ≡ characters.character_of bytes.now }
 {
@@ -43,21 +43,21 @@ fn character_of(bytes: &[u8]) -> Option<char>
     }
 }
 
-/// So many bytes from the start, or all if there are fewer.
+/// Returns the first `len` bytes, or all if there are fewer.
 fn front(bytes: &[u8], len: usize) -> &[u8]
     ensures { result.now ≡ take len bytes.now }
 {
     &bytes[..len.min(bytes.len())]
 }
 
-/// So many bytes up to the end, or all if there are fewer.
+/// Returns the last `len` bytes, or all if there are fewer.
 fn back(bytes: &[u8], len: usize) -> &[u8]
     ensures { result.now ≡ reverse (take len (reverse bytes.now)) }
 {
     &bytes[bytes.len() - len.min(bytes.len())..]
 }
 
-/// The character whose UTF-8 stands first.
+/// Returns the character whose UTF-8 comes first.
 fn first_character(bytes: &[u8]) -> Option<char>
     ensures { result ≡ characters.first_character bytes.now }
 {
@@ -73,7 +73,7 @@ fn first_character(bytes: &[u8]) -> Option<char>
     character_of(front(bytes, 4))
 }
 
-/// The character whose UTF-8 stands last.
+/// Returns the character whose UTF-8 comes last.
 fn last_character(bytes: &[u8]) -> Option<char>
     ensures { result ≡ characters.last_character (reverse bytes.now) }
 {
@@ -90,7 +90,7 @@ fn last_character(bytes: &[u8]) -> Option<char>
 }
 
 impl Side {
-    /// The side on which these bytes stand, with the character next to the place, if it is whole.
+    /// Returns the side of these bytes, with the character next to the offset, if it is whole.
     fn new(bytes: &[u8], character: Option<char>) -> Side
         ensures { side result ≡ walks.side_of bytes.now character }
     {
@@ -101,21 +101,21 @@ impl Side {
         }
     }
 
-    /// The side before a place, by the bytes that stand there.
+    /// Returns the side before an offset, from the bytes before it.
     pub(crate) fn before(bytes: &[u8]) -> Side
         ensures { side result ≡ walks.side_before (reverse bytes.now) }
     {
         Side::new(bytes, last_character(bytes))
     }
 
-    /// The side behind a place, by the bytes that stand there.
+    /// Returns the side after an offset, from the bytes after it.
     pub(crate) fn after(bytes: &[u8]) -> Side
         ensures { side result ≡ walks.side_after bytes.now }
     {
         Side::new(bytes, first_character(bytes))
     }
 
-    /// Whether a word character stands there.
+    /// Returns whether this is a word character.
     pub(crate) fn has_word(self) -> bool
         ensures { result ≡ walks.has_word is_word_char (side self) }
     {
@@ -125,7 +125,7 @@ impl Side {
         }
     }
 
-    /// Whether bytes stand there that are no whole character.
+    /// Returns whether these are bytes that aren't a whole character.
     pub(crate) fn is_broken(self) -> bool
         ensures { result ≡ walks.is_broken (side self) }
     {

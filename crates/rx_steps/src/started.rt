@@ -1,4 +1,4 @@
-//! Walks as a search for all matches follows them, and what they end with.
+//! The threads of a search for all matches, and the match ends that they meet.
 
 ghost use Rattle.std.specs.Prelude.{◌≡◌, ℕ, List, ◌++◌, true, false, OnOk};
 ghost use Rattle.rx_steps.specs.ListsAll.{IsBestMet, IsNoWorse, end_met_by, nodes_of, started_at};
@@ -9,7 +9,7 @@ use rx_util::PatternID;
 use std::alloc::AllocError;
 use std::marker::Model;
 
-/// Where a walk began, and the node at which it stands. Contracts see the pair of both.
+/// The offset at which a thread started, and its node. Contracts see this as a pair.
 #[derive(Clone, Copy, Debug, PartialEq, Eq, Hash)]
 pub struct StartedNode {
     start: usize,
@@ -27,21 +27,21 @@ impl Model for StartedNode {
 }
 
 impl StartedNode {
-    /// A walk at a node that began at a place.
+    /// Returns a thread at a node that started at an offset.
     pub fn new(start: usize, node: Node) -> StartedNode
         ensures { result ≡ (start, node) }
     {
         StartedNode { start, node }
     }
 
-    /// Where it began.
+    /// Returns the offset at which it started.
     pub fn start(&self) -> usize
         ensures { result ≡ self.now.0 }
     {
         self.start
     }
 
-    /// The node at which it stands.
+    /// Returns its node.
     pub fn node(&self) -> Node
         ensures { result ≡ self.now.1 }
     {
@@ -49,18 +49,18 @@ impl StartedNode {
     }
 }
 
-/// An end of a match that walks met: where the match began, and its pattern.
+/// A match end: the match's start, and its pattern.
 #[derive(Clone, Copy, Debug, PartialEq, Eq, Hash)]
 pub struct MetEnd {
-    /// Where the match began.
+    /// The offset at which the match starts.
     pub start: usize,
-    /// The pattern that matches.
+    /// The pattern.
     pub pattern: PatternID,
 }
 
 impl MetEnd {
-    /// Whether it is better than another one at the same place: its start is lesser, or else its
-    /// pattern.
+    /// Returns whether it is better than another one at the same offset: its start is less, or else
+    /// its pattern.
     fn is_better(&self, other: &MetEnd) -> bool
         ensures yes { result ≡ true → IsNoWorse self.now other.now }
         ensures no { result ≡ false → IsNoWorse other.now self.now }
@@ -70,7 +70,7 @@ impl MetEnd {
     }
 }
 
-/// The end of this pattern's match that began at a place, if there is one.
+/// Returns the match end of this pattern, if there is one, with this start.
 pub(crate) fn met_end(start: usize, pattern: Option<PatternID>) -> Option<MetEnd>
     ensures { result ≡ end_met_by start pattern }
 {
@@ -80,7 +80,8 @@ pub(crate) fn met_end(start: usize, pattern: Option<PatternID>) -> Option<MetEnd
     Some(MetEnd { start, pattern })
 }
 
-/// The better of two ends at one place: the one of the lesser start, or else of the lesser pattern.
+/// Returns the better of two match ends at one offset: that with the lesser start, or else with the
+/// lesser pattern.
 pub(crate) fn better(first: Option<MetEnd>, second: Option<MetEnd>) -> Option<MetEnd>
     ensures { (ends : List (ℕ × ℕ)) → (others : List (ℕ × ℕ)) → IsBestMet ends first
         → IsBestMet others second → IsBestMet (ends ++ others) result }
@@ -98,7 +99,7 @@ pub(crate) fn better(first: Option<MetEnd>, second: Option<MetEnd>) -> Option<Me
     }
 }
 
-/// The lesser of two patterns whose matches began at one place.
+/// Returns the lesser of two patterns whose matches started at one offset.
 pub(crate) fn least(first: Option<PatternID>, second: Option<PatternID>) -> Option<PatternID>
     ensures { (start : ℕ) → (ends : List (ℕ × ℕ)) → (others : List (ℕ × ℕ))
         → IsBestMet ends (end_met_by start first) → IsBestMet others (end_met_by start second)
@@ -117,7 +118,7 @@ pub(crate) fn least(first: Option<PatternID>, second: Option<PatternID>) -> Opti
     }
 }
 
-/// Adds walks that began at one place, at the nodes of these threads.
+/// Adds threads that started at one offset, at the nodes of these threads.
 pub(crate) fn push_started(
     list: &mut Vec<StartedNode>,
     start: usize,

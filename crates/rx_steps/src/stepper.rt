@@ -1,4 +1,4 @@
-//! The step from the ordered threads at a place to those at the next one.
+//! The step from the ordered threads at an offset to those at the next one.
 
 ghost use Rattle.std.specs.Prelude.{ℕ, ◌≡◌, ◌+◌, ◌++◌, ◌≤◌, ◌∷◌, [], All, List, length, None, Some, IfOk, OnOk, IfErr, MatchOption, slice_get};
 ghost use Rattle.rx_util.specs.declared.search.MatchError.{MatchError};
@@ -23,7 +23,7 @@ use rx_util::{MatchError, NonMaxUsize, PatternID, StateID};
 use std::alloc::{AllocError, Global};
 use std::marker::Model;
 
-/// The state with this number, if there is one.
+/// Returns the state with this number, if there is one.
 #[inline(always)]
 fn state_at(states: &[State], id: StateID) -> Option<&State>
     ensures { MatchOption result (slice_get states.now id ≡ None)
@@ -32,7 +32,7 @@ fn state_at(states: &[State], id: StateID) -> Option<&State>
     states.get(id.as_usize())
 }
 
-/// Puts out a thread at the node to which a byte leads.
+/// Adds a thread at the node to which the byte leads.
 #[inline(always)]
 fn read(
     automaton: &SetAutomaton,
@@ -63,7 +63,7 @@ fn read(
     Ok(())
 }
 
-/// Makes the move of a state: a match ends, or threads wait at states, or a thread comes into the
+/// Makes the move of a state: a match ends, or threads wait at states, or a thread goes into the
 /// next list.
 #[inline(always)]
 fn make_move(
@@ -106,7 +106,7 @@ fn make_move(
     Ok(None)
 }
 
-/// What empty edges lead to, while they are followed.
+/// The state of an epsilon closure while it is computed.
 #[derive(Debug, Drop)]
 pub(crate) struct Closure {
     pub(crate) visited: Visited,
@@ -114,7 +114,7 @@ pub(crate) struct Closure {
 }
 
 impl Closure {
-    /// Follows a node, if it wasn't seen at this place, with the slots at hand.
+    /// Follows a node with the current slots, unless it was seen at this offset.
     #[inline(always)]
     fn enter(
         &mut self,
@@ -159,8 +159,8 @@ impl Closure {
         make_move(&mut self.pending, state, place, node, next)
     }
 
-    /// Follows a thread and all to which empty edges lead from it, in order of preference, up to an
-    /// end of a match: then the slots at hand are those of that match.
+    /// Follows a thread and all epsilon transitions from it, in order of preference, up to a match
+    /// end; the current slots are those of the match then.
     fn follow(
         &mut self,
         program: &Program,
@@ -201,8 +201,8 @@ impl Closure {
 }
 
 impl Closure {
-    /// Follows a walk and all to which empty edges lead from it, past ends of matches too: answers
-    /// the best end that is met.
+    /// Follows a thread and all epsilon transitions from it, also past match ends, and returns the
+    /// best match end.
     fn follow_all(
         &mut self,
         program: &Program,
@@ -236,7 +236,7 @@ impl Closure {
 }
 
 impl Closure {
-    /// Puts out a thread, unless one stood at its node before.
+    /// Adds a thread, unless there was one at its node before.
     fn put_first(
         &mut self,
         node: Node,
@@ -266,13 +266,13 @@ impl Closure {
     }
 }
 
-/// What a step needs room for. Contracts see of it how many nodes each state is of the program that
-/// it was made for, slots, which after a step that met an end are those of the match, and how many
-/// nodes its steps have followed.
+/// Room for steps. Contracts see the number of nodes of each state of its program, the slots, which
+/// are those of the match after a step that met a match end, and the number of nodes that were
+/// followed.
 #[derive(Debug, Drop)]
 pub struct Stepper {
     pub(crate) closure: Closure,
-    // Room for the nodes to which one walk leads where all are followed.
+    // Room for the nodes to which one thread leads in a search for all matches.
     pub(crate) reached: ThreadList,
 }
 
@@ -289,8 +289,15 @@ impl Model for Stepper {
 }
 
 impl Stepper {
-    /// Room for steps of a program. The one refusal is `Memory`. It takes memory in proportion to
-    /// the program's states and those of their automata.
+    /// Returns room for steps of a program.
+    ///
+    /// # Errors
+    ///
+    /// `Memory`.
+    ///
+    /// # Complexity
+    ///
+    /// Memory proportional to the program's states and those of their automata.
     pub fn new(alloc: Global, program: &Program) -> Result<Stepper, MatchError>
         ensures made { IfOk result (λ stepper. stepper.widths ≡ widths_of program.now) }
         ensures refused { IfErr result (λ error. error ≡ MatchError.Memory) }
@@ -304,7 +311,10 @@ impl Stepper {
         })
     }
 
-    /// Room for steps of the same program, of which none was made yet. The one refusal is
+    /// Returns room for steps of the same program, as `new` does.
+    ///
+    /// # Errors
+    ///
     /// `Memory`.
     pub fn another(&self) -> Result<Stepper, MatchError>
         ensures widths { IfOk result (λ stepper. stepper.widths ≡ self.now.widths) }
@@ -320,12 +330,12 @@ impl Stepper {
         })
     }
 
-    /// What its lists take their memory from.
+    /// Returns the allocator of the lists.
     pub(crate) fn allocator(&self) -> Global {
         self.closure.visited.allocator()
     }
 
-    /// About how many bytes its lists take.
+    /// Returns the approximate number of bytes of the lists.
     pub(crate) fn memory_usage(&self) -> usize {
         self.closure
             .visited
@@ -334,21 +344,30 @@ impl Stepper {
             .saturating_add(self.reached.memory_usage())
     }
 
-    /// The slots of the match whose end the last step met, if it met one.
+    /// Returns the slots of the match whose end the last step met.
     pub fn slots(&self) -> &[Option<NonMaxUsize>]
         ensures { result.now ≡ self.now.slots }
     {
         self.closure.pending.slots()
     }
 
-    /// Puts into `next` the threads at the next place, in order of preference, of walks that stand
-    /// as these threads do here: down to the first end of a match, whose pattern it answers, and
-    /// whose slots `slots` tells. A node is followed once at a place. The place is noted in the
-    /// slots that the program names; a slot past those of the threads is passed over. The one
-    /// refusal is `Memory`; what `next` then holds has no meaning.
+    /// Computes into `next` the threads at the next offset, in order of preference, for these
+    /// threads at this one, up to the first match end. Returns the pattern of that match; `slots`
+    /// returns its slots. The offset is written into the slots that the program names, if the
+    /// threads have these.
     ///
-    /// It follows each node once at most, and takes time in proportion to the edges of those that
-    /// it follows and to the slots of the threads, and no memory but what the program asks for.
+    /// # Requires
+    ///
+    /// This is for the program, and the threads are at nodes of it.
+    ///
+    /// # Errors
+    ///
+    /// `Memory`; the contents of `next` are unspecified then.
+    ///
+    /// # Complexity
+    ///
+    /// Follows each node at most once, in time proportional to its transitions and to the slots of
+    /// the threads, and takes no memory beyond what the program needs.
     pub fn next_list(
         &mut self,
         program: &Program,
@@ -378,16 +397,23 @@ impl Stepper {
         Ok(None)
     }
 
-    /// Puts into `next` all walks at the next place that stand as these do here, each with where it
-    /// began: an end of a match cuts none. Of the ends that are met it answers the best: the one of
-    /// the least start, then of the least pattern. A node is followed once at a place, for the walk
-    /// that is first in the list; nothing is noted. The one refusal is `Memory`; what `next` then
-    /// holds has no meaning.
+    /// Computes into `next` the threads at the next offset for these threads at this one, each with
+    /// the offset at which it started, also past match ends. Returns the best match end: that with
+    /// the least start, then the least pattern. If several threads reach a node, the first in the
+    /// list keeps it. No slots are written.
     ///
-    /// It follows each node once at most, and takes time in proportion to the edges of those that
-    /// it follows, and no memory but what the program asks for. Its definition speaks of any
-    /// machine, and places and walks know of no direction: a step back, over a program turned
-    /// round, differs in the states that it reads, and there all walks begin at one place.
+    /// # Requires
+    ///
+    /// This is for the program, and the threads are at nodes of it.
+    ///
+    /// # Errors
+    ///
+    /// `Memory`; the contents of `next` are unspecified then.
+    ///
+    /// # Complexity
+    ///
+    /// Follows each node at most once, in time proportional to its transitions, and takes no memory
+    /// beyond what the program needs.
     pub fn next_list_all(
         &mut self,
         program: &Program,
@@ -418,9 +444,12 @@ impl Stepper {
         Ok(best)
     }
 
-    /// Puts into `thin` these threads without those that stand at a node at which one stood before:
-    /// a step follows each node once, so these come to nothing more. The one refusal is `Memory`;
-    /// what `thin` then holds has no meaning. `O(n)` in the threads and their slots.
+    /// Copies the threads into `thin`, only the first of several at the same node: a step follows
+    /// each node once, so the others lead nowhere. `O(n)` in the threads and their slots.
+    ///
+    /// # Errors
+    ///
+    /// `Memory`; the contents of `thin` are unspecified then.
     pub fn thin(&mut self, threads: &ThreadList, thin: &mut ThreadList) -> Result<(), MatchError>
         ensures thin { OnOk result (Thins [] threads.now.threads thin.new.threads) }
         ensures threads { OnOk result ((states : List State)

@@ -1,4 +1,4 @@
-//! The threads at a place, in order of preference.
+//! The threads at an offset, in order of preference.
 
 ghost use Rattle.std.specs.Prelude.{◌≡◌, ◌+◌, ◌*◌, ◌<◌, ◌≤◌, ◌++◌, ◌∷◌, [], length, take, drop, slice_get, IfOk, IsSomeAnd, OnErr, OnOk};
 ghost use Rattle.rx_steps.specs.Threads.{no_slots, threads_of};
@@ -10,13 +10,13 @@ use std::alloc::{AllocError, Global};
 use std::marker::Model;
 use std::mem::size_of;
 
-/// Threads, those that are preferred first: each a node, and slots with places that were noted.
-/// All have as many slots. Contracts see that number and the list of threads.
+/// Threads in order of preference, each a node and slots with offsets. All have the same number of
+/// slots. Contracts see that number and the list of threads.
 #[derive(Debug, Drop)]
 pub struct ThreadList {
     slot_len: usize,
     nodes: Vec<Node>,
-    // Those of each thread one after another.
+    // The slots of all threads, one thread after the other.
     slots: Vec<Option<NonMaxUsize>>,
 }
 
@@ -50,7 +50,7 @@ fn push_parts(
     Ok(())
 }
 
-/// Adds a node, and so many slots in which nothing is noted.
+/// Adds a node and `slot_len` empty slots.
 fn push_fresh_parts(
     nodes: &mut Vec<Node>,
     slots: &mut Vec<Option<NonMaxUsize>>,
@@ -67,7 +67,7 @@ fn push_fresh_parts(
     Ok(())
 }
 
-/// Of parts of this length that stand one after another, the one with this index.
+/// Returns the part with this index, of parts with this length.
 #[inline(always)]
 fn part(all: &[Option<NonMaxUsize>], len: usize, index: usize) -> &[Option<NonMaxUsize>]
     requires within { index * len + len ≤ length all.now }
@@ -79,7 +79,7 @@ fn part(all: &[Option<NonMaxUsize>], len: usize, index: usize) -> &[Option<NonMa
 }
 
 impl ThreadList {
-    /// No thread, with so many slots for each that comes.
+    /// Returns a list without threads, with this number of slots for each.
     pub fn new(alloc: Global, slot_len: usize) -> ThreadList
         ensures { result ≡ record { slot_len = slot_len; threads = [] } }
     {
@@ -90,7 +90,11 @@ impl ThreadList {
         }
     }
 
-    /// The same threads.
+    /// Returns a copy.
+    ///
+    /// # Errors
+    ///
+    /// Out of memory.
     pub fn clone(&self) -> Result<ThreadList, AllocError>
         ensures { IfOk result (λ threads. threads ≡ self.now) }
     {
@@ -102,28 +106,28 @@ impl ThreadList {
         })
     }
 
-    /// How many slots each thread has.
+    /// Returns the number of slots of each thread.
     pub fn slot_len(&self) -> usize
         ensures { result ≡ self.now.slot_len }
     {
         self.slot_len
     }
 
-    /// How many threads there are.
+    /// Returns the number of threads.
     pub fn len(&self) -> usize
         ensures { result ≡ length self.now.threads }
     {
         self.nodes.len()
     }
 
-    /// A law, for the proof alone: without slots no thread has one.
+    /// A law, for the proof only: without slots, no thread has one.
     pub fn are_bare(&self)
         ensures { self.now.slot_len ≡ 0 → AreBare self.now.threads }
     {
         let _len = self.slot_len;
     }
 
-    /// About how many bytes its lists take.
+    /// Returns the approximate number of bytes of the lists.
     pub(crate) fn memory_usage(&self) -> usize {
         let nodes = self.nodes.capacity().saturating_mul(size_of::<Node>());
         let slots = self
@@ -133,7 +137,7 @@ impl ThreadList {
         nodes.saturating_add(slots)
     }
 
-    /// Takes all threads out, and has so many slots for each that comes. The memory is kept.
+    /// Removes all threads and sets the number of slots of each further one. Keeps the memory.
     pub fn clear(&mut self, slot_len: usize)
         ensures { self.new ≡ record { slot_len = slot_len; threads = [] } }
     {
@@ -142,7 +146,11 @@ impl ThreadList {
         self.slot_len = slot_len;
     }
 
-    /// The node of the thread at this index.
+    /// Returns the node of the thread at this index.
+    ///
+    /// # Requires
+    ///
+    /// There is that thread.
     #[inline(always)]
     pub fn node(&self, index: usize) -> Node
         requires { index < length self.now.threads }
@@ -151,7 +159,11 @@ impl ThreadList {
         self.nodes[index]
     }
 
-    /// The slots of the thread at this index.
+    /// Returns the slots of the thread at this index.
+    ///
+    /// # Requires
+    ///
+    /// There is that thread.
     #[inline(always)]
     pub fn slots(&self, index: usize) -> &[Option<NonMaxUsize>]
         requires { index < length self.now.threads }
@@ -162,7 +174,15 @@ impl ThreadList {
         part(&self.slots, self.slot_len, index)
     }
 
-    /// Adds a thread after the others. Where memory is refused no thread is left.
+    /// Adds a thread after the others.
+    ///
+    /// # Requires
+    ///
+    /// There are `slot_len()` slots.
+    ///
+    /// # Errors
+    ///
+    /// Out of memory; there is no thread then.
     #[inline(always)]
     pub fn push(&mut self, node: Node, slots: &[Option<NonMaxUsize>]) -> Result<(), AllocError>
         requires slots { length slots.now ≡ self.old.slot_len }
@@ -181,8 +201,7 @@ impl ThreadList {
         }
     }
 
-    /// Adds a thread after the others, in whose slots nothing is noted. Where memory is refused no
-    /// thread is left.
+    /// Adds a thread with empty slots after the others. After an error there is no thread.
     pub fn push_fresh(&mut self, node: Node) -> Result<(), AllocError>
         ensures threads { OnOk result (self.new.threads
             ≡ self.old.threads ++ (no_slots self.old.slot_len, node) ∷ []) }

@@ -1,4 +1,4 @@
-//! The nodes that were seen at a place.
+//! The nodes that were seen at an offset.
 
 ghost use Rattle.std.specs.Prelude.{◌≡◌, ◌<◌, ◌≤◌, ℕ, List, [], true, map, length, slice_get, IfSome, IfOk, IfErr};
 ghost use Rattle.rx_util.specs.declared.search.MatchError.{MatchError};
@@ -12,7 +12,7 @@ use std::alloc::{AllocError, Global};
 use std::marker::Model;
 use std::mem::size_of;
 
-/// How many nodes a state is.
+/// Returns the number of nodes of a state.
 fn width(state: &State) -> usize
     ensures { result ≡ width_of state.now }
 {
@@ -22,12 +22,12 @@ fn width(state: &State) -> usize
     }
 }
 
-/// A set of nodes of a program, by their index among all of them. Contracts see how many nodes each
-/// state is, the indices of the members, and how many came in since it was made, also those that
-/// were taken out again.
+/// A set of nodes of a program, by their index among all. Contracts see the number of nodes of each
+/// state, the indices of the members, and the number of nodes added since it was made, also of
+/// those removed again.
 #[derive(Debug, Drop)]
 pub struct Visited {
-    // Where the nodes of each state start, and where those of the last one end.
+    // The index of each state's first node, and the number of all nodes.
     starts: Vec<usize>,
     set: SparseSet,
     followed: Followed,
@@ -49,7 +49,8 @@ impl Model for Visited {
         × (v.set.capacity ≡ end_from 0 (widths_in v.starts.items)) };
 }
 
-/// Where the nodes of each state start and those of the last one end, as a list; and that end.
+/// Returns the index of each state's first node and the number of all nodes, as a list, and that
+/// number.
 fn starts_of(alloc: Global, states: &[State]) -> Result<(Vec<usize>, usize), AllocError>
     ensures starts { IfOk result (λ made. made.0.items
         ≡ node_starts 0 (map width_of states.now)) }
@@ -68,7 +69,7 @@ fn starts_of(alloc: Global, states: &[State]) -> Result<(Vec<usize>, usize), All
     Ok((starts, end))
 }
 
-/// Where the nodes of a state start.
+/// Returns the index of a state's first node.
 #[inline(always)]
 fn start_at(starts: &[usize], state: usize) -> Option<usize>
     ensures { result ≡ slice_get starts.now state }
@@ -77,8 +78,15 @@ fn start_at(starts: &[usize], state: usize) -> Option<usize>
 }
 
 impl Visited {
-    /// The empty set, for the nodes of a program. The one refusal is `Memory`. It takes memory in
-    /// proportion to the program's states and those of their automata.
+    /// Returns the empty set of a program's nodes.
+    ///
+    /// # Errors
+    ///
+    /// `Memory`.
+    ///
+    /// # Complexity
+    ///
+    /// Memory proportional to the program's states and those of their automata.
     pub fn new(alloc: Global, program: &Program) -> Result<Visited, MatchError>
         ensures widths { IfOk result (λ v. v.widths ≡ widths_of program.now) }
         ensures refused { IfErr result (λ error. error ≡ MatchError.Memory) }
@@ -92,7 +100,7 @@ impl Visited {
         })
     }
 
-    /// The empty set, for nodes of states that start and end there.
+    /// Returns the empty set, for states with these first nodes and this number of all nodes.
     pub(crate) fn over(alloc: Global, starts: Vec<usize>, end: usize) -> Result<Visited, MatchError>
         requires starts { (widths : List ℕ) × (starts.items ≡ node_starts 0 widths)
             × (end ≡ end_from 0 widths) }
@@ -108,7 +116,7 @@ impl Visited {
         })
     }
 
-    /// The empty set, for the nodes of the same program.
+    /// Returns the empty set of the same program's nodes.
     pub(crate) fn another(&self) -> Result<Visited, MatchError>
         ensures widths { IfOk result (λ v. v.widths ≡ self.now.widths) }
         ensures followed { IfOk result (λ v. v.followed ≡ 0) }
@@ -123,12 +131,12 @@ impl Visited {
         })
     }
 
-    /// What its lists take their memory from.
+    /// Returns the allocator of the lists.
     pub(crate) fn allocator(&self) -> Global {
         *self.starts.allocator()
     }
 
-    /// Empties the set. `O(1)`.
+    /// Removes all nodes. `O(1)`.
     pub fn clear(&mut self)
         ensures widths { self.new.widths ≡ self.old.widths }
         ensures ids { self.new.ids ≡ [] }
@@ -137,7 +145,7 @@ impl Visited {
         self.set.clear();
     }
 
-    /// The index of a node.
+    /// Returns the index of a node.
     #[inline(always)]
     fn index(&self, node: Node) -> Option<usize>
         ensures index { result ≡ index_from 0 self.now.widths node.0 node.1 }
@@ -153,7 +161,7 @@ impl Visited {
         }
     }
 
-    /// Whether a node is a member. `O(1)`.
+    /// Returns whether a node is a member. `O(1)`.
     pub fn has(&self, node: Node) -> bool
         ensures { IsMember (index_from 0 self.now.widths node.0 node.1) result self.now.ids }
     {
@@ -163,7 +171,7 @@ impl Visited {
         self.set.contains(StateID::new(index))
     }
 
-    /// Adds a node that has an index and is no member yet, and tells whether it was so. `O(1)`.
+    /// Adds a node that has an index, and returns whether it was new. `O(1)`.
     #[inline(always)]
     pub fn insert(&mut self, node: Node) -> bool
         ensures inserted { IsInserted (index_from 0 self.old.widths node.0 node.1) result
@@ -178,12 +186,12 @@ impl Visited {
         if !self.set.insert(StateID::new(index)) {
             return false;
         }
-        let _len = self.set.len(); // tells that no member is there twice
+        let _len = self.set.len(); // for the proof: the members are distinct
         self.followed.add();
         true
     }
 
-    /// About how many bytes its lists take.
+    /// Returns the approximate number of bytes of the lists.
     pub(crate) fn memory_usage(&self) -> usize {
         self.starts
             .capacity()

@@ -1,4 +1,4 @@
--- The member of a set that stands first in a list of bytes.
+-- The first character of a list of bytes, if it is a member of a set.
 use Rattle.std.proofs.Common.{◌≡◌, ℕ, Bool, true, List, ◌++◌, Option, Some, None, refl, sym, ap, ◌∙◌}
 use Rattle.std.proofs.Math.Utf8.{encode}
 use Rattle.std.specs.Char.{IsScalar, len_utf8}
@@ -6,7 +6,7 @@ use Rattle.rx_walks.specs.Characters.{first_character, len_if, member_len, Stand
 use Rattle.rx_walks.specs.Laws.{FirstCharacterStands}
 use Rattle.rx_utf8.proofs.Helpers.{same_some, cond_true, cond_some}
 
--- what stands first is a member, and takes k bytes
+-- the first character is a member, and has k bytes
 pub record MemberFirst (member : ℕ → Bool) (bs : List ℕ) (k : ℕ) : Type 0 where
   pub c : ℕ
   pub scalar : IsScalar c

@@ -77,7 +77,7 @@ encode_is : (n c : ℕ) → len_utf8 c ≡ suc n → encode c ≡ lead n (high n
 unfolding encode
 encode_is n c e = shape c n (nat_lt c 128) (nat_lt c 2048) (nat_lt c 65536) e
 
--- the first byte tells how many follow, and the first bits
+-- the first byte determines how many follow, and the first bits
 low_bound : (c : ℕ) → len_utf8 c ≡ 2 → 128 ≤ c
 low_bound c e = grind (arith, nat_tests)
 

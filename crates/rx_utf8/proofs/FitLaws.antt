@@ -60,7 +60,7 @@ fits_on step step' n n' on same p (suc r) v (Some (Some s)) fits = (
   (λ b is. sym (same s fits.0 b) ∙ fits.2 b is),
 )
 
--- a block all of whose characters are members: f tells a state for each number of bytes to come
+-- a block of which all characters are members: f is the state for each number of bytes to come
 abbrev pub Full : Step → ℕ → (ℕ → Option (Option ℕ)) → ℕ → Type 0
 Full step n f zero = f zero ≡ Some None
 Full step n f (suc r) = (s : ℕ) × (f (suc r) ≡ Some (Some s)) × IsPast n s × ((b : ℕ) → step s b ≡ cond (is_next b) (f r) None) × Full step n f r
@@ -76,7 +76,7 @@ full_fits step n p f (suc r) v full all = subst (Fits step n p (suc r) v) (sym f
   (λ b is. full.3 b ∙ ap (λ x. cond x (f r) None) is),
 )
 
--- members of the block alone matter
+-- only members of the block matter
 pub fits_alike : (step : Step) (n : ℕ) (p q : ℕ → Bool) (r v : ℕ) (t : Option (Option ℕ)) → ((c : ℕ) → high r c ≡ v → p c ≡ q c) → Fits step n p r v t → Fits step n q r v t
 fits_alike step n p q zero v t same fits = fits ∙ ap (λ x. cond x (Some None) None) (same v refl)
 fits_alike step n p q (suc r) v None same fits = λ c e. sym (same c e) ∙ fits c e

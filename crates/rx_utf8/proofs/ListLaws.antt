@@ -69,7 +69,7 @@ one_filled {Z = Z} first byte source from lists base old new within is pushed so
     by_place (inl e) = subst (λ x. get_or (lists_of (set lists byte new)) x [] ≡ filled_to base source first (byte + 1) x) (sym e) there
     by_place (inr other) = set_there lists byte b new other ∙ so_far b ∙ ap (λ t. get_or base b [] ++ cond t (source ∷ []) []) (as_before first byte b other)
 
--- all bytes of a range are passed
+-- all bytes of a range are done
 bound : (first last byte : ℕ) → first ≤ byte → last + 1 ≤ byte → (first ≤ last + 1 → byte ≤ last + 1) → (last < first → byte ≤ first) → (byte ≡ last + 1) ⊎ ((byte ≡ first) × (last < first))
 bound first last byte from past end none = by_order (order last first)
   where

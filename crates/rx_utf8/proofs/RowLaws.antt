@@ -30,14 +30,14 @@ rise_below low high [] b rise before = refl
 rise_below low high (x ∷ row) b rise before =
     skips (nat_le x.first b && nat_le b x.last) x.next (look_up row b) (not_in x b (inl (omega (arith, rise.0, before)))) (rise_below (x.last + 1) high row b rise.2 (omega (arith, rise.0, rise.1, before)))
 
--- a byte before the first of the ranges that are left leads nowhere
+-- a byte before the first of the remaining ranges leads nowhere
 pub stops : (row : List ByteRange) (i low b : ℕ) (d : ByteRange) → i < length row → RiseWithin low 256 (drop i row) → b < (get_or row i d).first → look_up (drop i row) b ≡ None
 stops [] i low b d lt rise before = absurd (omega (arith, lt))
 stops (x ∷ row) zero low b d lt rise before =
     skips (nat_le x.first b && nat_le b x.last) x.next (look_up row b) (not_in x b (inl before)) (rise_below (x.last + 1) 256 row b rise.2 (omega (arith, rise.1, before)))
 stops (x ∷ row) (suc i) low b d lt rise before = stops row i low b d (omega (arith, lt)) rise before
 
--- two rows in a row
+-- two rows in sequence
 abbrev pub or_else : Option (Option ℕ) → Option (Option ℕ) → Option (Option ℕ)
 or_else None other = other
 or_else (Some t) other = Some t
@@ -88,7 +88,7 @@ or_none : (o : Option (Option ℕ)) → or_else o None ≡ o
 or_none None = refl
 or_none (Some t) = refl
 
--- one byte more, behind the others
+-- one more byte after the others
 pub look_up-one : (to : ℕ) (t : Option ℕ) (row : List ByteRange) → RiseWithin 0 to row → (b : ℕ)
     → look_up (row ++ record { first = to; last = to; next = t } ∷ []) b ≡ cond (nat_eq b to) (Some t) (look_up row b)
 look_up-one to t row rise b = look_up-append row _ b ∙ ap (λ x. or_else (look_up row b) (cond x (Some t) None)) (one_byte b to) ∙ by_byte (equal_or_not b to)
@@ -104,7 +104,7 @@ look_up-one to t row rise b = look_up-append row _ b ∙ ap (λ x. or_else (look
 pub rise_one : (to : ℕ) (t : Option ℕ) (row : List ByteRange) → RiseWithin 0 to row → RiseWithin 0 (to + 1) (row ++ record { first = to; last = to; next = t } ∷ [])
 rise_one to t row rise = rise_append 0 to (to + 1) row _ rise (omega arith, omega arith, omega arith)
 
--- the last range takes the byte in
+-- the last range is extended by the byte
 longer_test : (first last to b : ℕ) → last + 1 ≡ to → first ≤ last → (b ≡ to) ⊎ ((b < to) ⊎ (to < b)) → (nat_le first b && nat_le b to) ≡ cond (nat_eq b to) true (nat_le first b && nat_le b last)
 longer_test first last to b e le (inl same) = grind (arith, nat_tests)
 longer_test first last to b e le (inr (inl below)) = grind (arith, nat_tests)
@@ -136,14 +136,14 @@ rise_longer to front x t rise =
     let up = rise_front 0 to front x rise in
     rise_append 0 x.first (to + 1) front _ up.front (omega arith, omega (arith, up.first, up.last), omega arith)
 
--- what a longer row tells of the byte and of those before
+-- where the byte and those before lead in a longer row
 pub leads_here : (to : ℕ) (t : Option ℕ) (row more : List ByteRange) → ((b : ℕ) → look_up more b ≡ cond (nat_eq b to) (Some t) (look_up row b)) → look_up more to ≡ Some t
 leads_here to t row more leads = leads to ∙ ap (λ x. cond x (Some t) (look_up row to)) (eq_true to to refl)
 
 pub leads_before : (to : ℕ) (t : Option ℕ) (row more : List ByteRange) → ((b : ℕ) → look_up more b ≡ cond (nat_eq b to) (Some t) (look_up row b)) → (b : ℕ) → b < to → look_up more b ≡ look_up row b
 leads_before to t row more leads b less = leads b ∙ ap (λ x. cond x (Some t) (look_up row b)) (eq_false b to (inl less))
 
--- a longer row, whatever it is called
+-- a longer row, however it is given
 pub one_more : (to : ℕ) (t : Option ℕ) (old middle new : List ByteRange) → RiseWithin 0 to old → middle ≡ old → new ≡ middle ++ record { first = to; last = to; next = t } ∷ []
     → RiseWithin 0 (to + 1) new × ((b : ℕ) → look_up new b ≡ cond (nat_eq b to) (Some t) (look_up old b))
 one_more to t old middle new rise same is =

@@ -1,4 +1,4 @@
--- The states from which bytes lead to places.
+-- The states from which bytes lead to positions.
 use Rattle.std.proofs.Common.{◌≡◌, ℕ, zero, suc, ◌+◌, ◌-◌, ◌<◌, ◌≤◌, ◌⊎◌, Bool, true, false, ◌&&◌, ◌||◌, ◌==◌, cond, nat_le, List, [], ◌∷◌, ◌++◌, length, get_or, drop, Some, refl, sym, ap, ap₂, subst, ◌∙◌, arith, inl, inr}
 use Rattle.std.specs.Prelude.{Vec}
 use Rattle.std.specs.List.{All}
@@ -58,7 +58,7 @@ one_range false false false xs s q rest sub e none = e
 below_last : (range : ByteRange) (b : ℕ) → covers range b ≡ true → b < range.last + 1
 below_last range b e = grind (arith, nat_tests)
 
--- each state once, where the ranges of its row are disjoint
+-- each state once, if the ranges of its row are disjoint
 row_sources : (T U : ReadingPlace → Bool) → ((x : ReadingPlace) → T x ≡ true → U x ≡ true) → (s b q low high : ℕ) (row : List ByteRange) → RiseWithin low high row
     → has (sources T (entries_of U s row) b) q ≡ ((s == q) && leads_in T (look_up row b))
 row_sources T U sub s b q low high [] rise = sym (and_false (s == q))
@@ -134,7 +134,7 @@ step_sources T U sub rows rises b q =
     from_none : (n : ℕ) → n - 0 ≡ n
     from_none n = omega arith
 
--- one row, one entry more
+-- one row, one more entry
 pub entries_next : {Z : Type 0} (into : ReadingPlace → Bool) (rows : List (Vec ByteRange Z)) (s : ℕ) (row : Vec ByteRange Z) → s < length rows → row ≡ get_or rows s row
     → entries_from into s (drop s (lists_of rows)) ≡ entries_of into s row.items ++ entries_from into (s + 1) (drop (s + 1) (lists_of rows))
 entries_next {Z = Z} into rows s row within is =

@@ -39,7 +39,7 @@ pub started_push : (R S : Rows) (codes : ℕ → List Range) (to : ℕ) (row mor
     → ((b : ℕ) → look_up more b ≡ cond (nat_eq b to) (Some t) (look_up row b)) → RiseWithin 0 (to + 1) more → Started S codes (to + 1) more
 started_push R S codes to row more t on started fit leads rises = started_next R S codes to row more (Some t) on started fit (leads_here to t row more leads) (λ b less. leads_before to t row more leads b less) rises
 
--- the same set under another name
+-- the same set, given differently
 fits_same : (step : ℕ → ℕ → Option (Option ℕ)) (n : ℕ) (p q : ℕ → Bool) → ((c : ℕ) → p c ≡ q c) → (r v : ℕ) (t : Option (Option ℕ)) → Fits step n p r v t → Fits step n q r v t
 fits_same step n p q same zero v t fits = fits ∙ ap (λ x. cond x (Some None) None) (same v)
 fits_same step n p q same (suc r) v None fits = λ c e. sym (same c) ∙ fits c e

@@ -1,4 +1,4 @@
--- Rows that lead back, and levels of them.
+-- Rows that lead backward, and levels of them.
 use Rattle.std.proofs.Common.{◌≡◌, ℕ, zero, suc, ◌+◌, ◌-◌, ◌<◌, ◌≤◌, ◌⊎◌, Bool, true, false, ◌&&◌, cond, nat_lt, nat_eq, List, [], ◌∷◌, ◌++◌, length, get_or, take, drop, Option, Some, None, refl, sym, ap, ap₂, subst, ◌∙◌, arith, inl, inr}
 use Rattle.std.specs.Prelude.{Vec}
 use Rattle.std.specs.List.{All}
@@ -36,7 +36,7 @@ same_lead : (those others : ReadingPlace → Bool) → SamePlaces those others �
 same_lead those others same None = refl
 same_lead those others same (Some x) = same x
 
--- where a byte leads back
+-- where a byte leads backward
 pub lead_reads : (step : Automaton) (n : ℕ) (those : ReadingPlace → Bool) (b from : ℕ) (sets : List (List ℕ)) (set : List ℕ) (o : Option ReadingPlace) → 0 < from
     → ((s : ℕ) → has set s ≡ leads_in those (step s b)) → ((s : ℕ) → n ≤ s → step s b ≡ None) → IsLeadOf sets from set o
     → LeadsBack (length sets) step (λ next t. (from ≤ t) × SamePlaces (stands_for n sets t) next) those b o
@@ -141,7 +141,7 @@ both false b e = absurd (cc e)
 first_from : (from state : ℕ) → from ≤ state → nat_eq state 0 ≡ true → nat_eq from 0 ≡ true
 first_from from state low e = grind (arith, nat_tests)
 
--- the places of a state, and those of all states of the level
+-- the positions of a state, and those of all states of the level
 pub record Places {Z : Type 0} (n : ℕ) (sets : List (Vec ℕ Z)) (from to : ℕ) (end : Bool) (states : List Bool) : Type 0 where
   pub end_is : end ≡ nat_eq from 0
   pub states_are : (s : ℕ) → get_or states s false ≡ (nat_lt s n && in_some (lists_of (take (to - from) (drop from sets))) s)
@@ -183,8 +183,8 @@ row_added {Z = Z} forward all sets sets' sets'' rows rows' from to t level_end e
     reads = row_reads forward all (is_place end states) (is_place level_end level) (stands_for (length forward) (lists_of sets) t) within same sets'' (length (lists_of sets))
         (omega (arith, high, sizes)) row rises (λ b less. subst (λ k. IsLeadOf sets'' k (sources (is_place end states) (entries_from (is_place level_end level) 0 forward) b) (look_up row b)) (sym sizes) (leads b less))
 
--- The levels that are made: whatever rows are added, the first state reads back if each state without
--- a row reads the bytes that are left.
+-- The levels that are built: whatever rows are added, the first state reads backward if each state
+-- without a row reads the bytes that are left.
 pub record Made (n : ℕ) (step : Automaton) (more : ℕ) (sets : List (List ℕ)) (rows : Rows) : Type 0 where
   pub some : 0 < length sets
   pub within : length rows ≤ length sets

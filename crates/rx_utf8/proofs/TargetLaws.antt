@@ -65,7 +65,7 @@ pub whole_fits : (R : Rows) (p : ℕ → Bool) (r v : ℕ) → 0 < r → r ≤ 3
 whole_fits R p zero v some few on all = absurd (omega (arith, some))
 whole_fits R p (suc r) v some few on all = full_fits (step_in R) (length R) p full_state (suc r) v (full_from R on (suc r) few) (λ c e. let at = block (suc r) v c few e in all c at.0 at.1)
 
--- ranges that hold the same characters of the block
+-- ranges with the same characters of the block
 pub part_fits : (R : Rows) (p q : ℕ → Bool) (r v : ℕ) (t : Option (Option ℕ)) → r ≤ 3 → ((c : ℕ) → v * size r ≤ c → c ≤ v * size r + (size r - 1) → p c ≡ q c) → Fits (step_in R) (length R) p r v t → Fits (step_in R) (length R) q r v t
 part_fits R p q r v t few same fits = fits_alike (step_in R) (length R) p q r v t (λ c e. let at = block r v c few e in same c at.0 at.1) fits
 
@@ -124,7 +124,7 @@ filled_fits R p (suc r) v row some more filled =
       (λ b is. here b ∙ elim (next_at b is) [ inl low ↦ filled'.below b low | inr high ↦ rise_above 0 192 row b filled'.rises high ]),
     )
 
--- one row more, whose ranges are disjoint
+-- one more row, whose ranges are disjoint
 pub rows_one_more : (R : Rows) (row : List ByteRange) (to : ℕ) → to ≤ 256 → All IsAutomatonRow R → RiseWithin 0 to row → All IsAutomatonRow (R ++ row ∷ [])
 rows_one_more R row to few all rises = All-append IsAutomatonRow R (row ∷ []) all (All-cons IsAutomatonRow row [] (rise_more 0 to 256 row few rises) (All-nil IsAutomatonRow))
 

@@ -17,7 +17,7 @@ look_up (range ∷ ranges) b =
 abbrev pub step_in : List (List ByteRange) → ℕ → ℕ → Option (Option ℕ)
 step_in rows s b = look_up (get_or rows s []) b
 
--- ranges of bytes, none of them empty, each behind the one before, from a byte on and below another
+-- non-empty ranges of bytes, each after the one before, from a byte on and below another
 abbrev pub RiseWithin : ℕ → ℕ → List ByteRange → Type 0
 RiseWithin low high [] = low ≤ high
 RiseWithin low high (range ∷ ranges) =
@@ -39,8 +39,8 @@ step_of reader = step_in reader.rows
 abbrev pub is_in : List Range → ℕ → Bool
 is_in ranges c = in_ranges ranges (ordinal c)
 
--- from its first state on the automaton takes the UTF-8 of the set's characters and nothing else,
--- whatever the bytes are
+-- from its first state on the automaton reads the UTF-8 of the set's characters and nothing else,
+-- whatever the bytes
 abbrev pub ReadsSet : List Range → List (List ByteRange) → Type 0
 ReadsSet ranges rows = (bytes : List ℕ) → run (step_in rows) 0 bytes
     ≡ member_len (is_in ranges) bytes
@@ -50,9 +50,9 @@ pub record IsReader (reader : Reader) : Type 0 where
   pub reads : ReadsSet reader.ranges reader.rows
   pub disjoint : All IsAutomatonRow reader.rows
 
--- the automaton reads the set's characters backwards: given the bytes of any content from the last
--- one back it takes the member whose UTF-8 stands last there, and nothing else. No byte leads to
--- its first state, and each of its rows has disjoint ranges
+-- the automaton reads the set's characters backward: given any bytes in reverse order, it reads the
+-- member whose UTF-8 they end with, and nothing else. No byte leads to its first state, and each of
+-- its rows has disjoint ranges
 pub record IsReverseReader (reader : Reader) : Type 0 where
   pub reads_last : ReadsLast (is_in reader.ranges) (step_of reader)
   pub never_returns : NeverReturns (step_of reader)

@@ -1,4 +1,4 @@
-//! The states of blocks of characters: those whose first bytes are the same.
+//! The states of blocks of characters, which have the same first bytes.
 
 ghost use Rattle.std.specs.Prelude.{ℕ, ◌≡◌, ◌<◌, ◌≤◌, ◌+◌, ◌++◌, [], ◌∷◌, length, All, IfOk, OnOk, IfSome};
 ghost use Rattle.rx_sets.specs.Sets.{in_ranges};
@@ -9,7 +9,7 @@ use crate::byte_ranges::{ByteRange, push_byte, state_number};
 use rx_sets::Range;
 use std::alloc::{AllocError, Global};
 
-/// Whether the code point is in one of the ranges.
+/// Returns whether the code point is in one of the ranges.
 fn contains(ranges: &[Range], code: u32) -> bool
     ensures { result ≡ in_ranges ranges.now code }
 {
@@ -18,7 +18,8 @@ fn contains(ranges: &[Range], code: u32) -> bool
         .any(|range| range.0 <= code && code <= range.1)
 }
 
-/// Whether all code points between these are in the ranges, or none; or it isn't known.
+/// Returns whether all code points between these are in the ranges, or none; `None` if neither is
+/// clear.
 fn cover(ranges: &[Range], low: u32, high: u32) -> Option<bool>
     ensures { IfSome result (λ all. AllBetween (in_ranges ranges.now) low high all) }
 {
@@ -33,7 +34,7 @@ fn cover(ranges: &[Range], low: u32, high: u32) -> Option<bool>
     Some(false)
 }
 
-/// The ranges without those in front that end below this code point.
+/// Returns the ranges from the first one on that doesn't end below this code point.
 fn ranges_from(mut ranges: &[Range], low: u32) -> &[Range]
     ensures { (c : ℕ) → low ≤ c → in_ranges result.now c ≡ in_ranges ranges.now c }
 {
@@ -45,7 +46,7 @@ fn ranges_from(mut ranges: &[Range], low: u32) -> &[Range]
     ranges
 }
 
-/// The ranges without those at the end that start above this code point.
+/// Returns the ranges up to the last one that doesn't start above this code point.
 fn ranges_up_to(mut ranges: &[Range], high: u32) -> &[Range]
     ensures { (c : ℕ) → c ≤ high → in_ranges result.now c ≡ in_ranges ranges.now c }
 {
@@ -57,7 +58,7 @@ fn ranges_up_to(mut ranges: &[Range], high: u32) -> &[Range]
     ranges
 }
 
-/// How many code points there are with these bytes still to come.
+/// Returns the number of code points with `rest` bytes to come.
 fn size(rest: u32) -> u32
     requires { rest ≤ 3 }
     ensures { result ≡ size rest }
@@ -70,7 +71,8 @@ fn size(rest: u32) -> u32
     }
 }
 
-/// Appends a row, copied into the room that it fills: an automaton has hundreds of short ones.
+/// Appends a row, copied to an allocation of its length, because an automaton has hundreds of short
+/// ones.
 fn push_row(rows: &mut Vec<Vec<ByteRange>>, row: Vec<ByteRange>) -> Result<(), AllocError>
     ensures { OnOk result (rows_of rows.new.items ≡ rows_of rows.old.items ++ (row.items ∷ [])) }
 {
@@ -79,7 +81,7 @@ fn push_row(rows: &mut Vec<Vec<ByteRange>>, row: Vec<ByteRange>) -> Result<(), A
     Ok(())
 }
 
-/// Where the bytes lead after which `rest` more are to come, and whose value so far is `value`.
+/// Returns where bytes lead whose value so far is `value`, with `rest` bytes to come.
 pub(crate) fn target(
     rows: &mut Vec<Vec<ByteRange>>,
     ranges: &[Range],
@@ -109,7 +111,8 @@ pub(crate) fn target(
         Some(true) => return Ok(Some(Some(rest as u16))),
         None => {}
     }
-    // What lies outside the block is left out, so that its parts don't look at it again.
+    // Only the ranges inside the block are passed on, so that its parts don't check the others
+    // again.
     let part = ranges_up_to(ranges_from(ranges, low), high);
     let mut row = Vec::new(*rows.allocator());
     for byte in 128..192 {
@@ -122,7 +125,7 @@ pub(crate) fn target(
     Ok(Some(Some(state_number(state)?)))
 }
 
-/// Appends a row that leads from each byte that continues a character to this state.
+/// Appends a row that leads from each continuation byte to this state.
 fn push_any(rows: &mut Vec<Vec<ByteRange>>, next: Option<u16>) -> Result<(), AllocError>
     ensures { OnOk result (rows_of rows.new.items ≡ rows_of rows.old.items
         ++ (any_next next ∷ [])) }
@@ -137,8 +140,8 @@ fn push_any(rows: &mut Vec<Vec<ByteRange>>, next: Option<u16>) -> Result<(), All
     Ok(())
 }
 
-/// The rows that stand in each automaton: the first one to be written, and those of the states that
-/// read one, two or three bytes, whatever they are.
+/// Returns the first rows of each automaton: the first one to be set later, and those of the states
+/// that read one, two or three bytes, whatever they are.
 pub(crate) fn prepared(alloc: Global) -> Result<Vec<Vec<ByteRange>>, AllocError>
     ensures { IfOk result (λ rows. rows_of rows.items ≡ prepared) }
 {

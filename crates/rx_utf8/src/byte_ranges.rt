@@ -5,19 +5,19 @@ ghost use Rattle.rx_utf8.specs.Automata.{look_up, IsAutomatonRow, RiseWithin};
 
 use std::alloc::AllocError;
 
-/// Bytes that lead to one state.
+/// Bytes that lead to the same state.
 #[derive(Debug, Clone, Copy, PartialEq, Eq)]
 pub struct ByteRange {
     /// The first byte.
     pub first: u8,
-    /// The last byte, which is in the range.
+    /// The last byte, inclusive.
     pub last: u8,
-    /// The number of the state that they lead to, and `None` where they end a character.
+    /// The number of the state to which they lead; `None` if they end a character.
     pub next: Option<u16>,
 }
 
-/// The number of a state in the 16 bits that ranges have for it: rows have hundreds of them. An
-/// automaton has at most some 22,000 states, whatever its set, so that none is refused.
+/// Returns the number of a state as 16 bits, because rows have hundreds of them. An automaton has
+/// at most some 22,000 states, so this never fails.
 pub(crate) fn state_number(state: usize) -> Result<u16, AllocError>
     ensures { IfOk result (λ number. number ≡ state) }
 {
@@ -27,7 +27,7 @@ pub(crate) fn state_number(state: usize) -> Result<u16, AllocError>
     }
 }
 
-/// Where a range leads, its state as an index.
+/// Returns the state to which a range leads as an index.
 fn place(next: Option<u16>) -> Option<usize>
     ensures { result ≡ next }
 {
@@ -38,7 +38,7 @@ fn place(next: Option<u16>) -> Option<usize>
 }
 
 impl ByteRange {
-    /// Whether the byte comes right after the range and leads to the same state.
+    /// Returns whether the byte follows the range and leads to the same state.
     fn takes_in(self, byte: u8, next: Option<u16>) -> bool
         ensures { MatchBool result ((self.last + 1 ≡ byte) × (self.next ≡ next)) (Unit {0}) }
     {
@@ -46,7 +46,7 @@ impl ByteRange {
     }
 }
 
-/// Where a byte leads by the ranges of a row, which are in order.
+/// Returns where a byte leads in a row, whose ranges must be in order.
 pub(crate) fn look_up(row: &[ByteRange], byte: u8) -> Option<Option<usize>>
     requires { IsAutomatonRow row.now }
     ensures { result ≡ look_up row.now byte }
@@ -62,8 +62,8 @@ pub(crate) fn look_up(row: &[ByteRange], byte: u8) -> Option<Option<usize>>
     None
 }
 
-/// Appends a byte that leads to this state. A range that ends right before it and leads there takes
-/// it in.
+/// Appends a byte that leads to this state. If the last range ends right before it and leads there,
+/// it is extended.
 pub(crate) fn push_byte(
     row: &mut Vec<ByteRange>,
     byte: u8,

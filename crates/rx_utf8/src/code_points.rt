@@ -1,4 +1,4 @@
-//! The code points of a set, by how many bytes they take.
+//! The code points of a set, by their number of bytes.
 
 ghost use Rattle.std.specs.Prelude.{ℕ, ◌≡◌, ◌+◌, ◌<◌, ◌≤◌, ◌^◌, [], OnOk, IfOk};
 ghost use Rattle.std.specs.Str.{continuation_len, lead_bits};
@@ -8,7 +8,7 @@ ghost use Rattle.rx_utf8.specs.Blocks.{limit, pick, shifted_into};
 use rx_sets::Range;
 use std::alloc::{AllocError, Global};
 
-/// How many bytes follow this first byte.
+/// Returns the number of bytes that follow this first byte.
 pub(crate) fn continuation_len(byte: u8) -> u32
     ensures value { result ≡ continuation_len byte }
     ensures bound { result ≤ 3 }
@@ -24,7 +24,7 @@ pub(crate) fn continuation_len(byte: u8) -> u32
     }
 }
 
-/// The bits of the character that this first byte holds.
+/// Returns the bits of the character in this first byte.
 pub(crate) fn lead_bits(byte: u8) -> u32
     ensures value { result ≡ lead_bits byte }
     ensures bound { result < limit (continuation_len byte) }
@@ -41,7 +41,7 @@ pub(crate) fn lead_bits(byte: u8) -> u32
     }
 }
 
-/// The code points that so many bytes follow the first of.
+/// Returns the code points with this number of bytes after the first.
 pub(crate) fn pick<'a>(
     one: &'a [Range],
     two: &'a [Range],
@@ -60,7 +60,7 @@ pub(crate) fn pick<'a>(
     }
 }
 
-/// Appends the code points whose ordinals lie in the ranges and between these two.
+/// Appends the code points whose ordinals are in the ranges and between these two.
 pub(crate) fn push_shifted(
     codes: &mut Vec<Range>,
     ranges: &[Range],
@@ -82,7 +82,7 @@ pub(crate) fn push_shifted(
     Ok(())
 }
 
-/// The code points whose ordinals lie in the ranges and between these two.
+/// Returns the code points whose ordinals are in the ranges and between these two.
 pub(crate) fn shifted(
     alloc: Global,
     ranges: &[Range],

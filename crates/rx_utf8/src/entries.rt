@@ -1,5 +1,5 @@
-//! The ranges of bytes that lead into places of an automaton, and by byte the states that they lead
-//! from. A place is a state, or the end of a character.
+//! The ranges of bytes that lead to some positions in an automaton, and for each byte the states
+//! from which it leads there. A position is a state, or the end of a character.
 
 ghost use Rattle.std.specs.Prelude.{ℕ, ◌≡◌, ◌<◌, ◌++◌, [], ◌∷◌, ◌&&◌, ◌||◌, nat_lt, length, get_or, cond, false, OnOk, IfOk};
 ghost use Rattle.rx_walks.specs.Reversed.{has};
@@ -9,16 +9,16 @@ ghost use Rattle.rx_utf8.specs.Subsets.{covers, entries_from, entries_of, in_som
 use crate::byte_ranges::{ByteRange, state_number};
 use std::alloc::{AllocError, Global};
 
-/// A range of bytes that leads on from a state.
+/// A range of bytes in the row of a state.
 #[derive(Clone, Copy)]
 pub(crate) struct Entry {
     /// The state.
     pub(crate) source: u16,
-    /// The bytes, and where they lead.
+    /// The bytes, and the state to which they lead.
     pub(crate) range: ByteRange,
 }
 
-/// Whether it is one of the places: the end, if it is one, and those of the states that are.
+/// Returns whether this is one of the positions: the end, if `end`, or a state of the set.
 fn is_place(end: bool, states: &[bool], next: Option<u16>) -> bool
     ensures { result ≡ is_place end states.now next }
 {
@@ -31,7 +31,7 @@ fn is_place(end: bool, states: &[bool], next: Option<u16>) -> bool
     }
 }
 
-/// Adds the states with these numbers, as far as there are such.
+/// Adds the states with these numbers, as far as they exist.
 fn insert(states: &mut Vec<bool>, numbers: &[u16])
     ensures len { length states.new.items ≡ length states.old.items }
     ensures states { (s : ℕ) → get_or states.new.items s false ≡ (get_or states.old.items s false
@@ -45,7 +45,7 @@ fn insert(states: &mut Vec<bool>, numbers: &[u16])
     }
 }
 
-/// Makes them the states that are in one of the sets.
+/// Sets the states to those in one of the sets.
 pub(crate) fn set_states(states: &mut Vec<bool>, sets: &[Vec<u16>])
     ensures len { length states.new.items ≡ length states.old.items }
     ensures states { (s : ℕ) → get_or states.new.items s false
@@ -57,7 +57,7 @@ pub(crate) fn set_states(states: &mut Vec<bool>, sets: &[Vec<u16>])
     }
 }
 
-/// Appends the ranges of a row that lead to one of the places.
+/// Appends the ranges of a row that lead to one of the positions.
 fn push_entries(
     entries: &mut Vec<Entry>,
     source: u16,
@@ -79,7 +79,7 @@ fn push_entries(
     Ok(())
 }
 
-/// The ranges of the rows that lead to one of the places.
+/// Returns the ranges of the rows that lead to one of the positions.
 pub(crate) fn entries_into(
     alloc: Global,
     rows: &[Vec<ByteRange>],
@@ -102,7 +102,7 @@ pub(crate) fn entries_into(
     Ok(entries)
 }
 
-/// Empties the lists.
+/// Clears all lists.
 fn clear(lists: &mut Vec<Vec<u16>>)
     ensures len { length lists.new.items ≡ length lists.old.items }
     ensures lists { (b : ℕ) → get_or (lists_of lists.new.items) b [] ≡ [] }
@@ -112,7 +112,7 @@ fn clear(lists: &mut Vec<Vec<u16>>)
     }
 }
 
-/// Appends a state to the lists of the bytes that lead on from it.
+/// Appends a state to the lists of the bytes in a range.
 fn push_source(lists: &mut Vec<Vec<u16>>, range: ByteRange, source: u16) -> Result<(), AllocError>
     requires { length lists.old.items ≡ 256 }
     ensures len { length lists.new.items ≡ 256 }
@@ -125,7 +125,7 @@ fn push_source(lists: &mut Vec<Vec<u16>>, range: ByteRange, source: u16) -> Resu
     Ok(())
 }
 
-/// Makes the lists those of the states from which each byte leads to one of the places.
+/// Sets the lists to the states from which each byte leads to one of the positions.
 pub(crate) fn set_sources(
     lists: &mut Vec<Vec<u16>>,
     entries: &[Entry],

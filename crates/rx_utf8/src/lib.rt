@@ -1,4 +1,4 @@
-//! Automata over bytes that read the UTF-8 of the characters of sets, forwards and backwards.
+//! Automata over bytes that read the UTF-8 of the characters of sets, forward and backward.
 #![tactic(auto)]
 
 mod blocks;

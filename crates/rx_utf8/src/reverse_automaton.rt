@@ -1,4 +1,4 @@
-//! A set of characters with the automaton that reads them backwards.
+//! A set of characters with its reverse automaton.
 
 ghost use Rattle.std.specs.Prelude.{◌≡◌, [], length, get_or, All, IfOk};
 ghost use Rattle.rx_utf8.specs.Automata.{step_of, ReadsSet, IsReverseReader, IsAutomatonRow};
@@ -12,8 +12,8 @@ use std::alloc::{AllocError, Global};
 use std::marker::Model;
 use std::rc::Rc;
 
-/// A set of characters with an automaton over bytes that reads them backwards, from the last byte.
-/// Contracts see the set's ranges and the rows of the automaton's states (`Reader`).
+/// A set of characters with an automaton over bytes that reads them from the last byte to the
+/// first. Contracts see the set's ranges and the rows of the automaton's states (`Reader`).
 #[derive(Debug, Drop)]
 pub struct ReverseAutomaton {
     set: Rc<CharacterSet>,
@@ -34,7 +34,7 @@ impl Model for ReverseAutomaton {
 }
 
 impl ReverseAutomaton {
-    /// The automaton of a set, whose forward automaton has these rows.
+    /// Builds the reverse automaton of a set, whose forward automaton has these rows.
     pub(crate) fn new(
         alloc: Global,
         set: &Rc<CharacterSet>,
@@ -50,14 +50,14 @@ impl ReverseAutomaton {
         Ok(ReverseAutomaton { set, rows })
     }
 
-    /// The set.
+    /// Returns the set.
     pub fn set(&self) -> &Rc<CharacterSet>
         ensures { result.now.value ≡ self.now.ranges }
     {
         &self.set
     }
 
-    /// The maximal ranges of the set, by ordinals.
+    /// Returns the maximal ranges of the set, by ordinals.
     pub fn ranges(&self) -> &[Range]
         ensures ranges { result.now ≡ self.now.ranges }
         ensures reader { IsReverseReader self.now }
@@ -65,8 +65,8 @@ impl ReverseAutomaton {
         self.set.ranges()
     }
 
-    /// Where a byte leads at a state, of a content that is read from its last byte back: nowhere
-    /// (`None`), to the start of a character (`Some(None)`), or to a state. Reading begins at state
+    /// Returns where a byte leads from a state, in a haystack that is read backward: nowhere
+    /// (`None`), to the start of a character (`Some(None)`), or to a state. Reading starts at state
     /// 0, to which no byte leads.
     pub fn step(&self, state: usize, byte: u8) -> Option<Option<usize>>
         ensures { result ≡ step_of self.now state byte }
@@ -77,7 +77,7 @@ impl ReverseAutomaton {
         }
     }
 
-    /// The ranges of bytes that lead on from a state: disjoint, and in order.
+    /// Returns the ranges of bytes that lead on from a state: disjoint, and in order.
     pub fn row(&self, state: usize) -> &[ByteRange]
         ensures row { result.now ≡ get_or self.now.rows state [] }
         ensures disjoint { IsAutomatonRow result.now }
@@ -88,7 +88,7 @@ impl ReverseAutomaton {
         }
     }
 
-    /// How many states there are.
+    /// Returns the number of states.
     pub fn state_count(&self) -> usize
         ensures { result ≡ length self.now.rows }
     {

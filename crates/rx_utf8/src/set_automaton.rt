@@ -1,4 +1,4 @@
-//! A set of characters with the automaton that reads them.
+//! A set of characters with its automaton.
 
 ghost use Rattle.std.specs.Prelude.{◌≡◌, [], length, get_or, All, IfOk};
 ghost use Rattle.rx_utf8.specs.Automata.{step_of, ReadsSet, IsReader, IsAutomatonRow};
@@ -14,8 +14,7 @@ use std::alloc::{AllocError, Global};
 use std::marker::Model;
 use std::rc::Rc;
 
-/// The rows of the automaton that reads the members, whose code points are given by how many bytes
-/// they take.
+/// Returns the rows of the automaton that reads these code points, given by their number of bytes.
 fn rows_for(
     alloc: Global,
     one: &[Range],
@@ -42,7 +41,7 @@ fn rows_for(
     Ok(rows)
 }
 
-/// The rows of the automaton that reads the members of a set.
+/// Returns the rows of the automaton of a set.
 fn rows_of_set(alloc: Global, ranges: &[Range]) -> Result<Vec<Vec<ByteRange>>, AllocError>
     ensures reads { IfOk result (λ rows. ReadsSet ranges.now (rows_of rows.items)) }
     ensures disjoint { IfOk result (λ rows. All IsAutomatonRow (rows_of rows.items)) }
@@ -55,8 +54,8 @@ fn rows_of_set(alloc: Global, ranges: &[Range]) -> Result<Vec<Vec<ByteRange>>, A
     rows_for(alloc, &one, &two, &three, &four)
 }
 
-/// A set of characters with an automaton over bytes that reads them. Contracts see the set's
-/// ranges and the rows of the automaton's states (`Reader`).
+/// A set of characters with an automaton over bytes that reads them. Contracts see the set's ranges
+/// and the rows of the automaton's states (`Reader`).
 #[derive(Debug, Drop)]
 pub struct SetAutomaton {
     set: Rc<CharacterSet>,
@@ -77,7 +76,11 @@ impl Model for SetAutomaton {
 }
 
 impl SetAutomaton {
-    /// The automaton of a set.
+    /// Builds the automaton of a set.
+    ///
+    /// # Errors
+    ///
+    /// Out of memory.
     pub fn new(alloc: Global, set: Rc<CharacterSet>) -> Result<SetAutomaton, AllocError>
         ensures { IfOk result (λ automaton. automaton.ranges ≡ set.value) }
     {
@@ -85,23 +88,27 @@ impl SetAutomaton {
         Ok(SetAutomaton { set, rows })
     }
 
-    /// The automaton that reads the set's characters backwards, which is made anew. It takes time
-    /// in proportion to this automaton's ranges, and for each state of its own, of which there are
-    /// at most some four thousand, to those of them that lead into its level.
+    /// Builds the reverse automaton of the set. Takes time proportional to this automaton's ranges,
+    /// and for each of its own states, of which there are some four thousand at most, to the ranges
+    /// that lead into its level.
+    ///
+    /// # Errors
+    ///
+    /// Out of memory.
     pub fn reversed(&self, alloc: Global) -> Result<ReverseAutomaton, AllocError>
         ensures { IfOk result (λ automaton. automaton.ranges ≡ self.now.ranges) }
     {
         ReverseAutomaton::new(alloc, &self.set, &self.rows)
     }
 
-    /// The set.
+    /// Returns the set.
     pub fn set(&self) -> &Rc<CharacterSet>
         ensures { result.now.value ≡ self.now.ranges }
     {
         &self.set
     }
 
-    /// The maximal ranges of the set, by ordinals.
+    /// Returns the maximal ranges of the set, by ordinals.
     pub fn ranges(&self) -> &[Range]
         ensures ranges { result.now ≡ self.now.ranges }
         ensures reader { IsReader self.now }
@@ -109,8 +116,8 @@ impl SetAutomaton {
         self.set.ranges()
     }
 
-    /// Where a byte leads at a state: nowhere (`None`), to the end of a character (`Some(None)`),
-    /// or to a state. Reading begins at state 0.
+    /// Returns where a byte leads from a state: nowhere (`None`), to the end of a character
+    /// (`Some(None)`), or to a state. Reading starts at state 0.
     pub fn step(&self, state: usize, byte: u8) -> Option<Option<usize>>
         ensures { result ≡ step_of self.now state byte }
     {
@@ -120,7 +127,7 @@ impl SetAutomaton {
         }
     }
 
-    /// The ranges of bytes that lead on from a state: disjoint, and in order.
+    /// Returns the ranges of bytes that lead on from a state: disjoint, and in order.
     pub fn row(&self, state: usize) -> &[ByteRange]
         ensures row { result.now ≡ get_or self.now.rows state [] }
         ensures disjoint { IsAutomatonRow result.now }
@@ -131,7 +138,7 @@ impl SetAutomaton {
         }
     }
 
-    /// How many states there are.
+    /// Returns the number of states.
     pub fn state_count(&self) -> usize
         ensures { result ≡ length self.now.rows }
     {

@@ -1,5 +1,5 @@
-//! An automaton turned round, and made deterministic: its states stand for sets of the states of
-//! the other one.
+//! The reverse of an automaton, made deterministic: its states represent sets of the other one's
+//! states.
 
 ghost use Rattle.std.specs.Prelude.{ℕ, ◌≡◌, ◌<◌, ◌≤◌, ◌+◌, [], ◌∷◌, length, get_or, All, IsTrue, IfOk, IfSome, OnOk};
 ghost use Rattle.rx_walks.specs.Transposed.{StandsForPlaces, NeverReturns, at_the_end};
@@ -12,7 +12,7 @@ use crate::entries::{entries_into, set_sources, set_states};
 use rx_walks::laws_back::transposed_reads_alike;
 use std::alloc::{AllocError, Global};
 
-/// A hash with a further number mixed in.
+/// Returns a hash with a number mixed in.
 fn mixed(hash: u64, number: u64) -> u64 {
     hash.rotate_left(29)
         .wrapping_add(0xD1B5_4A32_D192_ED03)
@@ -20,8 +20,8 @@ fn mixed(hash: u64, number: u64) -> u64 {
         .wrapping_mul(0x9E37_79B9_7F4A_7C15)
 }
 
-/// A number by which sets are looked up, among those of the states from this one on: the same sets
-/// have the same.
+/// Returns the hash of a set among those of the states from this one on; equal sets have equal
+/// hashes.
 fn hash(from: usize, set: &[u16]) -> u64 {
     let mut hash = mixed(0, from as u64);
     for state in set {
@@ -30,34 +30,34 @@ fn hash(from: usize, set: &[u16]) -> u64 {
     hash
 }
 
-/// In which chain sets with this hash stand.
+/// Returns the chain of sets with this hash.
 fn chain(hash: u64) -> usize {
     (hash >> 56) as usize
 }
 
-/// The hash of a state's set, and the next state in its chain, which is 0 where there is none.
+/// The hash of a state's set, and the next state in its chain, or 0.
 #[derive(Clone, Copy)]
 struct Link {
     hash: u64,
     next: u16,
 }
 
-/// The sets of states that the states of the automaton stand for. The first state stands for the
+/// The sets of states that the states of the automaton represent. The first state represents the
 /// end of a character, and has no set.
 #[derive(Drop)]
 pub(crate) struct Subsets {
     alloc: Global,
     sets: Vec<Vec<u16>>,
-    // By state, and by chain the first state in it. That each set is found again isn't proved: if
-    // it weren't, two states might stand for the same set.
+    // By state, and by chain the first state in it. It isn't proved that each set is found again:
+    // if it weren't, two states might represent the same set.
     links: Vec<Link>,
     heads: Vec<u16>,
-    // The one that was asked for last: often it is asked for again.
+    // The last result, which is often the next one too.
     last: u16,
 }
 
 impl Subsets {
-    /// The first state is there alone.
+    /// Returns this with the first state only.
     fn new(alloc: Global) -> Result<Subsets, AllocError>
         ensures { IfOk result (λ subsets. lists_of subsets.sets.items ≡ [] ∷ []) }
     {
@@ -74,7 +74,7 @@ impl Subsets {
         })
     }
 
-    /// Whether the state is one from `from` on that stands for the set.
+    /// Returns whether the state is one from `from` on that represents the set.
     fn stands_for(&self, number: u16, from: usize, set: &[u16]) -> bool
         ensures from { IsTrue result → from ≤ number }
         ensures known { IsTrue result → number < length self.now.sets.items }
@@ -87,7 +87,7 @@ impl Subsets {
         }
     }
 
-    /// The state from `from` on that is known to stand for the set.
+    /// Returns the state from `from` on that represents the set, if it is found.
     fn find(&self, hash: u64, from: usize, set: &[u16]) -> Option<u16>
         ensures from { IfSome result (λ t. from ≤ t) }
         ensures known { IfSome result (λ t. t < length self.now.sets.items) }
@@ -107,7 +107,7 @@ impl Subsets {
         None
     }
 
-    /// Puts a state at the head of its chain, as the one that was asked for last.
+    /// Puts a state at the head of its chain, and makes it the last result.
     fn link(&mut self, hash: u64, number: u16) -> Result<(), AllocError>
         ensures { self.new.sets ≡ self.old.sets }
     {
@@ -121,7 +121,7 @@ impl Subsets {
         Ok(())
     }
 
-    /// The state from `from` on that stands for the set: one that does so already, or a new one.
+    /// Returns the state from `from` on that represents the set, which is added if there is none.
     fn number(&mut self, from: usize, set: &[u16]) -> Result<u16, AllocError>
         requires { from ≤ length self.old.sets.items }
         ensures kept { OnOk result (Extends (lists_of self.old.sets.items)
@@ -145,7 +145,7 @@ impl Subsets {
         Ok(number)
     }
 
-    /// Where a byte leads back that leads on from the states of the set.
+    /// Returns where a byte leads backward that leads on from the states of the set.
     fn lead(&mut self, from: usize, set: &[u16]) -> Result<Option<Option<u16>>, AllocError>
         requires { from ≤ length self.old.sets.items }
         ensures kept { OnOk result (Extends (lists_of self.old.sets.items)
@@ -162,8 +162,8 @@ impl Subsets {
     }
 }
 
-/// Makes it the row of a state, given by byte the states from which it leads on: it leads to states
-/// from `from` on.
+/// Sets the row of a state from the lists of states from which each byte leads into its set; the
+/// row leads to states from `from` on.
 fn set_row(
     row: &mut Vec<ByteRange>,
     lists: &[Vec<u16>],
@@ -188,22 +188,22 @@ fn set_row(
     Ok(())
 }
 
-/// The rows that are made so far, and what their making needs.
+/// The rows so far, and room for further ones.
 #[derive(Drop)]
 struct Maker {
     alloc: Global,
     rows: Vec<Vec<ByteRange>>,
     subsets: Subsets,
-    // The states that are in a set.
+    // The states in a set of the level.
     states: Vec<bool>,
-    // By byte the states from which it leads into the set.
+    // For each byte the states from which it leads into the set.
     lists: Vec<Vec<u16>>,
-    // The row that is being made: it is copied once its length is known.
+    // The current row, which is copied once its length is known.
     row: Vec<ByteRange>,
 }
 
 impl Maker {
-    /// No row is made yet, of an automaton that is turned round and has so many states.
+    /// Returns this without rows, for the reverse of an automaton with this number of states.
     fn new(alloc: Global, state_count: usize) -> Result<Maker, AllocError>
         ensures rows { IfOk result (λ maker. maker.rows.items ≡ []) }
         ensures sets { IfOk result (λ maker. lists_of maker.subsets.sets.items ≡ [] ∷ []) }
@@ -243,7 +243,8 @@ impl Maker {
     {
         let from = self.rows.len();
         let to = self.subsets.sets.len();
-        // What leads into none of them is left out, so that each of them doesn't look at it again.
+        // Only ranges that lead into some set are kept, so that each set doesn't check the others
+        // again.
         set_states(&mut self.states, &self.subsets.sets[from..to]);
         let entries = entries_into(self.alloc, forward, from == 0, &self.states)?;
         for state in from..to {
@@ -257,8 +258,8 @@ impl Maker {
     }
 }
 
-/// The rows of the automaton that reads back what the one with these rows reads, over at most four
-/// bytes. It has a level of states for each byte that was read back.
+/// Returns the rows of the automaton that reads backward, over at most four bytes, what the one
+/// with these rows reads. It has a level of states for each byte that was read.
 pub(crate) fn rows_back(
     alloc: Global,
     forward: &[Vec<ByteRange>],

@@ -1,4 +1,4 @@
--- Where all matches are wanted a search finds something or nothing.
+-- Among all matches a search finds something or nothing.
 use Rattle.std.proofs.Common.{◌≡◌, ℕ, zero, suc, ◌<◌, ◌≤◌, ◌⊎◌, Bool, true, false, ◌&&◌, ◌==◌, List, [], length, Option, Some, None, slice_get, Contains, refl, sym, ap, subst, ◌∙◌, arith, inl, inr}
 use Rattle.std.proofs.lemmas.Bool.{cases_lt, cases_eq, eq-eqb, eqb-true, and_parts, and_from}
 use Rattle.rx_walks.specs.Machines.{Move, ends, goes, reads, Machine, Outcome, IsForward}
@@ -13,7 +13,7 @@ use Rattle.rx_walks.proofs.ForwardLaws.{characters_forward, number_told}
 use Rattle.rx_walks.proofs.ExistLaws.{IsKnown, both_known, possible_known, may_end_known, least_number, least_or_none, numbers_below, still_or_there}
 use Rattle.rx_walks.proofs.MatchLaws.{matches_exist, lies_all}
 
--- ---- a walk to an end that is asked for
+-- ---- a walk to a requested end
 
 -- the machine without the other ends
 abbrev only_asked : {Q : Type 0} → (ℕ → ℕ → Bool) → ℕ → Move Q → Move Q

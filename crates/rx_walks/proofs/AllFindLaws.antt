@@ -1,4 +1,4 @@
--- The greatest end by bytes is that by characters.
+-- The greatest end over bytes is that over characters.
 use Rattle.std.proofs.Common.{◌≡◌, ℕ, ◌⊎◌, ◌↔◌, List, [], Option, None, refl, inl, inr}
 use Rattle.std.specs.Str.{IsCharBoundary}
 use Rattle.rx_walks.specs.Machines.{Machine, reads}
@@ -51,7 +51,7 @@ finds_all_unrefined q same in_c in_b n (nowhere never) = nowhere (λ a from begu
 finds_all_unrefined q same in_c in_b n (found {a = a} from begun path best) = found from begun ((paths_agree q a.start a.pattern a.end same in_c in_b n).1 path)
     (λ b from' begun' path'. best b from' begun' ((paths_agree q b.start b.pattern b.end same in_c in_b n).0 path'))
 
--- the loop over places, whatever reads the characters
+-- the search loop, whatever reads the characters
 pub readers_find_all : {L S N : Type 0} (put : ℕ → ℕ → N → N) (first : S → List ℕ → Option ℕ) (step : ℕ → Automaton) (nodes : List (Node L S)) (h : Haystack L) (s : Search) (fresh : ℕ → N) (q : ℕ) (out : Option PatternMatch)
     → ReadsMembers first step nodes → ReadsWhole (over_characters put first nodes h) s.content
     → SearchesAll (over_bytes put step nodes h) (MayBegin s) (q, 0) s.start [] None out → IsFindAll (over_characters put first nodes h) fresh s q out

@@ -1,4 +1,4 @@
--- One step without a cut keeps every end, with the least start.
+-- One step for all matches keeps every match end, with the least start.
 use Rattle.std.proofs.Common.{◌≡◌, ℕ, zero, suc, ◌+◌, ◌≤◌, ◌⊎◌, List, [], ◌∷◌, ◌++◌, map, Some, slice_get, refl, subst, ◌∙◌, arith, inl, inr}
 use Rattle.rx_walks.specs.Machines.{ends, goes, reads, Machine, Outcome}
 use Rattle.rx_walks.specs.Walks.{Walk, ended, went, took, Reaches}
@@ -7,7 +7,7 @@ use Rattle.rx_walks.specs.StepsAll.{StepsAll, done, passed, met, opened, read, S
 use Rattle.rx_walks.proofs.WalkLaws.{ends_not_goes, ends_not_reads, goes_not_reads, same_end, same_open, same_read, same_some, from_node, from_place, none_when_seen}
 use Rattle.rx_walks.proofs.PathLaws.{passes_or}
 
--- what a node's move says of what it reaches
+-- what a node's move determines about what it reaches
 walk_to_end : {Q N : Type 0} {m : Machine Q N} {seen : List Q} {n : N} {q : Q} {i p : ℕ} {cs : List ℕ} {t : Outcome N} → m.move i q ≡ ends p → Walk m seen n q i cs t → (p ≡ t.pattern) × (i ≡ t.end)
 walk_to_end is (ended new is') = (same_end is is', refl)
 walk_to_end is (went rs r new is' at w) = absurd (ends_not_goes is is')
@@ -24,12 +24,12 @@ walk_read is (ended new is') = absurd (ends_not_reads is' is)
 walk_read is (went rs r new is' at w) = absurd (goes_not_reads is' is)
 walk_read is (took r' j' new is' w) = let same = same_read is' is in record { choices = _; outcome = _; walk = from_node same.0 (from_place same.1 w); pattern_is = refl; end_is = refl }
 
--- a thread with this start reaches this end, past nodes seen
+-- a thread with this start reaches this end, without the nodes seen
 pub data From {Q N : Type 0} (m : Machine Q N) (seen : List Q) (i p e : ℕ) : ℕ → List (ℕ × Q) → Type 0 where
   by_first : {s : ℕ} {q : Q} {others : List (ℕ × Q)} (n : N) → Reaches m seen n q i p e → From m seen i p e s ((s, q) ∷ others)
   by_other : {s s' : ℕ} {q : Q} {others : List (ℕ × Q)} → From m seen i p e s others → From m seen i p e s ((s', q) ∷ others)
 
--- as early a start or an earlier one reaches this end from the next place, or has met it
+-- a start that is no later reaches this end from the next offset, or has met it
 pub data Covered {Q N : Type 0} (m : Machine Q N) (i p e s : ℕ) (next : List (ℕ × Q)) (ms : List (ℕ × ℕ)) : Type 0 where
   goes_on : (s' : ℕ) → s' ≤ s → From m [] (i + 1) p e s' next → Covered m i p e s next ms
   is_met : (s' : ℕ) → s' ≤ s → i ≡ e → Met s' p ms → Covered m i p e s next ms
@@ -69,7 +69,7 @@ from_others s' (x ∷ rs) others from = by_other (from_others s' rs others from)
 reaches_as : {Q N : Type 0} {m : Machine Q N} {seen : List Q} {n : N} {q : Q} {i p p' e e' : ℕ} → p ≡ p' → e ≡ e' → Reaches m seen n q i p e → Reaches m seen n q i p' e'
 reaches_as is is' reached = record { choices = reached.choices; outcome = reached.outcome; walk = reached.walk; pattern_is = reached.pattern_is ∙ is; end_is = reached.end_is ∙ is' }
 
--- a thread goes by a node more, or passes it
+-- a thread's walk takes one more node, or avoids it
 from_past : {Q N : Type 0} {m : Machine Q N} {seen : List Q} {i p e s : ℕ} {threads : List (ℕ × Q)} (same : (a b : Q) → (a ≡ b) ⊎ (a ≡ b → ⊥)) (q : Q) → From m seen i p e s threads
     → From m (q ∷ seen) i p e s threads ⊎ ((n : N) × Reaches m seen n q i p e)
 from_past same q (by_first n reached) = elim (passes_or same q reached.walk) [
@@ -103,7 +103,7 @@ all_covered same (read {s = s'} r new is steps) (one_more within to rise) p e s 
     (λ n reached. goes_on s' (omega arith) (by_first n (reaches_as reached.pattern_is reached.end_is (walk_read is reached.walk))))
     (λ s f. covered_next (all_covered same steps rise p e s f)) from
 
--- and it makes no others
+-- and there are no others
 pub data Has {Q N : Type 0} (m : Machine Q N) (i p e s : ℕ) : List (ℕ × Q) → Type 0 where
   has_first : {s' : ℕ} {q : Q} {others : List (ℕ × Q)} → s' ≡ s → Path m q i p e → Has m i p e s ((s', q) ∷ others)
   has_other : {s' : ℕ} {q : Q} {others : List (ℕ × Q)} → Has m i p e s others → Has m i p e s ((s', q) ∷ others)

@@ -1,4 +1,4 @@
--- The loop over places without a cut finds the greatest end.
+-- The search loop for all matches finds the greatest end.
 use Rattle.std.proofs.Common.{◌≡◌, ℕ, ◌+◌, ◌≤◌, ◌⊎◌, List, [], ◌∷◌, ◌++◌, Option, Some, None, refl, sym, subst, arith, inl, inr}
 use Rattle.std.proofs.lemmas.Bool.{cases_order}
 use Rattle.rx_walks.specs.Machines.{Machine, IsForward}
@@ -57,7 +57,7 @@ next_rises (met new is steps) (one_more within to rise) = rise_lower within (nex
 next_rises (opened {others = others} rs new is steps) (one_more within to rise) = next_rises steps (rise_open rs others within to rise)
 next_rises (read r new is steps) (one_more within to rise) = one_more within to (next_rises steps rise)
 
--- what the live threads and the starts to come may yet give
+-- what the current threads and the later starts may still give
 pub data May {Q N : Type 0} (m : Machine Q N) (begins : ℕ → Type 0) (q : Q) (i : ℕ) (live : List (ℕ × Q)) (a : PatternMatch) : Type 0 where
   by_live : Has m i a.pattern a.end a.start live → May m begins q i live a
   by_start : i ≤ a.start → begins a.start → Path m q a.start a.pattern a.end → May m begins q i live a
@@ -70,7 +70,7 @@ may_forward : {Q N : Type 0} {m : Machine Q N} {begins : ℕ → Type 0} {q : Q}
 may_forward on (by_live has) = has_forward on has
 may_forward on (by_start from b path) = omega (arith, from, path_forward on path)
 
--- a place's threads stand for its live threads and its start
+-- the threads of an offset: the current ones and the one that starts there
 pub record Stand {Q N : Type 0} (m : Machine Q N) (begins : ℕ → Type 0) (q : Q) (i : ℕ) (live threads : List (ℕ × Q)) : Type 0 where
   pub to : (a : PatternMatch) → May m begins q i live a → Has m i a.pattern a.end a.start threads ⊎ ((i + 1 ≤ a.start) × begins a.start × Path m q a.start a.pattern a.end)
   pub back : (a : PatternMatch) → Has m i a.pattern a.end a.start threads → May m begins q i live a
@@ -172,7 +172,7 @@ all_answers on same n (started b steps latest rest) rise =
     let stand = stand_started b rise in all_step on same n stand steps latest (all_answers on same n rest (rise_higher (next_rises steps stand.rises)))
 all_answers on same n (stepped held steps latest rest) rise = all_step on same n (stand_stepped held rise) steps latest (all_answers on same n rest (rise_higher (next_rises steps rise)))
 
--- with no threads at first the search finds the greatest end
+-- without threads at first, the search finds the greatest end
 pub search_finds_all : {Q N : Type 0} {m : Machine Q N} {begins : ℕ → Type 0} {q : Q} {i : ℕ} {out : Option PatternMatch} → IsForward m → ((a b : Q) → (a ≡ b) ⊎ (a ≡ b → ⊥)) → N → SearchesAll m begins q i [] None out
     → FindsAll m begins q i out
 search_finds_all {m = m} {begins = begins} {q = q} {i = i} on same n searches = finds (all_answers on same n searches no_more)

@@ -1,4 +1,4 @@
--- There is one answer of a search that reads backwards.
+-- A backward search has one result.
 use Rattle.std.proofs.Common.{◌≡◌, ℕ, Bool, Option, Some, refl, sym, ap, ◌∙◌, arith}
 use Rattle.rx_walks.specs.Machines.{Machine}
 use Rattle.rx_walks.specs.Looks.{Look}

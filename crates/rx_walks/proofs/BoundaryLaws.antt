@@ -1,4 +1,4 @@
--- In UTF-8 what is found starts and ends at boundaries of characters, and so do its groups.
+-- In UTF-8 finds start and end at character boundaries, and so do their groups.
 use Rattle.std.proofs.Common.{◌≡◌, ℕ, zero, suc, ◌+◌, ◌==◌, Bool, true, false, cond, List, [], ◌∷◌, ◌++◌, take, drop, Option, Some, None, slice_get, append_assoc, sym, ap, subst, ◌∙◌, inl, inr}
 use Rattle.std.specs.Prelude.{IsTrue}
 use Rattle.std.specs.Str.{IsUtf8, IsCharBoundary}
@@ -21,7 +21,7 @@ use Rattle.rx_walks.proofs.InsideLaws.{walk_keeps}
 use Rattle.rx_walks.proofs.MatchLaws.{program_matches_found}
 use Rattle.std.proofs.lemmas.List.Elements.{All-weaker}
 
--- what stands first in a front of the bytes stands first in the bytes
+-- what a prefix of the bytes starts with, the bytes start with
 in_all : (i high b : ℕ) (xs bs : List ℕ) → drop i (take high xs) ≡ b ∷ bs → (others : List ℕ) × (drop i xs ≡ (b ∷ bs) ++ others)
 in_all zero zero b xs bs e = absurd (cc e)
 in_all zero (suc high) b [] bs e = absurd (cc e)
@@ -30,7 +30,7 @@ in_all (suc i) zero b xs bs e = absurd (cc e)
 in_all (suc i) (suc high) b [] bs e = absurd (cc e)
 in_all (suc i) (suc high) b (x ∷ xs) bs e = in_all i high b xs bs e
 
--- each place that was noted is a boundary
+-- each noted offset is a boundary
 abbrev AreBoundaries : List ℕ → List (ℕ × ℕ) → Type 0
 AreBoundaries content noted = (slot j : ℕ) → last_noted slot noted ≡ Some j → IsCharBoundary content j
 

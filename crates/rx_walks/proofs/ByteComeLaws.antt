@@ -1,4 +1,4 @@
--- A program's bytes come to the nodes to which its characters come.
+-- A program over bytes reaches the nodes that the program over characters does.
 use Rattle.std.proofs.Common.{◌≡◌, ℕ, zero, suc, ◌+◌, ◌⊎◌, Bool, true, false, List, [], ◌∷◌, map, drop, take, Option, Some, None, option_map, slice_get, refl, sym, ap, subst, ◌∙◌, arith, inl, inr}
 use Rattle.rx_walks.specs.Machines.{Move, Machine, goes, reads}
 use Rattle.rx_walks.specs.Programs.{Node, match, pass, note, look, set, Haystack, only_if, is_within, left_from, read_up_to, by_character, over_characters}
@@ -72,7 +72,7 @@ module _ {L S N : Type 0} (put : ℕ → ℕ → N → N) (first : S → List �
           subst (λ z. Comes b (x, 0) i (z, 0) k) same.0 (subst (λ z. Comes b (x, 0) i (r', 0) z) same.1 (comes_chain sofar chain))
       by sofar (both_fail is' dies) = absurd (goes_not_reads is' is)
 
-  -- what a read of a byte is
+  -- a read of a byte
   record OneRead (q s j : ℕ) (t : ℕ × ℕ) (j' : ℕ) : Type 0 where
     of : S
     to : ℕ
@@ -111,7 +111,7 @@ module _ {L S N : Type 0} (put : ℕ → ℕ → N → N) (first : S → List �
       by_node true within (Some (look l r)) at e = by_look (h.holds l j) ((r, 0) ∷ []) e
       by_node true within (Some (set x r)) at e = by_bytes x r at within (left_from h j) refl e
 
-  -- what an empty edge is
+  -- an epsilon transition
   record OneEdge (q j : ℕ) (t : ℕ × ℕ) : Type 0 where
     rs : List ℕ
     k : ℕ
@@ -159,7 +159,7 @@ module _ {L S N : Type 0} (put : ℕ → ℕ → N → N) (first : S → List �
       by_node true within (Some (look l r)) at e = by_look l r at within (h.holds l j) refl e
       by_node true within (Some (set x r)) at e = by_bytes r (left_from h j) e
 
-  -- where bytes have come to: a node to which characters come, or amid one's character
+  -- where reading bytes has led: a node that characters reach, or inside a character of one
   data Stands (x i q s j : ℕ) : Type 0 where
     whole : s ≡ 0 → Comes c x i q j → Stands x i q s j
     amid : (of : S) (to k went : ℕ) → (s ≡ 0 → ⊥) → Comes c x i q k → is_within h.low h.high k ≡ true → slice_get nodes q ≡ Some (set of to) → k + went ≡ j
@@ -174,7 +174,7 @@ module _ {L S N : Type 0} (put : ℕ → ℕ → N → N) (first : S → List �
     rest_stands : left_from h (j + 1) ≡ one.bytes
     rest_stands = let place : j + 1 ≡ suc j = omega arith in ap (left_from h) place ∙ tail_of j (take h.high h.content) one.byte one.bytes one.stands
 
-    -- with what was read before of the character
+    -- with the bytes of the character that were read before
     read_more : (of : S) (to k went : ℕ) → Comes c x i q k → is_within h.low h.high k ≡ true → slice_get nodes q ≡ Some (set of to) → k + went ≡ j
         → ((l : ℕ) → run (step q) s (left_from h j) ≡ Some l → run (step q) 0 (left_from h k) ≡ Some (went + l)) → Stands x i t.0 t.1 j'
     read_more of to k went comes within at place tells = elim one.does [

@@ -1,4 +1,4 @@
--- The character that stands first in a list of bytes.
+-- The first character of a list of bytes.
 use Rattle.std.proofs.Common.{◌≡◌, ℕ, zero, suc, ◌+◌, ◌<◌, ◌≤◌, ◌⊎◌, Bool, true, false, ◌&&◌, cond, nat_lt, ◌/◌, List, [], ◌∷◌, ◌++◌, take, drop, Option, Some, None, refl, sym, ap, ap₂, ◌∙◌, arith, inl, inr}
 use Rattle.std.proofs.lemmas.Bool.Decides.{nat_tests}
 use Rattle.std.proofs.lemmas.List.{take_at, append-nil}
@@ -23,7 +23,7 @@ one_in [] c e = absurd (cc e)
 one_in (d ∷ []) c e = ap (λ x. x ∷ []) (same_some refl e)
 one_in (d ∷ d' ∷ cs) c e = absurd (cc e)
 
--- the bytes are the UTF-8 of the character that they are
+-- bytes that are a character are its UTF-8
 pub character_is : (bs : List ℕ) (c : ℕ) → character_of bs ≡ Some c → IsScalar c × (bs ≡ encode c)
 character_is bs c e = tested (is_utf8 bs) refl e
   where
@@ -43,7 +43,7 @@ character_of-encode c scalar =
     let one : chars (encode c) ≡ c ∷ [] = ap chars (sym (append-nil (encode c))) ∙ chars-encodes (c ∷ []) (alone c scalar) in
     ap₂ (λ x y. cond x (only_one y) None) text one
 
--- of two options
+-- the first of two options
 pub some_first : (a b : Option ℕ) (c : ℕ) → first_some a b ≡ Some c → (a ≡ Some c) ⊎ (b ≡ Some c)
 some_first None b c e = inr e
 some_first (Some d) b c e = inl e
@@ -53,7 +53,7 @@ first_of a b c (inr same) where' = ap (λ x. first_some x b) same
 first_of a b c (inl none) (inl is) = absurd (cc (none, is))
 first_of a b c (inl none) (inr is) = ap (λ x. first_some x b) none ∙ is
 
--- what stands first is found
+-- the first character is found
 at_length : (bs : List ℕ) (k c : ℕ) → character_of (take k bs) ≡ Some c → StandsFirst bs c
 at_length bs k c e = let one = character_is (take k bs) c e in record { scalar = one.0; rest = drop k bs; stands = take_drop k bs ∙ ap (λ x. x ++ drop k bs) one.1 }
 
@@ -84,7 +84,7 @@ stands_first bs c first = let bounds = len_utf8_bounds c in by_length (len_utf8 
     by_length (suc (suc (suc (suc zero)))) e low high = first_of _ _ c (none_or_same 1 _ refl) (inr (first_of _ _ c (none_or_same 2 _ refl) (inr (first_of _ _ c (none_or_same 3 _ refl) (inr (at 4 e))))))
     by_length (suc (suc (suc (suc (suc k))))) e low high = absurd (omega (arith, high))
 
--- a member that stands first
+-- a first character that is a member
 pub member_stands : (member : ℕ → Bool) (bs : List ℕ) (k : ℕ) → member_len member bs ≡ Some k → (c : ℕ) × StandsFirst bs c × (member c ≡ true) × (k ≡ len_utf8 c)
 member_stands member bs k e = by_first (first_character bs) refl e
   where
@@ -96,7 +96,7 @@ member_stands member bs k e = by_first (first_character bs) refl e
     by_first None is e = absurd (cc e)
     by_first (Some c) is e = by_member c is (member c) refl e
 
--- no character begins with a byte that continues one
+-- no character starts with a continuation byte
 pick : (c n₂ n₃ n₄ : ℕ) (bs₂ bs₃ bs₄ : List ℕ) (p q r : Bool) → (p ≡ true → c < 128)
     → (b : ℕ) × (bs : List ℕ) × (cond p (c ∷ []) (cond q ((192 + n₂) ∷ bs₂) (cond r ((224 + n₃) ∷ bs₃) ((240 + n₄) ∷ bs₄))) ≡ b ∷ bs) × (128 ≤ b → 192 ≤ b)
 pick c n₂ n₃ n₄ bs₂ bs₃ bs₄ true q r low = (c, [], refl, λ at. absurd (omega (arith, at, low refl)))

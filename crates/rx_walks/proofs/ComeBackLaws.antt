@@ -1,4 +1,4 @@
--- Which nodes lead is told by the program turned round.
+-- The reverse program finds the leading nodes.
 use Rattle.std.proofs.Common.{ℕ, ◌-◌, ◌<◌, ◌≤◌, Bool, [], ◌∷◌, length, refl, ap, ◌∙◌, arith}
 use Rattle.rx_walks.specs.Machines.{Machine, goes, reads}
 use Rattle.rx_walks.specs.Programs.{Program, Haystack, only_if, read_up_to, over_characters}

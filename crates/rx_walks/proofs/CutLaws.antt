@@ -1,4 +1,4 @@
--- What is found stays found where the span is cut at its end.
+-- A find is still found if the span is cut at its end.
 use Rattle.std.proofs.Common.{◌≡◌, ℕ, ◌+◌, ◌<◌, ◌≤◌, ◌-◌, ◌⊎◌, Bool, true, false, List, [], ◌++◌, take, drop, length, cond, Option, Some, None, slice_get, min, refl, sym, ap, subst, ◌∙◌, arith, inl, inr}
 use Rattle.std.proofs.lemmas.Bool.{cases_lt}
 use Rattle.std.proofs.lemmas.Bool.Decides.{nat_tests}
@@ -59,7 +59,7 @@ fewer_tell member bytes n m k fewer long e =
     let one = member_stands member (take m bytes) k e in
     member_is member (take n bytes) one.0 (stands_in_fewer bytes n m one.0 fewer (omega (arith, long, one.3)) one.1) one.2 ∙ ap Some (sym one.3)
 
--- the bytes from a place on, up to a further one
+-- the bytes from an offset up to a later one
 from_place_up_to : (content : List ℕ) (i high : ℕ) → i ≤ high → drop i (take high content) ≡ take (high - i) (drop i content)
 from_place_up_to content i high inside = ap (λ n. drop i (take n content)) (omega (arith, inside)) ∙ drop-take i (high - i) content
 
@@ -94,7 +94,7 @@ module _ {S : Type 0} (member : S → ℕ → Bool) (nodes : List (Node Look S))
   at_node i inside (Some (look l r)) = inl refl
   at_node i inside (Some (set x r)) = read_of i r x inside _ _ refl refl
 
-  -- where there is something to do in the cut span, the same is to be done in the whole one
+  -- a move in the cut span is a move in the whole one
   within_both : (i : ℕ) → is_within h.low high i ≡ true → is_within h.low h.high i ≡ true
   within_both i e = grind (arith, nat_tests, lower)
 
@@ -222,7 +222,7 @@ module _ {S : Type 0} (member : S → ℕ → Bool) (is_word : ℕ → Bool) (p 
       inside : IsInside s t.end
       inside = (lies.0, lies.1, lies.2, omega (arith, lies.3, within), lies.4)
 
-      -- in the span that is cut at its end it is found too
+      -- it is found in the span that is cut at its end, too
       shorter : ProgramFinds member is_word p (up_to_place s t.end) (Some t)
       shorter = finds_stay_in_cut_spans member is_word p (up_to_place s i) t finds
 

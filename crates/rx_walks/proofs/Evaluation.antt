@@ -1,4 +1,4 @@
--- A search that computes what is found, for worked examples.
+-- A search that computes finds, for worked examples.
 use Rattle.std.proofs.Common.{◌≡◌, ℕ, zero, suc, ◌+◌, ◌-◌, ◌<◌, ◌≤◌, Bool, true, false, not, IsTrue, ◌&&◌, ◌||◌, ◌==◌, nat_le, List, [], ◌∷◌, ◌++◌, map, length, Option, Some, None, Contains, slice_index, refl, sym, ap, ap₂, subst, ◌∙◌, arith, inl, inr}
 use Rattle.std.proofs.lemmas.Bool.{eqb-true, eq-eqb, leb-true, le-leb}
 use Rattle.std.proofs.lemmas.Bool.Decides.{leb_tells}
@@ -41,7 +41,7 @@ is_seen_false (x ∷ seen) q e = by_head (λ e'. is_seen_false seen q e') (x == 
     by_head rest true is e = absurd (cc e)
     by_head rest false is e = λ c. elim (Contains-cases seen x q c) [ inl same ↦ cc (sym is ∙ eq-eqb x q same) | inr c' ↦ rest e c' ]
 
--- a step, if so many turns suffice
+-- a step, if this many turns are enough
 abbrev Stepped : Type 0 → Type 0
 Stepped N = Option (List (N × ℕ) × Option (Outcome N))
 
@@ -99,7 +99,7 @@ step_gives {N = N} m i (suc turns) seen ((n, q) ∷ others) out e = by_seen (λ 
     by_seen again true is e = passed (is_seen_true seen q is) (again seen others out e)
     by_seen again false is e = by_move again (m.move i q) (is_seen_false seen q is) refl e
 
--- the loop over so many places; each of its steps has so many turns
+-- the search loop over a number of offsets, with a number of turns for each step
 abbrev places_on : {N : Type 0} → Machine ℕ N → ℕ → (ℕ → Bool) → (ℕ → N) → ℕ → ℕ → ℕ → List (N × ℕ) → Option (Outcome N) → Option (Option (Outcome N))
 places_on m turns begins fresh q zero i [] last_met = Some last_met
 places_on m turns begins fresh q zero i (t ∷ live) last_met = None
@@ -112,7 +112,7 @@ places_on m turns begins fresh q (suc places) i live None = elim (begins i) [
   | false ↦ elim (step m i turns [] live) [ None ↦ None | Some x ↦ places_on m turns begins fresh q places (i + 1) x.0 (either x.1 None) ]
 ]
 
--- a test of where starts begin
+-- a test of where a match may begin
 pub record Tells (test : ℕ → Bool) (begins : ℕ → Type 0) (past : ℕ) : Type 0 where
   pub yes : (i : ℕ) → test i ≡ true → begins i
   pub no_others : (i : ℕ) → test i ≡ false → begins i → ⊥
@@ -151,7 +151,7 @@ places_search {N = N} m turns test begins past fresh q (suc places) i live None 
     by_test again true is e = by_start again (tells.yes i is) (step m i turns [] (live ++ (fresh i, q) ∷ [])) refl e
     by_test again false is e = by_step again (tells.no_others i is) (step m i turns [] live) refl e
 
--- where starts begin, as a test
+-- where a match may begin, as a test
 abbrev may_be_cut : List ℕ → ℕ → Bool
 may_be_cut content i = nat_le (length content) i || (nat_le (suc (slice_index content i)) 128 || nat_le 192 (slice_index content i))
 
@@ -237,7 +237,7 @@ computed member is_word p s q out at e = subst (λ o. IfStarts o (IsFind (machin
     (find_from_finds (reads_whole put_note member p.nodes (haystack_of (holds_in is_word p.line_terminator s) s))
     (search_finds (places_search (machine_of member is_word p s) 100 (begins_at s) (MayBegin s) (suc (length s.content)) fresh_notes q (suc (length s.content) - s.start) s.start [] None out (begins_at_tells s) (omega arith) e)))
 
--- and where all matches are wanted, what the loop without a cut finds
+-- the loop for all matches finds what the program finds among all
 pub found_by_all : {S : Type 0} (member : S → ℕ → Bool) (is_word : ℕ → Bool) (p : Program Look S) (s : Search) (q : ℕ) (out : Option PatternMatch) → start_node p s.anchoring ≡ Some q
     → SearchesAll (machine_of member is_word p s) (MayBegin s) q s.start [] None out → ProgramFindsAll member is_word p s out
 found_by_all member is_word p s q out at searches =

@@ -1,4 +1,4 @@
--- What small programs find in small contents, each by computation.
+-- Finds of small programs in small haystacks, each by computation.
 use Rattle.std.proofs.Common.{◌≡◌, ℕ, ◌≤◌, Bool, true, false, ◌==◌, List, [], ◌∷◌, Option, Some, None, refl, arith}
 use Rattle.std.proofs.Math.Utf8.{encode}
 use Rattle.std.specs.Str.{is_utf8, chars}
@@ -12,14 +12,14 @@ use Rattle.rx_walks.specs.StepsAll as all
 use Rattle.rx_walks.specs.StepsAll.{StepsAll, Met, met_first, met_other}
 use Rattle.rx_walks.proofs.Evaluation.{computed, is_seen_false, begins_at_true, found_by_all}
 
--- a program of one pattern that starts at its node 0; each of its sets has one character
+-- a program of one pattern that starts at node 0; each of its sets has one character
 abbrev program : List (Node Look ℕ) → Program Look ℕ
 program nodes = record { nodes = nodes; start = 0; patterns = 0 ∷ []; line_terminator = 10 }
 
 abbrev is_letter : ℕ → ℕ → Bool
 is_letter x c = x == c
 
--- `x` is the one word character
+-- `x` is the only word character
 abbrev is_x : ℕ → Bool
 is_x c = c == 120
 
@@ -29,7 +29,7 @@ from_in content start = record { content = content; slice_start = 0; slice_end =
 abbrev Found : List (Node Look ℕ) → List ℕ → ℕ → Option (Outcome Notes) → Type 0
 Found nodes content start out = ProgramFinds is_letter is_x (program nodes) (from_in content start) out
 
--- a match with what it noted, and one that noted nothing
+-- a match with its notes, and one without notes
 abbrev noting : ℕ → ℕ → List (ℕ × ℕ) → Option (Outcome Notes)
 noting start end noted = Some (record { pattern = 0; end = end; notes = record { start = start; noted = noted } })
 
@@ -65,7 +65,8 @@ x_star_from_4 = computed is_letter is_x (program x_star) (from_in se 4) 0 None r
 x_star_matches : ProgramMatches is_letter is_x (program x_star) (from_in se 0) (match_at 0 0 ∷ match_at 3 3 ∷ [])
 x_star_matches = first x_star_from_0 (one_more (moved x_star_from_0 refl refl x_star_from_1) (last (moved x_star_from_3 refl refl x_star_from_4)))
 
--- `(?m)(?:^|a)+` in `a\naaa\n`: an empty match at the start of a line is preferred, and is thrown away where the last one ends
+-- `(?m)(?:^|a)+` in `a\naaa\n`: an empty match at the start of a line is preferred, and is skipped
+-- where the last one ends
 abbrev starts_or_as : List (Node Look ℕ)
 starts_or_as = pass (1 ∷ 2 ∷ []) ∷ look start_line 3 ∷ set 97 3 ∷ pass (0 ∷ 4 ∷ []) ∷ match 0 ∷ []
 
@@ -107,7 +108,8 @@ starts_or_as_matches = first starts_or_as_from_0 (
     one_more (at_once starts_or_as_from_5 (λ start end. omega (arith, start))) (
     last (moved starts_or_as_from_6 refl refl starts_or_as_from_7)))))
 
--- `(?:a*)*` in `aax`: the inner loop takes what it can, and the outer one comes back to no node at the same place
+-- `(?:a*)*` in `aax`: the inner loop takes what it can, and the outer one returns to no node at the
+-- same offset
 abbrev a_star_star : List (Node Look ℕ)
 a_star_star = pass (1 ∷ 4 ∷ []) ∷ pass (2 ∷ 3 ∷ []) ∷ set 97 1 ∷ pass (1 ∷ 4 ∷ []) ∷ match 0 ∷ []
 
@@ -133,7 +135,8 @@ a_star_star_from_4 = computed is_letter is_x (program a_star_star) (from_in aax 
 a_star_star_matches : ProgramMatches is_letter is_x (program a_star_star) (from_in aax 0) (match_at 0 2 ∷ match_at 3 3 ∷ [])
 a_star_star_matches = first a_star_star_from_0 (one_more (moved a_star_star_from_2 refl refl a_star_star_from_3) (last (moved a_star_star_from_3 refl refl a_star_star_from_4)))
 
--- `(a|)+` in `aa`: the group was last entered at 1 and left at 2; an empty turn at 2 would come back to a node there
+-- `(a|)+` in `aa`: the group was last entered at 1 and left at 2; an empty turn at 2 would return
+-- to a node there
 abbrev a_or_nothing : List (Node Look ℕ)
 a_or_nothing = note 2 1 ∷ pass (2 ∷ 3 ∷ []) ∷ set 97 4 ∷ pass (4 ∷ []) ∷ note 3 5 ∷ pass (0 ∷ 6 ∷ []) ∷ match 0 ∷ []
 
@@ -179,7 +182,7 @@ other_after : holds_in is_x 10 (from_in se 0) no_word_boundary 3 ≡ true
 unfolding is_utf8 chars encode
 other_after = refl
 
--- anchored, `a` is found at the span's start alone
+-- anchored, `a` is found at the span's start only
 abbrev a_once : List (Node Look ℕ)
 a_once = set 97 1 ∷ match 0 ∷ []
 
@@ -201,7 +204,8 @@ a_at_once : ProgramFinds is_letter is_x (program a_once) (anchored_from anchored
 unfolding is_utf8 chars encode
 a_at_once = computed is_letter is_x (program a_once) (anchored_from anchored ba 1) 0 (at 1 2) refl refl
 
--- `b` and `ba` as two patterns: the first is preferred, unless the second is asked for; of a third nothing is found
+-- `b` and `ba` as two patterns: the first is preferred, unless the search is anchored to the
+-- second; of a third nothing is found
 abbrev b_and_ba : Program Look ℕ
 b_and_ba = record {
   nodes = pass (1 ∷ 3 ∷ []) ∷ set 98 2 ∷ match 0 ∷ set 98 4 ∷ set 97 5 ∷ match 1 ∷ [];
@@ -225,7 +229,8 @@ second_not_further_on = computed is_letter is_x b_and_ba (anchored_from (anchore
 no_third : ProgramFinds is_letter is_x b_and_ba (anchored_from (anchored_pattern 2) ba 0) None
 no_third = refl
 
--- `\bx*\b` from 1 in `xx`: what stands before the span is seen by looks, what stands before the slice is not
+-- `\bx*\b` from 1 in `xx`: assertions see the text before the span, but not the text before the
+-- slice
 abbrev xx : List ℕ
 xx = 120 ∷ 120 ∷ []
 
@@ -237,7 +242,7 @@ word_in_slice : ProgramFinds is_letter is_x (program word_of_x) (record (from_in
 unfolding is_utf8 chars encode
 word_in_slice = computed is_letter is_x (program word_of_x) (record (from_in xx 1) { slice_start = 1 }) 0 (at 1 2) refl refl
 
--- and what stands after the slice neither
+-- nor the text after the slice
 word_up_to_slice : ProgramFinds is_letter is_x (program word_of_x) (record (from_in xx 0) { slice_end = 1 }) (at 0 1)
 unfolding is_utf8 chars encode
 word_up_to_slice = computed is_letter is_x (program word_of_x) (record (from_in xx 0) { slice_end = 1 }) 0 (at 0 1) refl refl
@@ -263,7 +268,8 @@ preferred_of_three : ProgramFinds is_letter is_x three ab (Some (record { patter
 unfolding is_utf8 chars encode
 preferred_of_three = computed is_letter is_x three ab 0 (Some (record { pattern = 1; end = 1; notes = record { start = 0; noted = [] } })) refl refl
 
--- where all matches are wanted: the greatest end is 2; the least start with it is 0, though `b` is the first pattern; the least pattern with both is `ab??`
+-- among all matches: the greatest end is 2; the least start with it is 0, though `b` is the first
+-- pattern; the least pattern with both is `ab??`
 abbrev of_three : Machine ℕ Notes
 of_three = machine_of is_letter is_x three ab
 

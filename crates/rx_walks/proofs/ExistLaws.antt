@@ -1,4 +1,5 @@
--- From each node at each place there is a least walk or no walk, and so a search finds something or nothing.
+-- From each node at each offset there is a least walk or no walk, and therefore a search finds
+-- something or nothing.
 use Rattle.std.proofs.Common.{◌≡◌, ℕ, zero, suc, ◌+◌, ◌<◌, ◌≤◌, ◌⊎◌, Bool, true, false, List, [], ◌∷◌, ◌++◌, map, length, Option, Some, None, slice_get, Contains, refl, sym, ap, subst, ◌∙◌, arith, inl, inr}
 use Rattle.std.proofs.lemmas.Bool.{cases_lt, cases_eq}
 use Rattle.std.specs.Prelude.{IsTrue, slice_index}
@@ -17,7 +18,7 @@ use Rattle.rx_walks.proofs.FindLaws.{least_same}
 use Rattle.rx_walks.proofs.InsideLaws.{within_high}
 use Rattle.rx_walks.proofs.ForwardLaws.{characters_forward, number_told}
 
--- ---- what is known to hold or not to hold
+-- ---- decidable properties
 
 abbrev pub IsKnown : Type 0 → Type 0
 IsKnown A = A ⊎ (A → ⊥)
@@ -60,7 +61,7 @@ possible_known s i = both_known (inside_known s i) (if_known (true_known (is_anc
 pub may_end_known : (s : Search) (i e : ℕ) → IsKnown (MayEnd s i e)
 may_end_known s i e = either_known (if_known (cases_eq e i) (inr (λ never. never))) (if_known (true_known s.utf8_empty) (boundary_known s.content i))
 
--- the least number of which something holds, or none below n
+-- the least number with a property, or none below n
 pub least_number : (P : ℕ → Type 0) → ((i : ℕ) → IsKnown (P i)) → (n : ℕ) → ((i : ℕ) × P i × ((j : ℕ) → j < i → P j → ⊥)) ⊎ ((j : ℕ) → j < n → P j → ⊥)
 least_number P known zero = inr (λ j below. absurd (omega (arith, below)))
 least_number P known (suc n) = elim (least_number P known n) [
@@ -102,7 +103,7 @@ without (y ∷ xs) x c = elim (Contains-cases xs y x c) [
 
 -- ---- walks of a machine
 
--- what the least walk comes to, or that there is no walk
+-- the outcome of the least walk, or no walk
 abbrev pub LeastOrNone : {Q N : Type 0} → Machine Q N → List Q → N → Q → ℕ → Type 0
 LeastOrNone {Q} {N} m seen n q i = ((t : Outcome N) × IsLeast m seen n q i t) ⊎ HasNoWalk m seen n q i
 
@@ -118,7 +119,7 @@ none_still : {Q N : Type 0} {m : Machine Q N} {seen : List Q} {n : N} {q : Q} {i
 none_still nothing = none_went [] nothing (λ d s at. absurd (cc at))
 
 module _ {Q N : Type 0} (m : Machine Q N) (told : IsDecidable Q) (forward : IsForward m) where
-  -- at a place, where it is known of each further place
+  -- at an offset, if it is decided for each later offset
   module _ (i : ℕ) (on : (j : ℕ) → i < j → (n : N) (q : Q) → LeastOrNone m [] n q j) where
     by_move : (seen : List Q) (n : N) (q : Q) → IsNew seen q → ((n' : N) (r : Q) → LeastOrNone m (q ∷ seen) n' r i) → (x : Move Q) → m.move i q ≡ x → LeastOrNone m seen n q i
     by_move seen n q new others (ends p) is = inl (record { pattern = p; end = i; notes = n }, least_ended new is)
@@ -127,7 +128,7 @@ module _ {Q N : Type 0} (m : Machine Q N) (told : IsDecidable Q) (forward : IsFo
         of_one (opened_best rs new is (chosen n' rs [] (best_of others (map (λ r. (n', r)) rs ++ [])).1))
     by_move seen n q new others (reads r j) is = elim (on j (forward i j q r is) n r) [ inl one ↦ inl (one.0, least_took new is one.1) | inr never ↦ inr (none_took is never) ]
 
-    -- past the nodes seen, where `left` are the others at which there is something to do
+    -- without the nodes seen, where `left` are the others that have a move
     past : (count : ℕ) (left seen : List Q) → length left ≡ count → ((x : Q) → IsNew seen x → (m.move i x ≡ goes []) ⊎ Contains left x) → (n : N) (q : Q) → LeastOrNone m seen n q i
     past zero left seen few covers n q = elim (contained told seen q) [
       | inl c ↦ inr (none_when_seen c)
@@ -146,7 +147,7 @@ module _ {Q N : Type 0} (m : Machine Q N) (told : IsDecidable Q) (forward : IsFo
       ]
     ]
 
-  -- up to a highest place, and with so many nodes at which there is something to do
+  -- up to a highest offset, and with this many nodes that have a move
   pub least_or_none : (high : ℕ) (nodes : List Q) → ((i : ℕ) (q : Q) → (m.move i q ≡ goes []) ⊎ ((i ≤ high) × Contains nodes q)) → (places i : ℕ) → high < i + places → (n : N) (q : Q) → LeastOrNone m [] n q i
   least_or_none high nodes still zero i above n q = elim (still i q) [ inl nothing ↦ inr (none_still nothing) | inr there ↦ absurd (omega (arith, above, there.0)) ]
   least_or_none high nodes still (suc places) i above n q = past i

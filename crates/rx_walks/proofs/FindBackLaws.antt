@@ -1,4 +1,4 @@
--- From the end of what is found, the search that reads backwards finds its start.
+-- From the end of a find, the backward search finds its start.
 use Rattle.std.proofs.Common.{◌≡◌, ℕ, ◌<◌, ◌≤◌, ◌⊎◌, Bool, List, [], ◌∷◌, Option, Some, None, slice_get, refl, sym, ap, subst, ◌∙◌, arith, inl, inr}
 use Rattle.std.proofs.lemmas.Bool.{cases_order}
 use Rattle.std.specs.Str.{IsCharBoundary}
@@ -56,7 +56,7 @@ module _ {S : Type 0} (member : S → ℕ → Bool) (is_word : ℕ → Bool) (p 
   least : (n : Notes) (q i : ℕ) → LeastOrNone m [] n q i
   least n q i = characters_least put_note member p.nodes h n q i
 
-  -- to that end both have the same paths
+  -- both have the same paths to that end
   cut_path : {q i k e : ℕ} → Path m q i k e → Path (back e) q i k e
   cut_path {e = e} path =
       let on = trail_within (first_by member) p.nodes h (path_trail put_note (first_by member) p.nodes h path) in
@@ -147,7 +147,7 @@ module _ {S : Type 0} (member : S → ℕ → Bool) (is_word : ℕ → Bool) (p 
       by_node None e e' = absurd (cc e)
       by_node (Some q) is is' = start_back q t out is is'
 
--- of all walks from a start the least one is of the least pattern
+-- the least walk from a start has the least pattern
 before_first : {k d : ℕ} {cs ds : List ℕ} → Before (k ∷ cs) (d ∷ ds) → k ≤ d
 before_first (here below) = omega (arith, below)
 before_first (later e b) = omega (arith, e)

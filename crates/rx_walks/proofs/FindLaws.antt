@@ -1,4 +1,4 @@
--- What the loop over places finds is what a search finds, and there is one answer.
+-- The search loop finds what a search finds, and there is one result.
 use Rattle.std.proofs.Common.{◌≡◌, ℕ, ◌+◌, ◌⊎◌, List, ◌∷◌, Option, Some, None, refl, sym, ap, ap₂, subst, ◌∙◌, arith, inl, inr}
 use Rattle.std.proofs.lemmas.Bool.{cases_order}
 use Rattle.std.specs.Str.{IsCharBoundary}

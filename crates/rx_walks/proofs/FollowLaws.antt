@@ -1,4 +1,5 @@
--- What is followed over nodes that lead is the best of the threads, and something is followed wherever a node leads.
+-- The walk followed over leading nodes is the best of the threads, and there is one from every
+-- leading node.
 use Rattle.std.proofs.Common.{◌≡◌, ℕ, List, [], ◌∷◌, Option, Some, subst}
 use Rattle.rx_walks.specs.Machines.{reads, Machine, Outcome}
 use Rattle.rx_walks.specs.Walks.{IsNew, Walk, IsLeast, HasNoWalk}
@@ -9,7 +10,7 @@ use Rattle.rx_walks.proofs.WalkLaws.{none_when_seen, least_ended, least_took, ch
 use Rattle.rx_walks.proofs.PathLaws.{path_has_walk, walk_has_path}
 use Rattle.rx_walks.specs.Leading.{LeadsToMatch, Follows, nothing, entered, leads_not, matched, opened, read}
 
--- a node leads exactly where it has a walk
+-- a node leads exactly if it has a walk
 pub walk_leads_to : {Q N : Type 0} {m : Machine Q N} {seen : List Q} {n : N} {q : Q} {i : ℕ} {cs : List ℕ} {t : Outcome N} → Walk m seen n q i cs t → LeadsToMatch m q i
 walk_leads_to {t = t} w = record { pattern = t.pattern; end = t.end; path = walk_has_path w }
 
@@ -24,11 +25,11 @@ path_on is (at_end is') = absurd (ends_not_reads is' is)
 path_on is (by_edge rs r' k is' at path) = absurd (goes_not_reads is' is)
 path_on {m = m} {j = j} {p = p} {e = e} is (by_read r' j' is' path) = let one = same_read is' is in subst (λ x. Path m x j p e) one.0 (subst (λ x. Path m r' x p e) one.1 path)
 
--- then the node that is read to leads too
+-- then the node after a read leads, too
 pub leads_on : {Q N : Type 0} {m : Machine Q N} {q r : Q} {i j : ℕ} → m.move i q ≡ reads r j → LeadsToMatch m q i → LeadsToMatch m r j
 leads_on is leads = record { pattern = leads.pattern; end = leads.end; path = path_on is leads.path }
 
--- what one thread is followed to, where it leads
+-- the walk of a thread that leads
 read_best : {Q N : Type 0} {m : Machine Q N} {seen : List Q} {n : N} {q r : Q} {i j : ℕ} {others : List (N × Q)} {out : Option (Outcome N)} → IsDecidable Q → IsNew seen q → LeadsToMatch m q i → m.move i q ≡ reads r j
     → Best m [] j ((n, r) ∷ []) out → Best m seen i ((n, q) ∷ others) out
 read_best told new leads is (hit one) = hit (least_took new is one)

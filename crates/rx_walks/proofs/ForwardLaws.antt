@@ -1,4 +1,4 @@
--- A program's machines read forward, and of their nodes it is known whether they are one.
+-- A program's machines read forward, and equality of their nodes is decidable.
 use Rattle.std.proofs.Common.{◌≡◌, ℕ, ◌<◌, ◌⊎◌, Bool, true, false, List, [], ◌∷◌, Option, Some, None, slice_get, refl, ap, ap₂, arith, inl, inr}
 use Rattle.std.proofs.lemmas.Bool.{cases_order}
 use Rattle.std.proofs.lemmas.Str.{len_utf8_bounds}

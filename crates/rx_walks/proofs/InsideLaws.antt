@@ -1,4 +1,4 @@
--- What is found lies inside content, slice and span.
+-- Finds are inside haystack, slice and span.
 use Rattle.std.proofs.Common.{◌≡◌, ℕ, ◌≤◌, Bool, true, false, ◌==◌, cond, List, [], ◌∷◌, length, Option, Some, None, slice_get, min, refl, sym, subst, ◌∙◌, arith}
 use Rattle.std.proofs.lemmas.Bool.Decides.{nat_tests}
 use Rattle.std.proofs.Math.Nat.{le-max_left, le-max_right, min-le_left, min-le_right}
@@ -11,7 +11,7 @@ use Rattle.rx_walks.specs.ProgramFinds.{first_by, haystack_of, holds_in, machine
 use Rattle.rx_walks.specs.Laws.{MayBeFound, LiesInside}
 use Rattle.rx_walks.proofs.ForwardLaws.{characters_forward}
 
--- where there is something to do, the place is inside
+-- if there is a move, the offset is inside
 ends_inside : {Q : Type 0} {p : ℕ} (b : Bool) (x : Move Q) → only_if b x ≡ ends p → b ≡ true
 ends_inside false x e = absurd (cc e)
 ends_inside true x e = refl
@@ -23,7 +23,7 @@ none_there (r ∷ rs) k e at = absurd (cc e)
 pub same_goes : {Q : Type 0} (rs ss : List Q) → goes rs ≡ goes ss → rs ≡ ss
 same_goes rs ss e = cc e
 
--- each place that was noted lies between these
+-- each noted offset is between these
 abbrev pub AreNoted : ℕ → ℕ → List (ℕ × ℕ) → Type 0
 AreNoted low high noted = (slot j : ℕ) → last_noted slot noted ≡ Some j → (low ≤ j) × (j ≤ high)
 
@@ -62,7 +62,7 @@ module _ {S : Type 0} (first : S → List ℕ → Option ℕ) (nodes : List (Nod
       let further = keeps low (omega (arith, from, below)) (λ slot k e. ((are slot k e).0, omega (arith, (are slot k e).1, below))) w in
       record { inside = further.inside; on = omega (arith, further.on, below); start = further.start; noted = further.noted }
 
--- a place inside
+-- an offset inside
 within_low : (low high i : ℕ) → is_within low high i ≡ true → low ≤ i
 within_low low high i e = grind (arith, nat_tests)
 

@@ -1,4 +1,4 @@
--- Where all matches are wanted, an iterator over them gives them in order.
+-- An iterator over matches gives them in order, for `MatchKind::All`.
 use Rattle.std.proofs.Common.{◌≡◌, ℕ, Bool, true, false, List, [], ◌∷◌, ◌++◌, map, Option, Some, None, Result, Ok, Err, append_assoc, refl, sym, ap, ap₂, subst, ◌∙◌}
 use Rattle.std.specs.List.{last_or}
 use Rattle.std.specs.Iterator.{Yields}
@@ -14,7 +14,7 @@ use Rattle.rx_walks.specs.MatchesAll.{ProgramFirstMatchesAll, ProgramComesNextAl
 use Rattle.rx_walks.proofs.WalkLaws.{same_some}
 use Rattle.rx_walks.proofs.MatchAllLaws.{program_first_matches_all}
 
--- what is left behind the last match
+-- what is left after the last match
 abbrev left_behind : Search → Option PatternMatch → MatchesLeft
 left_behind s None = matches_from s
 left_behind s (Some t) = record { search = from_place_on s t.end; last_end = Some t.end; is_over = false }
@@ -48,7 +48,7 @@ last_of_more o (y ∷ xs) x = last_of_more (Some y) xs x
 
 module _ {S A E F : Type 0} (member : S → ℕ → Bool) (is_word : ℕ → Bool) (p : Program Look S) (item_of : PatternMatch → A) (left : F → MatchesLeft) (gives : F → Option (Result A E) → F → Type 0)
     (steps : (m n : F) (item : Option (Result A E)) → gives m item n → GivesMatchAll (ProgramFindsAll member is_word p) item_of (left m) item (left n)) (s : Search) where
-  -- what it has given from a state on in which it had given the matches before, and what it has left then
+  -- what it has given from a state before which it gave the first matches, and what it has left
   record HasGiven (ms : List PatternMatch) (items : List A) (n : F) : Type 0 where
     more : List PatternMatch
     are_first : ProgramFirstMatchesAll member is_word p s (ms ++ more)

@@ -14,7 +14,7 @@ use Rattle.rx_walks.specs.Iterating.{Finding, FindsNext, nothing, passed, Matche
 use Rattle.rx_walks.proofs.WalkLaws.{same_some}
 use Rattle.rx_walks.proofs.MatchLaws.{program_first_matches}
 
--- what is left behind the last match
+-- what is left after the last match
 abbrev left_behind : Search → Option (Outcome Notes) → MatchesLeft
 left_behind s None = matches_from s
 left_behind s (Some t) = record { search = from_place_on s (end_of t); last_end = Some (end_of t); is_over = false }
@@ -48,7 +48,7 @@ last_of_more o (y ∷ xs) x = last_of_more (Some y) xs x
 
 module _ {S A E F : Type 0} (member : S → ℕ → Bool) (is_word : ℕ → Bool) (p : Program Look S) (item_of : Outcome Notes → A) (left : F → MatchesLeft) (gives : F → Option (Result A E) → F → Type 0)
     (steps : (m n : F) (item : Option (Result A E)) → gives m item n → GivesMatch (ProgramFinds member is_word p) item_of (left m) item (left n)) (s : Search) where
-  -- what it has given from a state on in which it had given the matches before, and what it has left then
+  -- what it has given from a state before which it gave the first matches, and what it has left
   record HasGiven (ms : List (Outcome Notes)) (items : List A) (n : F) : Type 0 where
     more : List (Outcome Notes)
     are_first : ProgramFirstMatches member is_word p s (ms ++ more)

@@ -1,4 +1,4 @@
--- Which nodes lead at a place is told by those that lead at the next.
+-- The nodes that lead at an offset follow from those that lead at the next.
 use Rattle.std.proofs.Common.{◌≡◌, ℕ, ◌+◌, Bool, true, false, List, [], ◌∷◌, Option, Some, None, slice_get, sym, subst, refl}
 use Rattle.rx_walks.specs.Machines.{Machine, goes, reads}
 use Rattle.rx_walks.specs.Paths.{Path, at_end, by_edge, by_read}
@@ -21,7 +21,7 @@ module _ {Q N : Type 0} (m : Machine Q N) (stepped : IsStepped m) (i : ℕ) (bey
   by_leads told (edge_leads rs r k is at by) = let on = by_leads told by in record { pattern = on.pattern; end = on.end; path = by_edge rs r k is at on.path }
   by_leads told (read_leads r is there) = let on = told r there in record { pattern = on.pattern; end = on.end; path = by_read r (i + 1) is on.path }
 
--- a program's bytes are read one by one
+-- a program over bytes reads them one by one
 not_goes : {j : ℕ} {t : ℕ × ℕ} (i : ℕ) (b : Bool) (rs : List (ℕ × ℕ)) → only_if b (goes rs) ≡ reads t j → j ≡ i + 1
 not_goes i false rs e = absurd (cc e)
 not_goes i true rs e = absurd (cc e)

@@ -1,4 +1,4 @@
--- Threads are followed to something or to nothing, and to something wherever a node leads.
+-- Following threads finds something or nothing, and something from every leading node.
 use Rattle.std.proofs.Common.{◌≡◌, ℕ, zero, suc, ◌+◌, ◌<◌, ◌≤◌, List, [], ◌∷◌, ◌++◌, map, length, Option, Some, None, Contains, refl, subst, arith, inl, inr}
 use Rattle.rx_walks.specs.Machines.{Move, ends, goes, reads, Machine, Outcome, IsForward}
 use Rattle.rx_walks.specs.Walks.{IsNew, IsLeast, HasNoWalk}
@@ -11,7 +11,7 @@ use Rattle.rx_walks.specs.Leading.{LeadsToMatch, Follows, nothing, entered, lead
 use Rattle.rx_walks.specs.LeadLaws.{FollowsLeast, IsFinite}
 use Rattle.rx_walks.proofs.FollowLaws.{walk_leads_to, leads_walk, followed_best, followed_is_least}
 
--- ---- it is known whether a node leads
+-- ---- whether a node leads is decidable
 
 pub known_by_least : {Q N : Type 0} {m : Machine Q N} {n : N} {q : Q} {i : ℕ} → IsDecidable Q → LeastOrNone m [] n q i → IsKnown (LeadsToMatch m q i)
 known_by_least told (inl one) = inl (walk_leads_to one.1.walk)
@@ -24,7 +24,7 @@ module _ {Q N : Type 0} (m : Machine Q N) (told : IsDecidable Q) (forward : IsFo
   pub leads_known : N → (q : Q) (i : ℕ) → IsKnown (LeadsToMatch m q i)
   leads_known n q i = known_by_least told (least_known n q i)
 
-  -- a node that leads is one at which there is something to do
+  -- a leading node has a move
   leads_there : {q : Q} {i : ℕ} → N → LeadsToMatch m q i → Contains finite.nodes q × (i ≤ finite.high)
   leads_there {q = q} {i = i} n leads = elim (finite.still_or_there i q) [
     | inl still ↦ absurd (leads_walk {n = n} told leads (none_went [] still (λ d s at. absurd (cc at))))
@@ -35,7 +35,7 @@ module _ {Q N : Type 0} (m : Machine Q N) (told : IsDecidable Q) (forward : IsFo
   Answer i seen threads = (out : Option (Outcome N)) × Follows m i seen threads out
 
   module _ (i : ℕ) (on : (j : ℕ) → i < j → (n : N) (q : Q) → Answer j [] ((n, q) ∷ [])) where
-    -- where it is known of threads past one node more
+    -- if it is decided for threads without one more node
     each : (seen : List Q) → ((n : N) (q : Q) → IsNew seen q → LeadsToMatch m q i → (threads : List (N × Q)) → Answer i (q ∷ seen) threads) → (threads : List (N × Q)) → Answer i seen threads
     each seen deeper [] = (None, nothing)
     each seen deeper ((n, q) ∷ others) = elim (contained told seen q) [

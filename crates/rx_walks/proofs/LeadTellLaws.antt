@@ -1,4 +1,4 @@
--- The threads of the search through the program turned round tell which nodes lead.
+-- The threads of the search with the reverse program give the leading nodes.
 use Rattle.std.proofs.Common.{◌≡◌, ℕ, ◌-◌, ◌<◌, ◌≤◌, ◌↔◌, Bool, true, false, List, [], ◌∷◌, ◌++◌, length, slice_get, refl, ap, subst, arith}
 use Rattle.std.proofs.lemmas.Bool.Decides.{nat_tests}
 use Rattle.rx_walks.specs.Machines.{Machine, IsForward}

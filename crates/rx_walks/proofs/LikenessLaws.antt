@@ -28,7 +28,7 @@ counts_noted : {Q N M : Type 0} {m : Machine Q N} {other : Machine Q M} {h : N �
     → Counts other (λ j. h (fresh j)) s q i (noted_by h t)
 counts_noted same counts = record { possible = counts.possible; least = least_noted same counts.least; may_end = counts.may_end }
 
--- a find by other notes is that by the notes that they tell of
+-- a find with other notes is one with the notes that they are kept of
 pub find_noted_back : {Q N M : Type 0} {m : Machine Q N} {other : Machine Q M} {h : N → M} {fresh : ℕ → N} {s : Search} {q : Q} {out : Option (Outcome M)} → HasNotes m other h
     → IsFind other (λ j. h (fresh j)) s q out → (own : Option (Outcome N)) × (option_map (noted_by h) own ≡ out) × IsFind m fresh s q own
 find_noted_back same (not_found never) = (None, refl, not_found (λ i t counts. never i _ (counts_noted same counts)))
@@ -44,7 +44,7 @@ find_noted_back {h = h} {fresh = fresh} {s = s} same (is_found {i = i} {t = t} c
       }) (λ j u below counts'. before j _ below (counts_noted same counts')),
     )
 
--- what the machine of a program keeps, whatever that is, is kept of what it notes
+-- what the machine of a program keeps is kept of its notes
 pub keeps_notes : {L S N : Type 0} (keeping : Keeping N) (first : S → List ℕ → Option ℕ) (nodes : List (Node L S)) (h : Haystack L)
     → HasNotes (over_characters put_note first nodes h) (over_characters keeping.put first nodes h) keeping.kept
 keeps_notes {L} {S} keeping first nodes h = record { moves = λ i q. refl; notes = λ i q n. at_node i n (slice_get nodes q) }

@@ -1,4 +1,4 @@
--- Parts of a list, from their start and from their end.
+-- Parts of a list, from its start and from its end.
 use Rattle.std.proofs.Common.{◌≡◌, ℕ, zero, suc, ◌+◌, ◌-◌, ◌<◌, ◌≤◌, List, [], ◌∷◌, ◌++◌, take, drop, length, reverse, refl, sym, ap, ◌∙◌, arith, length-append, length-take, length-drop}
 use Rattle.std.proofs.lemmas.List.{take-append-drop, append_assoc, take_at, drop_at, drop-append-le, reverse-append, length-reverse}
 
@@ -45,7 +45,7 @@ join_last low front ys rest below =
     ∙ ap (λ z. drop low z) (take_at (front ++ ys) rest (length front + length ys) (length-append front ys))
     ∙ drop-append-le low front ys below
 
--- the same part of the list turned round
+-- the same part of the reversed list
 pub back_part : (low j n : ℕ) (xs : List ℕ) → length xs ≡ n → low ≤ j → j ≤ n → drop (n - j) (take (n - low) (reverse xs)) ≡ reverse (drop low (take j xs))
 back_part low j n xs is below within =
     let a = take low (take j xs) in

@@ -1,4 +1,4 @@
--- A list made by nodes that lead is the list of matches.
+-- A list built with leading nodes is the list of matches.
 use Rattle.std.proofs.Common.{◌≡◌, ℕ, ◌+◌, ◌<◌, ◌≤◌, ◌↔◌, Bool, true, false, List, [], ◌∷◌, map, Option, Some, None, slice_get, max, refl, sym, ap, ap₂, subst, ◌∙◌, arith, inl, inr}
 use Rattle.std.proofs.lemmas.Bool.{cases_lt, cases_eq}
 use Rattle.std.proofs.lemmas.Bool.Decides.{nat_tests}
@@ -31,7 +31,8 @@ use Rattle.rx_walks.specs.Listings.{Listing, over, no_start, passed_over, listed
 use Rattle.rx_walks.specs.LeadLaws.{begins_from}
 use Rattle.rx_walks.proofs.FollowLaws.{walk_leads_to, leads_walk, followed_is_least}
 
--- ---- any finds: where a start that counts is one that begins and leads; `kept` tells what is kept of a match
+-- ---- any finds in which a start counts if a match may begin there and its node leads; `kept` is
+-- what is kept of a match
 
 -- a match of which this is kept
 pub record Own {A N : Type 0} (kept : A → Outcome N) (finds : RepeatedFinds A) (j : ℕ) (t : Outcome N) (P : A → Type 0) : Type 0 where
@@ -46,7 +47,7 @@ module _ {Q N A : Type 0} (m : Machine Q N) (start_at : ℕ → ℕ → Type 0) 
     (base : ℕ) (none_from : (e : ℕ) → base ≤ e → ((j : ℕ) → e ≤ j → start_at e j → LeadsToMatch m q j → ⊥) → finds.find e None)
     (some_from : (e j : ℕ) (t : Outcome N) → base ≤ e → e ≤ j → start_at e j → Follows m j [] ((fresh j, q) ∷ []) (Some t) → ((k : ℕ) → e ≤ k → k < j → start_at e k → LeadsToMatch m q k → ⊥)
     → Own kept finds j t (λ a. finds.find e (Some a))) where
-  -- no start counts between these places
+  -- no start counts between these offsets
   abbrev NoneIn : ℕ → ℕ → Type 0
   NoneIn e i = (j : ℕ) → e ≤ j → j < i → start_at e j → LeadsToMatch m q j → ⊥
 
@@ -95,7 +96,7 @@ module _ {Q N A : Type 0} (m : Machine Q N) (start_at : ℕ → ℕ → Type 0) 
             (subst (λ x. Further finds x others.0) (sym a.last_is) others.2),
       )
 
--- ---- programs: from a place on the walks are the same, wherever the span starts before it
+-- ---- programs: from an offset on the walks are the same, wherever the span starts before it
 
 module _ {Q N : Type 0} {a b : Machine Q N} (low : ℕ) (same : (i : ℕ) (q : Q) → low ≤ i → a.move i q ≡ b.move i q) (notes : (i : ℕ) (q : Q) (n : N) → a.note i q n ≡ b.note i q n) (forward : IsForward a) where
   walk_same : {seen : List Q} {n : N} {q : Q} {i : ℕ} {cs : List ℕ} {t : Outcome N} → low ≤ i → Walk a seen n q i cs t → Walk b seen n q i cs t
@@ -150,7 +151,7 @@ module _ {S : Type 0} (member : S → ℕ → Bool) (is_word : ℕ → Bool) (p 
   from_whole {e = e} {j = j} within b w = walk_same j (λ i q from. moves_same e j (low_whole within b) (low_at b) i q from) (λ i q n. refl)
       (characters_forward put_note member p.nodes (haystack_of (holds_in is_word p.line_terminator s) s)) (omega arith) w
 
-  -- a start counts exactly where one begins and its node leads
+  -- a start counts exactly if a match may begin there and its node leads
   pub starts_count : (q i : ℕ) → ((t : Outcome Notes) × Counts m fresh_notes s q i t) ↔ (MayBegin s i × LeadsToMatch m q i)
   starts_count q i = (
     (λ one. (begins at_whole one.1, walk_leads_to one.1.least.walk)),
@@ -167,7 +168,8 @@ module _ {S : Type 0} (member : S → ℕ → Bool) (is_word : ℕ → Bool) (p 
       by_least b leads (inl one) = (one.0, record { possible = b.0; least = one.1; may_end = inr b.1 })
       by_least b leads (inr never) = absurd (leads_walk number_told leads never)
 
-  -- a machine whose walks from a node are those of the program, and which keeps something of what is noted
+  -- a machine whose walks from a node are those of the program, and which keeps something in place
+  -- of notes
   module _ {B N : Type 0} (kept : Notes → N) (bytes : Machine B N) (q : ℕ) (qb : B) (starts : start_node p s.anchoring ≡ Some q) (told : IsDecidable B) (leads : (i : ℕ) → LeadsToMatch m q i → LeadsToMatch bytes qb i)
       (least : (i : ℕ) (t : Outcome N) → IsLeast bytes [] (kept (fresh_notes i)) qb i t → (t' : Outcome Notes) × (noted_by kept t' ≡ t) × IsLeast m [] (fresh_notes i) q i t') where
     abbrev Found : ℕ → Option (Outcome Notes) → Type 0

@@ -1,4 +1,4 @@
--- The character that stands last in a list of bytes, and the bytes that tell whether a look holds.
+-- The last character of a list of bytes, and the bytes that decide whether an assertion holds.
 use Rattle.std.proofs.Common.{◌≡◌, ℕ, zero, suc, ◌+◌, ◌<◌, ◌≤◌, ◌⊎◌, Bool, true, false, cond, nat_lt, ◌/◌, ◌%◌, List, [], ◌∷◌, ◌++◌, take, drop, reverse, Option, Some, None, refl, sym, ap, ap₂, ◌∙◌, arith, inl, inr}
 use Rattle.std.proofs.lemmas.List.{take_at, append_assoc, reverse-append, reverse-reverse, length-reverse, take-append-drop}
 use Rattle.std.proofs.lemmas.Nat.{mod_below}
@@ -11,14 +11,14 @@ use Rattle.rx_walks.specs.Characters.{character_of, first_some, last_character, 
 use Rattle.rx_walks.specs.Looks.{Look, start_text, end_text, start_line, end_line, word_boundary, no_word_boundary, whole, side_of, side_before, side_after, asks_characters, IsEdgeOrAscii, holds_between}
 use Rattle.rx_walks.proofs.CharacterLaws.{character_is, character_of-encode, some_first, first_of}
 
--- the characters of more than one byte that may stand on a side
+-- the characters of more than one byte that may be on a side
 abbrev last_of_more : List ℕ → Option ℕ
 last_of_more back = first_some (character_of (reverse (take 2 back))) (first_some (character_of (reverse (take 3 back))) (character_of (reverse (take 4 back))))
 
 abbrev first_of_more : List ℕ → Option ℕ
 first_of_more bytes = first_some (character_of (take 2 bytes)) (first_some (character_of (take 3 bytes)) (character_of (take 4 bytes)))
 
--- four bytes on each side tell which character stands there
+-- four bytes on each side decide which character is there
 same_before : (before : List ℕ) → side_before (take 4 before) ≡ side_before before
 same_before [] = refl
 same_before (a ∷ []) = refl
@@ -46,7 +46,7 @@ four_bytes_tell is_word terminator end_line before (b ∷ after) = refl
 four_bytes_tell is_word terminator word_boundary before after = cc (same_before before, same_after after)
 four_bytes_tell is_word terminator no_word_boundary before after = cc (same_before before, same_after after)
 
--- ASCII is a character by itself
+-- an ASCII byte is a whole character
 pub ascii_alone : (b : ℕ) → b < 128 → character_of (b ∷ []) ≡ Some b
 ascii_alone b low = ap character_of (sym (encode_ascii b low)) ∙ character_of-encode b (low_scalar b (omega (arith, low)))
 
@@ -56,7 +56,7 @@ ascii_before b before low = ap (λ o. side_of (b ∷ before) (first_some o (last
 pub ascii_after : (b : ℕ) (after : List ℕ) → b < 128 → side_after (b ∷ after) ≡ whole b
 ascii_after b after low = ap (λ o. side_of (b ∷ after) (first_some o (first_of_more (b ∷ after)))) (ascii_alone b low)
 
--- so one byte tells as much as all
+-- therefore one byte is as good as all
 one_before : (before : List ℕ) → IsEdgeOrAscii before → side_before (take 1 before) ≡ side_before before
 one_before [] low = refl
 one_before (b ∷ before) low = ascii_before b [] low ∙ sym (ascii_before b before low)
@@ -78,7 +78,7 @@ one_byte_tells is_word terminator end_line before (b ∷ after) low = refl
 one_byte_tells is_word terminator word_boundary before after low = cc (one_before before (low refl).0, one_after after (low refl).1)
 one_byte_tells is_word terminator no_word_boundary before after low = cc (one_before before (low refl).0, one_after after (low refl).1)
 
--- bytes that continue a character, and a byte that doesn't
+-- continuation bytes after another byte
 abbrev Continues : List ℕ → Type 0
 Continues [] = Unit {0}
 Continues (b ∷ bs) = (128 ≤ b) × (b < 192) × Continues bs
@@ -86,7 +86,7 @@ Continues (b ∷ bs) = (128 ≤ b) × (b < 192) × Continues bs
 abbrev IsLead : ℕ → Type 0
 IsLead b = (b < 128) ⊎ (192 ≤ b)
 
--- a character from its last byte back: bytes that continue it, and its first one
+-- a character from its last byte to its first: continuation bytes, and the first one
 record FromLast (bytes : List ℕ) : Type 0 where
   lead : ℕ
   back : List ℕ
@@ -122,7 +122,7 @@ unfolding encode
 from_last c = from_last_pick c (c / 64) (c / 4096) (c / 262144) (c % 64) (c / 64 % 64) (c / 4096 % 64) (nat_lt c 128) (nat_lt c 2048) (nat_lt c 65536) (low_byte c)
     (mod_below c 64 (omega arith)) (mod_below (c / 64) 64 (omega arith)) (mod_below (c / 4096) 64 (omega arith))
 
--- up to the first byte that doesn't continue a character there is one way
+-- there is one way to the first byte that isn't a continuation byte
 not_lead : (b : ℕ) → 128 ≤ b → b < 192 → IsLead b → ⊥
 not_lead b low high (inl below) = omega (arith, low, below)
 not_lead b low high (inr above) = omega (arith, high, above)
@@ -151,7 +151,7 @@ same_last front other c d e =
     let same : encode c ≡ encode d = sym (reverse-reverse (encode c)) ∙ ap reverse back ∙ reverse-reverse (encode d) in
     (encode_same c d [] [] (ap (λ xs. xs ++ []) same)).0
 
--- what stands last is found
+-- the last character is found
 at_length : (back : List ℕ) (k c : ℕ) → character_of (reverse (take k back)) ≡ Some c → StandsLast (reverse back) c
 at_length back k c e = let one = character_is (reverse (take k back)) c e in record {
   scalar = one.0;

@@ -1,4 +1,4 @@
--- The list of matches where all are wanted.
+-- The list of matches for `MatchKind::All`.
 use Rattle.std.proofs.Common.{◌≡◌, ◌↔◌, ℕ, Bool, IsTrue, List, [], ◌∷◌, length, All, Option, Some, None, append_assoc, refl, sym, subst}
 use Rattle.std.specs.Str.{IsUtf8}
 use Rattle.std.specs.List.{last_or}
@@ -53,7 +53,7 @@ module _ {S : Type 0} (member : S → ℕ → Bool) (is_word : ℕ → Bool) (p 
       members repeated_all (length s.content) (lies_all member is_word p s) (StandsWhole s.content)
       (λ i a from f. finds_all_stand_at_boundaries member is_word p (from_place_on s i) utf8 on a f) is
 
--- ---- where something is found
+-- ---- whether something is found
 
 module _ {S : Type 0} (member : S → ℕ → Bool) (is_word : ℕ → Bool) (p : Program Look S) (s : Search) where
   abbrev First : ℕ → Option (Outcome Notes) → Type 0

@@ -1,4 +1,5 @@
--- Lists of matches: there is one, its members rise, and with what comes next its first members are one more.
+-- Lists of matches: there is one, its matches are in order, and with the next match its first ones
+-- are one more.
 use Rattle.std.proofs.Common.{◌≡◌, ℕ, zero, suc, ◌+◌, ◌<◌, ◌≤◌, Bool, List, [], ◌∷◌, ◌++◌, length, Option, Some, None, append_assoc, refl, sym, ap, subst, ◌∙◌, arith, inl, inr}
 use Rattle.std.specs.List.{All, AllPairs, last_or}
 use Rattle.std.proofs.lemmas.Bool.{cases_lt, cases_eq}
@@ -22,13 +23,13 @@ all_pairs_none : {X : Type 0} (R : X → X → Type 0) → AllPairs R []
 all_pairs_none R i j d below within = absurd (omega (arith, within))
 
 module _ {A : Type 0} (finds : RepeatedFinds A) where
-  -- ---- each member is found from some place on
+  -- ---- each match is a find from some offset on
 
   found_next : (P : A → Type 0) {e : ℕ} {a : A} → ((i : ℕ) → e ≤ i → finds.find i (Some a) → P a) → Next finds e (Some a) → P a
   found_next P {e = e} each (at_once f not) = each e (omega arith) f
   found_next P {e = e} each (moved f is is' f') = each (e + 1) (omega arith) f'
 
-  -- what is found from a place on starts there or behind it, and ends there or behind it, up to n
+  -- a find from an offset on starts there or after it, and ends at its start or after it, up to n
   module _ (n : ℕ) (lies : (i : ℕ) (a : A) → finds.find i (Some a) → (i ≤ finds.start_of a) × (finds.start_of a ≤ finds.end_of a) × (finds.end_of a ≤ n)) where
     ends_behind : {e : ℕ} {a : A} → Next finds e (Some a) → (e ≤ finds.start_of a) × (e < finds.end_of a) × (finds.end_of a ≤ n) × (finds.start_of a ≤ finds.end_of a)
     ends_behind {e = e} {a = a} (at_once f not) = let at = lies e a f in elim (cases_lt e (finds.end_of a)) [
@@ -48,7 +49,7 @@ module _ {A : Type 0} (finds : RepeatedFinds A) where
     members P {start = start} each (first {a = a} {others = others} f further) =
         All-cons P a others (each start a (omega arith) f) (members_further P each (let at = lies start a f in omega (arith, at)) further)
 
-    -- ---- they rise
+    -- ---- they are in order
 
     abbrev Behind : ℕ → A → Type 0
     Behind e a = (e ≤ finds.start_of a) × (e < finds.end_of a)
@@ -83,7 +84,7 @@ module _ {A : Type 0} (finds : RepeatedFinds A) where
     few (no_match nothing) = omega arith
     few {start = start} (first {a = a} f further) = let at = lies start a f in omega (arith, few_further at.2 further)
 
-  -- ---- there is a list of them
+  -- ---- there is a list
 
   module _ (each : (i : ℕ) → (out : Option A) × finds.find i out) where
     pub next_exists : (e : ℕ) → (out : Option A) × Next finds e out
@@ -120,7 +121,7 @@ module _ {A : Type 0} (finds : RepeatedFinds A) where
           by None f = ([], no_match f)
           by (Some a) f = let others = further_exists (suc n) (finds.end_of a) (omega arith) in (a ∷ others.0, first f others.1)
 
-  -- ---- first members
+  -- ---- the first matches
 
   next_of_more : (start : ℕ) (ms : List A) (a t : A) (others : List A) → Further finds (finds.end_of a) (ms ++ t ∷ others) → BehindLast finds start (last_or (Some a) ms) (Some t)
   next_of_more start [] a t others (one_more next further) = next

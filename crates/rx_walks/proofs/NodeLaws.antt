@@ -1,11 +1,11 @@
--- The nodes of the program turned round, by their numbers.
+-- The nodes of the reverse program, by their numbers.
 use Rattle.std.proofs.Common.{◌≡◌, ℕ, zero, suc, ◌+◌, ◌*◌, ◌<◌, ◌⊎◌, Bool, true, false, ◌||◌, ◌==◌, List, [], ◌∷◌, ◌++◌, length, cond, Some, slice_get, refl, ap, ◌∙◌, arith, inl, inr}
 use Rattle.std.proofs.lemmas.Bool.{eqb-true, eq-eqb}
 use Rattle.rx_walks.specs.Programs.{Node, match, pass}
 use Rattle.rx_walks.proofs.WalkLaws.{same_some}
 use Rattle.rx_walks.specs.Reversed.{indexed, those, has, edge_back, is_match, is_match_of, arrived, back_nodes}
 
--- items of lists in a row
+-- items of concatenated lists
 pub in_second : {X : Type 0} (xs ys : List X) (n k : ℕ) → length xs ≡ n → slice_get (xs ++ ys) (n + k) ≡ slice_get ys k
 in_second [] ys n k e = ap (slice_get ys) (omega (arith, e))
 in_second (x ∷ xs) ys zero k e = absurd (omega (arith, e))
@@ -31,7 +31,7 @@ below_get [] k x e = absurd (cc e)
 below_get (x' ∷ xs) zero x e = omega arith
 below_get (x' ∷ xs) (suc k) x e = omega (arith, below_get xs k x e)
 
--- what is made of each item
+-- f of each item
 pub indexed_at : {X Y : Type 0} (f : ℕ → X → Y) (at : ℕ) (xs : List X) (k : ℕ) (x : X) → slice_get xs k ≡ Some x → slice_get (indexed f at xs) k ≡ Some (f (at + k) x)
 indexed_at f at [] k x e = absurd (cc e)
 indexed_at f at (x' ∷ xs) zero x e = let place : at ≡ at + 0 = omega arith in ap (λ z. Some (f z x')) place ∙ ap (λ z. Some (f (at + 0) z)) (same_some refl e)

@@ -1,4 +1,4 @@
--- Walks stay with their pattern.
+-- Walks stay in their pattern.
 use Rattle.std.proofs.Common.{◌≡◌, ℕ, Bool, List, Option, Some}
 use Rattle.rx_walks.specs.Looks.{Look}
 use Rattle.rx_walks.specs.Finds.{Search}

@@ -1,11 +1,11 @@
--- A walk is a path that takes no pair of node and place twice.
+-- A walk is a path that takes no pair of node and offset twice.
 use Rattle.std.proofs.Common.{ℕ, ◌≤◌, List, [], ◌∷◌, Contains, refl, sym, ap, subst, arith, inl, inr}
 use Rattle.rx_walks.specs.Machines.{Machine, Outcome, IsForward}
 use Rattle.rx_walks.specs.Walks.{IsNew, Walk, ended, went, took}
 use Rattle.rx_walks.specs.Paths.{PathThrough, through_end, through_edge, through_read, HasNoRepeat}
 use Rattle.rx_walks.proofs.WalkLaws.{Contains-head, Contains-tail, Contains-cases, none_seen}
 
--- the pairs of a walk: none twice, none before its place, and at its place none that was seen
+-- the pairs of a walk: distinct, none before its offset, and at its offset none that was seen
 pub record Pairs {Q N : Type 0} (m : Machine Q N) (seen : List Q) (n : N) (q : Q) (i : ℕ) (cs : List ℕ) (t : Outcome N) : Type 0 where
   pub pairs : List (Q × ℕ)
   pub path : PathThrough m n q i cs pairs t

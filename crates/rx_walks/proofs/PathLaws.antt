@@ -1,11 +1,11 @@
--- Loops are taken out of a path.
+-- Loops are removed from a path.
 use Rattle.std.proofs.Common.{◌≡◌, ℕ, ◌⊎◌, List, [], ◌∷◌, Contains, refl, sym, subst, ◌∙◌, inl, inr}
 use Rattle.rx_walks.specs.Machines.{Machine, Outcome}
 use Rattle.rx_walks.specs.Walks.{IsNew, Walk, ended, went, took, Reaches}
 use Rattle.rx_walks.specs.Paths.{Path, at_end, by_edge, by_read}
 use Rattle.rx_walks.proofs.WalkLaws.{Contains-cases, Contains-head, Contains-tail, none_seen, wider, weaker, forget, from_node}
 
--- what a walk reaches, past a node more or with other notes
+-- what a walk reaches, without one more node or with other notes
 pub reaches : {Q N : Type 0} {m : Machine Q N} {seen : List Q} {n : N} {q : Q} {i p e : ℕ} {cs : List ℕ} {t : Outcome N} → Walk m seen n q i cs t → t.pattern ≡ p → t.end ≡ e → Reaches m seen n q i p e
 reaches w is is' = record { choices = _; outcome = _; walk = w; pattern_is = is; end_is = is' }
 
@@ -23,7 +23,7 @@ turned seen a b x c = elim (Contains-cases (b ∷ seen) a x c) [
   | inr c' ↦ wider seen (a ∷ seen) (λ y d. Contains-tail seen a y d) b x c'
 ]
 
--- a walk goes by a node, or passes it
+-- a walk takes a node, or avoids it
 pub passes_or : {Q N : Type 0} {m : Machine Q N} {seen : List Q} {n : N} {q : Q} {i : ℕ} {cs : List ℕ} {t : Outcome N} (same : (a b : Q) → (a ≡ b) ⊎ (a ≡ b → ⊥)) (b : Q) → Walk m seen n q i cs t
     → Walk m (b ∷ seen) n q i cs t ⊎ ((n' : N) → Reaches m seen n' b i t.pattern t.end)
 passes_or same b (ended {seen = seen} {n = n} {q = q} new is) = elim (same b q) [

@@ -21,7 +21,7 @@ inside_before p i b bs e = omega (arith, ap length e, length-drop i (take p.high
 inside_next : (low high i : ℕ) → is_within low high i ≡ true → i + 1 ≤ high → is_within low high (i + 1) ≡ true
 inside_next low high i is within = grind (arith, nat_tests)
 
--- what a set's node does at a state, byte by byte
+-- the moves of a set's node at a state, byte by byte
 abbrev Result : {N : Type 0} → Machine (ℕ × ℕ) N → ℕ → ℕ → ℕ → ℕ → Option ℕ → Type 0
 Result m q r s i None = Dies m (q, s) i
 Result m q r s i (Some k) = Chain m (q, s) i (r, 0) (i + k)
@@ -46,7 +46,7 @@ module _ {L S N : Type 0} (put : ℕ → ℕ → N → N) (step : ℕ → ℕ �
   runs q r x at (b ∷ bs) s i is e = read_as (over_bytes put step nodes p) q r s i (λ s'. run (step q) s' bs) (step q s b) (set_move q s i r x (b ∷ bs) at is e)
       (λ s'. runs q r x at bs s' (i + 1) (inside_next p.low p.high i is (inside_before p i b bs e)) (drop_more i (take p.high p.content) b bs e))
 
--- what a node does over characters and over bytes
+-- the moves of a node over characters and over bytes
 abbrev at_zero : ℕ → ℕ × ℕ
 at_zero q = (q, 0)
 
@@ -86,7 +86,7 @@ module _ {L S N : Type 0} (put : ℕ → ℕ → N → N) (first : S → List �
       inside_or_not i q true is = node_agrees reads_members i q is (slice_get nodes q) refl
       inside_or_not i q false is = both_go {rs = []} (ap (λ z. only_if z (by_character first p i (slice_get nodes q))) is) (ap (λ z. only_if z (by_byte step p i q 0 (slice_get nodes q))) is)
 
--- reads begin at whole characters and lead on
+-- reads start at whole characters and lead on
 module _ {L S N : Type 0} (put : ℕ → ℕ → N → N) (first : S → List ℕ → Option ℕ) (nodes : List (Node L S)) (p : Haystack L) where
   pub read_is : (i j q r : ℕ) → (over_characters put first nodes p).move i q ≡ reads r j → (x : S) × (k : ℕ) × (first x (left_from p i) ≡ Some k) × (j ≡ i + k)
   read_is i j q r e = inside (is_within p.low p.high i) (slice_get nodes q) e

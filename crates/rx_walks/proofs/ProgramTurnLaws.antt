@@ -1,4 +1,4 @@
--- A program's paths, and those of the program turned round.
+-- A program's paths, and those of the reverse program.
 use Rattle.std.proofs.Common.{◌≡◌, ℕ, ◌+◌, ◌-◌, ◌≤◌, ◌↔◌, Bool, length, Some, slice_get, sym, subst, arith}
 use Rattle.rx_walks.specs.Paths.{Path}
 use Rattle.rx_walks.specs.Looks.{Look}
@@ -17,7 +17,7 @@ use Rattle.rx_walks.proofs.TrailLaws.{path_trail, trail_path}
 use Rattle.rx_walks.proofs.NodeLaws.{indexed_at, length-indexed, below_get, get_below}
 use Rattle.rx_walks.proofs.TurnLaws.{Whole, forth_one, forth_any, back_one, back_any}
 
--- what the start of a pattern's walks back is
+-- the start node of a pattern's backward walks
 pub start_of_pattern : {L S : Type 0} (p : Program L S) (t r : ℕ) → slice_get (back_program p).patterns t ≡ Some r → (start : ℕ) × (slice_get p.patterns t ≡ Some start) × (r ≡ back_start p.nodes p.patterns + 1 + t)
 start_of_pattern p t r e =
     let f : ℕ → ℕ → ℕ = λ k start. back_start p.nodes p.patterns + 1 + k in
@@ -87,7 +87,7 @@ module _ {L S N : Type 0} (put : ℕ → ℕ → N → N) (member : S → ℕ �
     );
   }
 
--- the same of its bytes
+-- the same for its bytes
 pub program_turns_in_bytes : {S : Type 0} (member : S → ℕ → Bool) (p : Program Look S) (step : ℕ → Automaton) → ReadsMembers (last_by member) step (back_program p).nodes → (h : Haystack Look) → h.low ≤ length h.content → h.high ≤ length h.content
     → PathsTurn put_note member p h (back_program p) (λ r i k e. Path (over_bytes put_note step (back_program p).nodes (mirrored h)) (r, 0) i k e)
 program_turns_in_bytes member p step members h low_in high_in =

@@ -1,4 +1,4 @@
--- The threads of a search stand at all nodes that walks come to.
+-- The threads of a search are at all nodes that walks reach.
 use Rattle.std.proofs.Common.{◌≡◌, ℕ, zero, suc, ◌+◌, ◌⊎◌, ◌↔◌, List, [], ◌∷◌, ◌++◌, map, Some, slice_get, Contains, refl, ap, subst, arith, inl, inr}
 use Rattle.rx_walks.specs.Machines.{Machine, goes, reads}
 use Rattle.rx_walks.specs.StepsAll.{StepsAll, done, passed, met, opened, read}
@@ -32,12 +32,13 @@ stands_either s (r ∷ rs) ys q on = elim (stands_cases (map (λ r. (s, r)) rs +
 ]
 
 module _ {Q N : Type 0} (m : Machine Q N) (i : ℕ) where
-  -- what a node does is done: its edges lead to nodes that were entered, and its read stands in the next list
+  -- a node's move is made: its edges lead to nodes that were entered, and its read is in the next
+  -- list
   record IsDone (all : List Q) (next : List (ℕ × Q)) (q : Q) : Type 0 where
     edges : (rs : List Q) (k : ℕ) (r : Q) → m.move i q ≡ goes rs → slice_get rs k ≡ Some r → Contains all r
     reading : (r : Q) → m.move i q ≡ reads r (i + 1) → ThreadStandsAt next r
 
-  -- after a step: all nodes entered, with those before
+  -- all nodes entered in a step, with those before
   record Entered (seen : List Q) (threads next : List (ℕ × Q)) : Type 0 where
     all : List Q
     more : (q : Q) → Contains seen q → Contains all q
@@ -59,7 +60,7 @@ module _ {Q N : Type 0} (m : Machine Q N) (i : ℕ) where
   more_next : {all : List Q} {next : List (ℕ × Q)} {q : Q} (x : ℕ × Q) → IsDone all next q → IsDone all (x ∷ next) q
   more_next {next = next} x is = record { edges = is.edges; reading = λ r e. stands_other next x r (is.reading r e) }
 
-  -- with one node entered that is done
+  -- with one node entered whose move is made
   one_entered : {seen : List Q} {s : ℕ} {q : Q} {others next : List (ℕ × Q)} (on : Entered (q ∷ seen) others next) → IsDone on.all next q → Entered seen ((s, q) ∷ others) next
   one_entered {seen = seen} {s = s} {q = q} {others = others} {next = next} on is = record {
     all = on.all;
@@ -143,7 +144,7 @@ module _ {Q N : Type 0} (m : Machine Q N) (i : ℕ) where
         ];
       }
 
-  -- past no node the nodes entered are those that empty edges lead to
+  -- if none was seen before, the nodes entered are those to which epsilon transitions lead
   all_close : {threads next : List (ℕ × Q)} (on : Entered [] threads next) {q : Q} → IsInClosure m i (ThreadStandsAt threads) q → Contains on.all q
   all_close on (among at) = on.stands _ at
   all_close on (onward {q = q} {r = r} rs k closes is at) = elim (on.new_done q (all_close on closes)) [ inl c ↦ absurd (none_seen q c) | inr is' ↦ is'.edges rs k r is at ]

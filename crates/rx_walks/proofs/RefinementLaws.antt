@@ -18,7 +18,7 @@ Contains_back f apart (x ∷ seen) q c = elim (Contains-cases (map f seen) (f x)
   | inr c' ↦ Contains-tail seen x q (Contains_back f apart seen q c')
 ]
 
--- what an agreeing node does
+-- the moves of an agreeing node
 to_end : {C B N : Type 0} {c : Machine C N} {b : Machine B N} {f : C → B} {i p : ℕ} {q : C} → Agrees c b f i q → c.move i q ≡ ends p → b.move i (f q) ≡ ends p
 to_end (both_end is is') e = is' ∙ ap ends (same_end is e)
 to_end (both_go is is') e = absurd (ends_not_goes e is)
@@ -45,7 +45,7 @@ chain_walk : {Q N : Type 0} {m : Machine Q N} {seen : List Q} {n : N} {q r : Q} 
 chain_walk (last is) new w = took _ _ new is w
 chain_walk (more {r = r} is chain) new w = took _ _ new is (chain_walk chain (none_seen r) w)
 
--- forth
+-- from c to b
 pub refined : {C B N : Type 0} {c : Machine C N} {b : Machine B N} {f : C → B} {seen : List C} {n : N} {q : C} {i : ℕ} {cs : List ℕ} {t : Outcome N} → Refines c b f
     → Walk c seen n q i cs t → Walk b (map f seen) n (f q) i cs t
 refined {f = f} same (ended {seen = seen} {q = q} {i = i} new is) = ended (λ x. new (Contains_back f same.apart seen q x)) (to_end (same.agrees i q) is)
@@ -53,7 +53,7 @@ refined {f = f} same (went {seen = seen} {n = n} {q = q} {i = i} {k = k} rs r ne
     went (map f rs) (f r) (λ x. new (Contains_back f same.apart seen q x)) (to_open rs k r (same.agrees i q) is at) (slice_get-map f rs k ∙ ap (option_map f) at) (with_notes (sym (same.notes i q n)) (refined same w))
 refined {f = f} same (took {seen = seen} {q = q} {i = i} r j new is w) = chain_walk (to_chain (same.agrees i q) is) (λ x. new (Contains_back f same.apart seen q x)) (refined same w)
 
--- back
+-- from b to c
 map_at : {C B : Type 0} (f : C → B) (rs : List C) (k : ℕ) (y : B) → slice_get (map f rs) k ≡ Some y → (r : C) × (slice_get rs k ≡ Some r) × (y ≡ f r)
 map_at f [] k y at = absurd (cc at)
 map_at f (r ∷ rs) zero y at = (r, refl, sym (same_some refl at))

@@ -1,4 +1,4 @@
--- The loop over places finds the least start.
+-- The search loop finds the least start.
 use Rattle.std.proofs.Common.{◌≡◌, ℕ, ◌+◌, ◌≤◌, ◌⊎◌, List, [], ◌∷◌, ◌++◌, Option, Some, None, refl, subst, arith, inl, inr}
 use Rattle.std.proofs.lemmas.Bool.{cases_order}
 use Rattle.rx_walks.specs.Machines.{Machine, Outcome}
@@ -20,7 +20,7 @@ split_none : {Q N : Type 0} {m : Machine Q N} {seen : List Q} {i : ℕ} (xs ys :
 split_none [] ys best = (none, best)
 split_none (x ∷ xs) ys (miss never best) = let b = split_none xs ys best in (miss never b.0, b.1)
 
--- a start more
+-- one more start
 first_place : (i j : ℕ) → i ≤ j → (i ≡ j) ⊎ (i + 1 ≤ j)
 first_place i j from = elim (cases_order i j) [ inl e ↦ inl e | inr (inl below) ↦ inr (omega (arith, below)) | inr (inr above) ↦ absurd (omega (arith, above, from)) ]
 
@@ -35,7 +35,7 @@ finds_from {m = m} {begins = begins} {fresh = fresh} {q = q} {i = i} never (foun
   | inr above ↦ before k above below b'
 ])
 
--- what a search answers, by its live threads, what was met and the starts to come
+-- the result of a search, from its threads, the last match end and the later starts
 pub data Answers {Q N : Type 0} (m : Machine Q N) (begins : ℕ → Type 0) (fresh : ℕ → N) (q : Q) (i : ℕ) (live : List (N × Q)) (met : Option (Outcome N)) : Option (Outcome N) → Type 0 where
   by_live : {t : Outcome N} → Best m [] i live (Some t) → Answers m begins fresh q i live met (Some t)
   by_met : {t : Outcome N} → Best m [] i live None → met ≡ Some t → Answers m begins fresh q i live met (Some t)
@@ -85,7 +85,7 @@ search_answers (over {met = met} empty) = over_answers met empty
 search_answers (started b steps thins rest) = started_answers b steps (fuller thins (search_answers rest))
 search_answers (stepped {met = met} {ended = ended'} held steps thins rest) = stepped_answers met ended' held steps (fuller thins (search_answers rest))
 
--- with no threads at first and nothing met, the search finds
+-- without threads and a match end at first, the search finds
 pub search_finds : {Q N : Type 0} {m : Machine Q N} {begins : ℕ → Type 0} {fresh : ℕ → N} {q : Q} {i : ℕ} {out : Option (Outcome N)} → Searches m begins fresh q i [] None out → FindsFrom m begins fresh q i out
 search_finds searches = found_by (search_answers searches)
   where

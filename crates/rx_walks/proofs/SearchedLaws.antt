@@ -1,4 +1,4 @@
--- The loop over places of the content turned round finds what is found back.
+-- The search loop over the reversed haystack finds what is found backward.
 use Rattle.std.proofs.Common.{◌≡◌, ℕ, zero, suc, ◌+◌, ◌-◌, ◌≤◌, Bool, List, [], ◌∷◌, map, length, get_or, IsTrue, Option, Some, None, slice_get, refl, sym, ap, subst, ◌∙◌, arith, inl, inr}
 use Rattle.std.proofs.lemmas.Bool.{cases_order}
 use Rattle.std.specs.Str.{IsCharBoundary}
@@ -56,13 +56,13 @@ module _ {S : Type 0} (member : S → ℕ → Bool) (is_word : ℕ → Bool) (p 
   high_in : highest s ≤ size
   high_in = omega arith
 
-  -- reads begin where, by a content of zeros, a character may begin
+  -- reads start where, in a haystack of zeros, a character may begin
   whole : (i j q r : ℕ) → c.move i q ≡ reads r j → IsCharBoundary (mirrored_search s).content i
   whole i j q r e =
       let here = took_is put_note (last_by member) (back_program p).nodes (mirrored h) q i r j _ _ refl refl e in
       (omega (arith, here.0.below, length_zeros s.content), λ below high. absurd (omega (arith, high, zero_byte s.content i)))
 
-  -- paths from a start node, and paths back to it
+  -- paths from a start node, and backward paths to it
   record Links (q r : ℕ) : Type 0 where
     forth : (i k e : ℕ) → i ≤ size → e ≤ size → Path m q i k e → Path c r (size - e) k (size - i)
     back : (k s' e : ℕ) → e ≤ size → Path c r (size - e) k s' → (i : ℕ) × (s' + i ≡ size) × Path m q i k e
@@ -216,7 +216,7 @@ module _ {S : Type 0} (member : S → ℕ → Bool) (is_word : ℕ → Bool) (p 
         let one = start_of_pattern p t r starts in
         subst (λ z. IfStarts z (IsFindBack m fresh_notes s) tell) (sym one.1) (answer one.0 r (links_one above keeps t one.0 r one.1 starts) out tell finds is_told)
 
--- a pattern that the program turned round doesn't know the program doesn't know
+-- a pattern unknown to the reverse program is unknown to the program
 no_node : {S : Type 0} (p : Program Look S) (a : Anchoring) → start_node (back_program p) a ≡ None → start_node p a ≡ None
 no_node p unanchored e = absurd (cc e)
 no_node p anchored e = absurd (cc e)

@@ -1,4 +1,4 @@
--- A character that stands in a content, read from its start and from its end.
+-- A character in a haystack, read from its start and from its end.
 use Rattle.std.proofs.Common.{◌≡◌, ℕ, ◌+◌, ◌-◌, ◌<◌, ◌≤◌, Bool, true, false, cond, List, ◌++◌, take, drop, length, reverse, Option, Some, None, ◌↔◌, refl, sym, ap, subst, ◌∙◌, arith}
 use Rattle.std.proofs.lemmas.List.{reverse-reverse}
 use Rattle.std.proofs.lemmas.Str.{length-encode, len_utf8_bounds}
@@ -39,7 +39,7 @@ stands_read member x content i high c here is within =
     let first = stands_first (drop i (take high content)) c (record { scalar = here.scalar; rest = take k here.rest; stands = bytes }) in
     ap (len_if (member x)) first ∙ ap (λ b. cond b (Some (len_utf8 c)) None) is
 
--- the same from the character's end, the content turned round
+-- the same from the character's end, in the reversed haystack
 module _ (low j n j' : ℕ) (content : List ℕ) (size : length content ≡ n) (below : low ≤ j) (mirror : j' + j ≡ n) where
   abbrev part : List ℕ
   part = drop low (take j content)

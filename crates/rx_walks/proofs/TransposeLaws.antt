@@ -1,4 +1,4 @@
--- Automata that read backwards what another automaton reads.
+-- Reverse automata.
 use Rattle.std.proofs.Common.{◌≡◌, ℕ, zero, suc, ◌<◌, ◌≤◌, Bool, true, false, cond, List, [], ◌∷◌, ◌++◌, take, drop, length, reverse, Option, Some, None, option_map, refl, sym, ap, subst, ◌∙◌, arith, length-take, length-append}
 use Rattle.std.proofs.lemmas.List.{take-append-drop, reverse-append, reverse-reverse, length-reverse, take_at, append-nil}
 use Rattle.std.proofs.lemmas.Str.{length-encode, len_utf8_bounds}
@@ -10,7 +10,7 @@ use Rattle.rx_walks.proofs.CharacterLaws.{member_stands, stands_first}
 use Rattle.rx_walks.proofs.LookLaws.{last_stands, stands_last}
 use Rattle.rx_walks.specs.Transposed.{ReadingPlace, leads_in, prior, at_the_end, StandsForPlaces, LeadsBack, ReadsFirst, ReadsLast}
 
--- from a place these bytes, all of them, lead to one of those
+-- from a position, these bytes lead to one of those
 abbrev into : Automaton → (ReadingPlace → Bool) → ReadingPlace → List ℕ → Bool
 into step those place [] = those place
 into step those None (b ∷ bs) = false
@@ -36,7 +36,7 @@ from_same : (step : Automaton) (those others : ReadingPlace → Bool) (bs cs : L
 from_same step those others bs cs None same = refl
 from_same step those others bs cs (Some x) same = same x
 
--- one byte more at the end
+-- one more byte at the end
 one_more : (step : Automaton) (those : ReadingPlace → Bool) (b : ℕ) (xs : List ℕ) (place : ReadingPlace) → into step those place (xs ++ b ∷ []) ≡ into step (prior step those b) place xs
 one_more step those b [] None = refl
 one_more step those b [] (Some s) = into_one step those (step s b)
@@ -46,7 +46,7 @@ one_more step those b (c ∷ xs) (Some s) = from_same step those (prior step tho
 turned_one : (step : Automaton) (those : ReadingPlace → Bool) (b : ℕ) (xs : List ℕ) (place : ReadingPlace) → into step those place (reverse (b ∷ xs)) ≡ into step (prior step those b) place (reverse xs)
 turned_one step those b xs place = ap (into step those place) (reverse-append (b ∷ []) xs) ∙ one_more step those b (reverse xs) place
 
--- what a byte leads to, read on
+-- reading on after a byte
 abbrev after : Automaton → Option ReadingPlace → List ℕ → Option ℕ
 after step None bs = None
 after step (Some None) bs = Some 1
@@ -64,7 +64,7 @@ map_suc : (o : Option ℕ) (k : ℕ) → option_map suc o ≡ Some k → (j : �
 map_suc None k e = absurd (cc e)
 map_suc (Some j) k e = (j, refl, sym (same_some refl e))
 
--- what is read back leads there
+-- what is read backward leads there
 abbrev Sound : Automaton → Automaton → (ReadingPlace → Bool) → ℕ → List ℕ → ℕ → Type 0
 Sound step back those t bs k = (into step those (Some 0) (reverse (take k bs)) ≡ true) × (k ≤ length bs) × (1 ≤ k)
 
@@ -84,7 +84,7 @@ sound n step back (suc more) those t reads (b ∷ bs) k e = by_lead (λ t' reads
         let on = again t' reads'.1 one.0 one.1 in
         subst (λ z. Sound step back those t (b ∷ bs) z) (sym one.2) (turned_one step those b (take one.0 bs) (Some 0) ∙ on.0, omega (arith, on.1), omega arith)
 
--- what leads there is read back
+-- what leads there is read backward
 complete : (n : ℕ) (step back : Automaton) (more : ℕ) (those : ReadingPlace → Bool) (t : ℕ) → StandsForPlaces n step back more those t → (bs : List ℕ) (k : ℕ) → 1 ≤ k → k ≤ more → k ≤ length bs
     → into step those (Some 0) (reverse (take k bs)) ≡ true → (j : ℕ) × (run back t bs ≡ Some j)
 complete n step back zero those t reads bs k some few within e = absurd (omega (arith, some, few))
@@ -108,7 +108,7 @@ complete n step back (suc more) those t reads (b ∷ bs) (suc k) some few within
         let on = again t' leads.1 (omega (arith, same)) e in
         (suc on.0, runs back t b bs ∙ ap (λ o. after back o bs) is ∙ ap (option_map suc) on.1)
 
--- bytes that lead to the end are taken, all of them
+-- bytes that lead to the end are read
 takes : (step : Automaton) (s : ℕ) (xs : List ℕ) → into step at_the_end (Some s) xs ≡ true → run step s xs ≡ Some (length xs)
 takes step s [] e = absurd (cc e)
 takes step s (b ∷ xs) e = runs step s b xs ∙ by_lead (λ s' e'. takes step s' xs e') (step s b) xs e
@@ -157,7 +157,7 @@ module _ (member : ℕ → Bool) (step : Automaton) (reads : ReadsFirst member s
       let last = stands_last bs one.0 (record { scalar = one.1.scalar; front = reverse (drop k bs); stands = stands }) in
       ap (len_if member) last ∙ ap (λ b. cond b (Some (len_utf8 one.0)) None) one.2 ∙ ap Some (sym one.3 ∙ size)
 
-  -- and what stands last leads to the end
+  -- the last character leads to the end
   pub record LastIs (bs : List ℕ) (k : ℕ) : Type 0 where
     pub some : 1 ≤ k
     pub few : k ≤ 4
@@ -220,7 +220,7 @@ reads_on step back back' n n' (suc more) on same those t some past reads = λ b.
     by_lead b again (Some None) leads = leads
     by_lead b again (Some (Some t')) leads = (leads.0, again t' leads.2 leads.3 leads.1, leads.2, omega (arith, leads.3, on))
 
--- the same set, told otherwise
+-- the same positions, given by another test
 same_lead : (those others : ReadingPlace → Bool) → ((x : ReadingPlace) → those x ≡ others x) → (o : Option ReadingPlace) → leads_in those o ≡ leads_in others o
 same_lead those others same None = refl
 same_lead those others same (Some x) = same x

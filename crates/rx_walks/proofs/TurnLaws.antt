@@ -1,4 +1,4 @@
--- Paths of a program, and those of the program turned round.
+-- Paths of a program, and those of the reverse program.
 use Rattle.std.proofs.Common.{◌≡◌, ℕ, zero, suc, ◌+◌, ◌-◌, ◌*◌, ◌<◌, ◌≤◌, Bool, true, ◌==◌, List, [], ◌∷◌, ◌++◌, length, take, drop, reverse, Option, Some, slice_get, refl, sym, ap, subst, ◌∙◌, arith, inl, inr}
 use Rattle.std.proofs.lemmas.Bool.{eqb-true, eq-eqb}
 use Rattle.std.specs.Char.{len_utf8}
@@ -10,11 +10,11 @@ use Rattle.rx_walks.proofs.StandLaws.{read_stands, stands_read, back_read_stands
 use Rattle.rx_walks.specs.Trails.{Within, Edge, by_pass, by_note, by_look, by_set, Trail, trail_end, trail_on}
 use Rattle.rx_walks.proofs.NodeLaws.{in_second, in_first, in_either, those_in, those_are, has_one, one_of_has, arrival_at, edge_at, end_at, start_at, start_of_at}
 
--- an item of the second list stands in both
+-- an item of the second list is in both
 in_last : {X : Type 0} (xs ys : List X) (k : ℕ) (x : X) → slice_get ys k ≡ Some x → (d : ℕ) × (slice_get (xs ++ ys) d ≡ Some x)
 in_last xs ys k x e = (length xs + k, in_second xs ys (length xs) k refl ∙ e)
 
--- what an edge leaves from
+-- the node that an edge leaves
 record LeavesFrom {L S : Type 0} (nodes : List (Node L S)) (q r : ℕ) : Type 0 where
   node : Node L S
   at : slice_get nodes q ≡ Some node
@@ -57,7 +57,7 @@ module _ {L S : Type 0} (member : S → ℕ → Bool) (nodes : List (Node L S)) 
   within_forth : (i i' : ℕ) → i' + i ≡ size → Within (mirrored h).low (mirrored h).high i' → Within h.low h.high i
   within_forth i i' mirror within = record { above = omega (arith, mirror, within.below, low_in); below = omega (arith, mirror, within.above, high_in) }
 
-  -- an edge, walked back
+  -- an edge, backward
   edge_turned : {q i r j : ℕ} (i' j' : ℕ) → i' + i ≡ size → j' + j ≡ size → Within h.low h.high i → Within h.low h.high j → Edge (first_by member) nodes h q i r j
       → Edge (last_by member) (back_nodes nodes patterns) (mirrored h) (n + q) j' q i'
   edge_turned {q = q} i' j' at_i at_j within within' (by_pass rs k at got) =
@@ -76,7 +76,7 @@ module _ {L S : Type 0} (member : S → ℕ → Bool) (nodes : List (Node L S)) 
       (stands_back_read h.low j size j' h.content refl within'.above at_j member x i one.0 one.1 one.2 within.above (omega (arith, to, one.3)))
       (omega (arith, at_i, at_j, to, one.3))
 
-  -- and an edge that walks back is one
+  -- and a backward edge is an edge
   record Unturned (p q j y i' : ℕ) : Type 0 where
     place : ℕ
     mirror : i' + place ≡ size
@@ -154,7 +154,7 @@ module _ {L S : Type 0} (member : S → ℕ → Bool) (nodes : List (Node L S)) 
     edge_unturned j' at_j within (by_look l is holds) = by_holding j' l at_j node at leads (node_back is) holds
     edge_unturned j' at_j within (by_set x k is read to) = by_reading j' x k at_j within node at leads (node_back is) read to
 
-  -- a node of the program turned round, and the node that walks have come back to
+  -- a node of the reverse program, and the node that walks have reached
   pub data Came (x q : ℕ) : Type 0 where
     at_node : (node : Node L S) → x ≡ q → slice_get nodes q ≡ Some node → Came x q
     at_edge : (p : ℕ) (node : Node L S) → x ≡ n + p → slice_get nodes p ≡ Some node → leads_to q node ≡ true → Came x q
@@ -185,7 +185,7 @@ module _ {L S : Type 0} (member : S → ℕ → Bool) (nodes : List (Node L S)) 
       let which : k' ≡ k = cc one in
       record { node = q; at = ap (slice_get patterns) (sym which) ∙ at; place = j; mirror = mirror; trail = trail }
 
-  -- what a pass node leads to
+  -- where a node with only epsilon transitions leads
   from_arrived : (y q d : ℕ) → slice_get (arrived nodes patterns q) d ≡ Some y → Came y q
   from_arrived y q d got = elim (in_either (those (leads_to q) n nodes) (those (λ start. start == q) (2 * n) patterns) d y got) [
     | inl first ↦ let one = those_are (leads_to q) n nodes first.0 y first.1 in at_edge one.0 one.1 one.4 one.2 one.3
@@ -195,7 +195,7 @@ module _ {L S : Type 0} (member : S → ℕ → Bool) (nodes : List (Node L S)) 
   abbrev Onward : ℕ → ℕ → ℕ → ℕ → Type 0
   Onward y i' k s' = (q j t e : ℕ) → i' + j ≡ size → Came y q → Forth q j t e → Whole k s' t e
 
-  -- an edge out of a node that only passes on
+  -- an edge of such a node
   from_pass : {x i' y i'' : ℕ} (rs : List ℕ) → slice_get (back_nodes nodes patterns) x ≡ Some (pass rs) → Edge (last_by member) (back_nodes nodes patterns) (mirrored h) x i' y i''
       → (d : ℕ) × (slice_get rs d ≡ Some y) × (i' ≡ i'')
   from_pass {y = y} rs is (by_pass rs' k is' got) = let same : rs' ≡ rs = cc (same_some is' is) in (k, subst (λ z. slice_get z k ≡ Some y) same got, refl)
@@ -224,7 +224,7 @@ module _ {L S : Type 0} (member : S → ℕ → Bool) (nodes : List (Node L S)) 
       by_came again inside (at_start k' same at) =
           absurd (no_edge k' (subst (λ z. slice_get (back_nodes nodes patterns) z ≡ Some (match k')) (sym same) (end_at nodes patterns k' q at)) edge)
 
-  -- and forth: from where a match ends
+  -- and forward: from a match end
   record Ending (k s' t e : ℕ) : Type 0 where
     node : ℕ
     at : slice_get nodes node ≡ Some (matching t)
@@ -253,7 +253,7 @@ module _ {L S : Type 0} (member : S → ℕ → Bool) (nodes : List (Node L S)) 
       let last = in_last (those (leads_to q) n nodes) (those (λ start. start == q) (2 * n) patterns) one.0 (2 * n + k) one.1 in
       trail_on inside (by_pass (arrived nodes patterns q) last.0 (arrival_at nodes patterns q node.0 node.1) last.1) (trail_end inside (end_at nodes patterns k q at))
 
-  -- from the nodes where walks start
+  -- from the start nodes
   from_start : {x i' k s' : ℕ} (rs : List ℕ) → slice_get (back_nodes nodes patterns) x ≡ Some (passing rs) → Back x i' k s' → (y : ℕ) × (d : ℕ) × (slice_get rs d ≡ Some y) × Back y i' k s'
   from_start rs is (trail_end within is') = absurd (cc (is, is'))
   from_start {k = k} {s' = s'} rs is (trail_on {r = y} within edge rest) =
@@ -313,12 +313,12 @@ module _ {L S : Type 0} (member : S → ℕ → Bool) (nodes : List (Node L S)) 
       let some = some_match which.1 which.3 in
       (some.0, whole_from k s' e some.0 one.0 high (node_is one.0 which.0 which.1 (matching some.0) which.4 which.2 some.1) one.3)
 
-  -- ---- what the program turned round comes to
+  -- ---- what the reverse program reaches
 
   abbrev begin : ℕ
   begin = back_start nodes patterns
 
-  -- edge by edge, the last one last
+  -- edge by edge, the last one at the end
   pub data CameBy (x i' : ℕ) : ℕ → ℕ → Type 0 where
     came_here : CameBy x i' x i'
     came_on : {y j' z k' : ℕ} → CameBy x i' y j' → Within (mirrored h).low (mirrored h).high j' → Edge (last_by member) (back_nodes nodes patterns) (mirrored h) y j' z k' → CameBy x i' z k'

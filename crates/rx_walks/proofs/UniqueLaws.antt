@@ -25,7 +25,7 @@ find_all_unique (none_at_all never) (greatest {a = a} counts best) = absurd (nev
 find_all_unique (greatest {a = a} counts best) (none_at_all never) = absurd (never a counts)
 find_all_unique (greatest {a = a} counts best) (greatest {a = b} counts' best') = ap Some (at_least_same a b (best b counts') (best' a counts))
 
--- where there is a start node
+-- if there is a start node
 pub starts_unique : {A : Type 0} (o : Option ℕ) (finds : ℕ → Option A → Type 0) (out out' : Option A) → ((q : ℕ) → finds q out → finds q out' → out ≡ out') → IfStarts o finds out → IfStarts o finds out' → out ≡ out'
 starts_unique None finds out out' one e e' = e ∙ sym e'
 starts_unique (Some q) finds out out' one is is' = one q is is'

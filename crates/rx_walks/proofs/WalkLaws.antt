@@ -1,4 +1,4 @@
--- What walks say of one another.
+-- How walks relate to each other.
 use Rattle.std.proofs.Common.{◌≡◌, ℕ, zero, suc, ◌+◌, ◌<◌, ◌⊎◌, List, [], ◌∷◌, ◌++◌, map, Option, Some, slice_get, Contains, refl, sym, ap, ap₂, subst, arith, inl, inr}
 use Rattle.std.proofs.lemmas.Bool.{cases_order}
 use Rattle.rx_walks.specs.Machines.{Move, ends, goes, reads, Machine, Outcome}
@@ -22,7 +22,7 @@ wider xs ys within y x c = elim (Contains-cases xs y x c) [ inl e ↦ Contains-h
 pub none_seen : {X : Type 0} (x : X) → IsNew [] x
 none_seen x (k, within, is) = absurd (omega (arith, within))
 
--- a node does one thing
+-- a node has one move
 pub ends_not_goes : {Q : Type 0} {x : Move Q} {p : ℕ} {rs : List Q} → x ≡ ends p → x ≡ goes rs → ⊥
 ends_not_goes e f = cc (e, f)
 
@@ -44,7 +44,7 @@ same_read e f = (cc (e, f), cc (e, f))
 pub same_some : {X : Type 0} {o : Option X} {x y : X} → o ≡ Some x → o ≡ Some y → x ≡ y
 same_some e f = cc (e, f)
 
--- a walk from an equal node, at an equal place
+-- a walk from an equal node, at an equal offset
 pub from_node : {Q N : Type 0} {m : Machine Q N} {seen : List Q} {n : N} {q r : Q} {i : ℕ} {cs : List ℕ} {t : Outcome N} → q ≡ r → Walk m seen n q i cs t → Walk m seen n r i cs t
 from_node {m = m} {seen = seen} {n = n} {i = i} {cs = cs} {t = t} e w = subst (λ x. Walk m seen n x i cs t) e w
 
@@ -57,7 +57,7 @@ with_notes {m = m} {seen = seen} {q = q} {i = i} {cs = cs} {t = t} e w = subst (
 pub one_of_open : {Q : Type 0} {x : Move Q} (rs ss : List Q) (k : ℕ) {r s : Q} → x ≡ goes rs → x ≡ goes ss → slice_get rs k ≡ Some r → slice_get ss k ≡ Some s → r ≡ s
 one_of_open rs ss k {s = s} e f at at' = same_some at (subst (λ xs. slice_get xs k ≡ Some s) (same_open f e) at')
 
--- a walk past fewer nodes seen
+-- a walk with fewer nodes seen
 pub weaker : {Q N : Type 0} {m : Machine Q N} {seen : List Q} {n : N} {q : Q} {i : ℕ} {cs : List ℕ} {t : Outcome N} (fewer : List Q) → ((x : Q) → Contains fewer x → Contains seen x) → Walk m seen n q i cs t → Walk m fewer n q i cs t
 weaker fewer within (ended new is) = ended (λ c. new (within _ c)) is
 weaker fewer within (went {seen = seen} {q = q} rs r new is at w) = went rs r (λ c. new (within _ c)) is at (weaker (q ∷ fewer) (wider fewer seen within q) w)
@@ -75,7 +75,7 @@ renoted n' (took r j new is w) = let on = renoted n' w in (on.0, took r j new is
 pub none_renoted : {Q N : Type 0} {m : Machine Q N} {seen : List Q} {n : N} {q : Q} {i : ℕ} → HasNoWalk m seen n q i → (n' : N) → HasNoWalk m seen n' q i
 none_renoted {n = n} never n' cs t w = let back = renoted n w in never cs back.0 back.1
 
--- a node from which no walk goes on may count as seen
+-- a node from which no walk continues may count as seen
 still_new : {Q N : Type 0} {m : Machine Q N} {seen : List Q} {n : N} {q : Q} {i : ℕ} {cs : List ℕ} {t : Outcome N} (more : List Q) (b : Q)
     → ((x : Q) → Contains more x → (b ≡ x) ⊎ Contains seen x) → ((n' : N) → HasNoWalk m seen n' b i) → IsNew seen q → Walk m seen n q i cs t → IsNew more q
 still_new {m = m} {seen = seen} {n = n} {q = q} {i = i} {cs = cs} {t = t} more b within never new w c = elim (within q c) [ inl e ↦ subst (λ x. HasNoWalk m seen n x i) e (never n) cs t w | inr c' ↦ new c' ]
@@ -93,7 +93,7 @@ narrower more b within never (went {seen = seen} {q = q} rs r new is at w) = wen
     (narrower (q ∷ more) b (wider_by more seen b within q) (λ n' cs t w'. never n' cs t (forget w')) w)
 narrower more b within never (took r j new is w) = took r j (still_new more b within never new (took r j new is w)) is w
 
--- from a node that was seen no walk goes on
+-- from a node that was seen no walk continues
 pub none_when_seen : {Q N : Type 0} {m : Machine Q N} {seen : List Q} {n : N} {q : Q} {i : ℕ} → Contains seen q → HasNoWalk m seen n q i
 none_when_seen c cs t (ended new is) = new c
 none_when_seen c cs t (went rs r new is at w) = new c
@@ -109,7 +109,7 @@ same_walk (took r j new is w) (ended new' is') = absurd (ends_not_reads is' is)
 same_walk (took r j new is w) (went rs r' new' is' at' w') = absurd (goes_not_reads is' is)
 same_walk (took r j new is w) (took r' j' new' is' w') = let one = same_read is' is in same_walk w (from_node one.0 (from_place one.1 w'))
 
--- the least walk past a node
+-- the least walk of a node
 pub least_ended : {Q N : Type 0} {m : Machine Q N} {seen : List Q} {n : N} {q : Q} {i p : ℕ} → IsNew seen q → m.move i q ≡ ends p → IsLeast m seen n q i (record { pattern = p; end = i; notes = n })
 least_ended {m = m} {seen = seen} {n = n} {q = q} {i = i} new is = record { choices = []; walk = ended new is; least = only }
   where
@@ -157,7 +157,7 @@ none_went rs is never cs t (ended new is') = ends_not_goes is' is
 none_went rs is never cs t (went {k = d} {cs = ds} rs' s new is' at w) = never d s (subst (λ x. slice_get x d ≡ Some s) (same_open is' is) at) ds t w
 none_went rs is never cs t (took r' j' new is' w) = goes_not_reads is is'
 
--- the best of threads, past a node from which no walk goes on
+-- the best of threads, without a node from which no walk continues
 pub unseen : {Q N : Type 0} {m : Machine Q N} {seen : List Q} {q : Q} {i : ℕ} {threads : List (N × Q)} {out : Option (Outcome N)} → ((n : N) → HasNoWalk m seen n q i)
     → Best m (q ∷ seen) i threads out → Best m seen i threads out
 unseen never none = none
@@ -168,7 +168,7 @@ unseen {seen = seen} {q = q} never (hit one) = hit (record {
 })
 unseen {seen = seen} {q = q} never (miss never' best) = miss (λ cs t w. never' cs t (narrower (q ∷ seen) q (λ x c. Contains-cases seen q x c) never w)) (unseen never best)
 
--- the best of a node's targets and further threads
+-- the best of a node's targets and other threads
 pub data Chosen {Q N : Type 0} (m : Machine Q N) (seen : List Q) (n : N) (i : ℕ) (rs : List Q) (others : List (N × Q)) : Option (Outcome N) → Type 0 where
   past : {out : Option (Outcome N)} → ((d : ℕ) (s : Q) → slice_get rs d ≡ Some s → HasNoWalk m seen n s i) → Best m seen i others out → Chosen m seen n i rs others out
   among : {t : Outcome N} (k : ℕ) (r : Q) → slice_get rs k ≡ Some r → IsLeast m seen n r i t → ((d : ℕ) (s : Q) → d < k → slice_get rs d ≡ Some s → HasNoWalk m seen n s i) → Chosen m seen n i rs others (Some t)

@@ -1,14 +1,14 @@
--- The machine that reads characters byte by byte. Each node over a set has an automaton.
+-- The machine that reads characters byte by byte. Each node with a set has an automaton.
 use Rattle.std.specs.Prelude.{ℕ, suc, ◌+◌, List, [], ◌∷◌, map, Option, Some, None, option_map, slice_get}
 use Rattle.rx_walks.specs.Machines.{Move, ends, goes, reads, Machine}
 use Rattle.rx_walks.specs.Programs.{Node, match, pass, note, look, set, Haystack, only_if, is_within, left_from, note_at}
 
--- what an automaton says of a byte at a state: refused (`None`), the last of a character (`Some
--- None`), or a state to go to
+-- what an automaton does with a byte at a state: refuse it (`None`), end a character (`Some None`),
+-- or go to a state
 abbrev pub Automaton : Type 0
 Automaton = ℕ → ℕ → Option (Option ℕ)
 
--- how many bytes it takes from a state on, if it takes a character
+-- the number of bytes that it reads from a state on, if it reads a character
 abbrev pub run : Automaton → ℕ → List ℕ → Option ℕ
 run step s [] = None
 run step s (b ∷ bs) = elim (step s b) [
@@ -26,7 +26,7 @@ abbrev pub read_byte : Automaton → ℕ → ℕ → ℕ → ℕ → List ℕ �
 read_byte step q r s i [] = goes []
 read_byte step q r s i (b ∷ bs) = read_on q r i (step s b)
 
--- what there is to do at a node and a state of its automaton
+-- the move at a node and a state of its automaton
 abbrev pub by_byte : {L S : Type 0} → (ℕ → Automaton) → Haystack L → ℕ → ℕ → ℕ → Option (Node L S)
     → Move (ℕ × ℕ)
 by_byte step h i q s None = goes []
@@ -36,7 +36,7 @@ by_byte step h i q s (Some (note slot r)) = goes ((r, 0) ∷ [])
 by_byte step h i q s (Some (look l r)) = only_if (h.holds l i) (goes ((r, 0) ∷ []))
 by_byte step h i q s (Some (set x r)) = read_byte (step q) q r s i (left_from h i)
 
--- the machine whose reads are single bytes; `step` tells the automaton of each node over a set
+-- the machine whose reads are single bytes; `step` is the automaton of each node with a set
 abbrev pub over_bytes : {L S N : Type 0} → (ℕ → ℕ → N → N) → (ℕ → Automaton) → List (Node L S)
     → Haystack L → Machine (ℕ × ℕ) N
 over_bytes put step nodes h = record {

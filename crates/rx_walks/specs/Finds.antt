@@ -1,11 +1,11 @@
--- What a search finds by a machine, from its start node.
+-- What a search finds with a machine, from its start node.
 use Rattle.std.specs.Prelude.{◌≡◌, ℕ, ◌<◌, ◌≤◌, ◌⊎◌, Bool, true, false, IsTrue, List, [], length, Option, Some, None}
 use Rattle.std.specs.Str.{IsCharBoundary}
 use Rattle.rx_walks.specs.Machines.{Machine, Outcome}
 use Rattle.rx_walks.specs.Walks.{IsLeast, Reaches}
 
--- where a match may start, and of which patterns: anywhere in the span; at its start alone; there,
--- and of one pattern
+-- where a match may start, and of which patterns: anywhere in the span; only at its start; only
+-- there, and of one pattern
 pub data Anchoring : Type 0 where
   unanchored : Anchoring
   anchored : Anchoring
@@ -16,8 +16,8 @@ is_anchored unanchored = false
 is_anchored anchored = true
 is_anchored (anchored_pattern p) = true
 
--- what is searched. Matches lie in the span, from `start` to `end`; looks see the slice.
--- `utf8_empty` passes over empty matches inside a code point.
+-- what is searched. Matches are in the span, from `start` to `end`; assertions see the slice.
+-- `utf8_empty` skips empty matches inside a character.
 pub record Search : Type 0 where
   pub content : List ℕ
   pub slice_start : ℕ
@@ -27,15 +27,15 @@ pub record Search : Type 0 where
   pub anchoring : Anchoring
   pub utf8_empty : Bool
 
--- the search from a further place
+-- the search from another offset on
 abbrev pub from_place_on : Search → ℕ → Search
 from_place_on s i = record s { start = i }
 
--- the search of the span that is cut at a place; looks see what stands behind it as before
+-- the search of the span that is cut at an offset; assertions still see the text after it
 abbrev pub up_to_place : Search → ℕ → Search
 up_to_place s i = record s { end = i }
 
--- the place lies inside slice, span and content
+-- the offset is inside slice, span and haystack
 abbrev pub IsInside : Search → ℕ → Type 0
 IsInside s i =
     (s.slice_start ≤ i) × (i ≤ s.slice_end) × (s.start ≤ i) × (i ≤ s.end) × (i ≤ length s.content)
@@ -44,13 +44,12 @@ IsInside s i =
 abbrev pub IsPossible : Search → ℕ → Type 0
 IsPossible s i = IsInside s i × (IsTrue (is_anchored s.anchoring) → i ≡ s.start)
 
--- a match from this start to this end counts: it isn't empty, or an empty one may stand there,
--- which is at the content's end or before a byte that continues no character
+-- a match from this start to this end counts: it isn't empty, or its offset is a character
+-- boundary, or `utf8_empty` isn't set
 abbrev pub MayEnd : Search → ℕ → ℕ → Type 0
 MayEnd s i e = (e ≡ i → ⊥) ⊎ (IsTrue s.utf8_empty → IsCharBoundary s.content i)
 
--- a start counts, and this is what its least walk comes to; `fresh` are the notes with which a walk
--- from a start begins
+-- a start counts, and this is the outcome of its least walk; a walk starts with the notes `fresh`
 pub record Counts {Q N : Type 0} (m : Machine Q N) (fresh : ℕ → N) (s : Search) (q : Q) (i : ℕ)
     (t : Outcome N) : Type 0 where
   pub possible : IsPossible s i
@@ -64,13 +63,13 @@ pub data IsFind {Q N : Type 0} (m : Machine Q N) (fresh : ℕ → N) (s : Search
   is_found : {i : ℕ} {t : Outcome N} → Counts m fresh s q i t
       → ((j : ℕ) (u : Outcome N) → j < i → Counts m fresh s q j u → ⊥) → IsFind m fresh s q (Some t)
 
--- a match as its start, its pattern and its end
+-- a match: its start, its pattern and its end
 pub record PatternMatch : Type 0 where
   pub start : ℕ
   pub pattern : ℕ
   pub end : ℕ
 
--- with a greater end, or else a lesser start, or else a lesser pattern; or the same
+-- the first has a greater end, or else a lesser start, or else a lesser pattern, or both are equal
 pub record IsAtLeast (a b : PatternMatch) : Type 0 where
   pub by_end : b.end ≤ a.end
   pub by_start : b.end ≡ a.end → a.start ≤ b.start
@@ -83,8 +82,8 @@ pub record CountsAmongAll {Q N : Type 0} (m : Machine Q N) (fresh : ℕ → N) (
   pub reaches : Reaches m [] (fresh a.start) q a.start a.pattern a.end
   pub may_end : MayEnd s a.start a.end
 
--- where all matches are wanted: of all walks the greatest end, the least start with it, and the
--- least pattern with both
+-- among all matches: of all walks the greatest end, with it the least start, and with both the
+-- least pattern
 pub data IsFindAll {Q N : Type 0} (m : Machine Q N) (fresh : ℕ → N) (s : Search)
     (q : Q) : Option PatternMatch → Type 0 where
   none_at_all : ((a : PatternMatch) → CountsAmongAll m fresh s q a → ⊥) → IsFindAll m fresh s q None

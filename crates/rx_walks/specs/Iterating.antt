@@ -1,5 +1,5 @@
--- What an iterator over matches gives, one after the other. `finds` says what a search finds, and
--- `item_of` what is told of a match.
+-- What an iterator over matches gives, match by match. `finds` is what a search finds, and
+-- `item_of` the item for a match.
 use Rattle.std.specs.Prelude.{◌≡◌, ℕ, ◌+◌, Bool, true, false, List, [], ◌∷◌, ◌++◌, map, Option, Some, None, Result, Ok, Err}
 use Rattle.std.specs.Iterator.{Yields, Drains}
 use Rattle.rx_walks.specs.Machines.{Outcome}
@@ -16,8 +16,8 @@ Finding = Search → Option (Outcome Notes) → Type 0
 abbrev pub IsEmptyAtLast : Option ℕ → Outcome Notes → Type 0
 IsEmptyAtLast last t = (start_of t ≡ end_of t) × (last ≡ Some (end_of t))
 
--- what a search finds next, where the last match, if there was one, ended at `last`: an empty match
--- there is passed over, for what is found from one byte further on
+-- what a search finds after a match that ended at `last`, if there was one: an empty match there is
+-- skipped, for what is found from the next byte on
 pub data FindsNext (finds : Finding) (s : Search) (last : Option ℕ) : Option (Outcome Notes)
     → Type 0 where
   nothing : finds s None → FindsNext finds s last None
@@ -26,8 +26,8 @@ pub data FindsNext (finds : Finding) (s : Search) (last : Option ℕ) : Option (
   passed : {t : Outcome Notes} {out : Option (Outcome Notes)} → finds s (Some t)
       → IsEmptyAtLast last t → finds (from_place_on s (s.start + 1)) out → FindsNext finds s last out
 
--- what is left to an iterator: the search for the next match, where the last one ended, if there
--- was one, and whether no more come
+-- what an iterator has left: the search for the next match, the end of the last one, if there was
+-- one, and whether it has ended
 pub record MatchesLeft : Type 0 where
   pub search : Search
   pub last_end : Option ℕ
@@ -37,7 +37,7 @@ pub record MatchesLeft : Type 0 where
 abbrev pub matches_from : Search → MatchesLeft
 matches_from s = record { search = s; last_end = None; is_over = false }
 
--- a match comes next, and what is left is what comes after its end
+-- a match is next, and what is left is what follows its end
 pub record GivesFound {A : Type 0} (finds : Finding) (item_of : Outcome Notes → A) (m : MatchesLeft)
     (item : A) (n : MatchesLeft) : Type 0 where
   pub goes_on : m.is_over ≡ false
@@ -50,7 +50,8 @@ pub record GivesFound {A : Type 0} (finds : Finding) (item_of : Outcome Notes �
     is_over = false;
   }
 
--- a step of an iterator: a match, a refusal, or none; after a refusal and after none, none comes
+-- a step of an iterator: a match, an error, or none; after an error and after none the iterator has
+-- ended
 abbrev pub GivesMatch : {A E : Type 0} → Finding → (Outcome Notes → A) → MatchesLeft
     → Option (Result A E) → MatchesLeft → Type 0
 GivesMatch finds item_of m None n =
@@ -58,12 +59,12 @@ GivesMatch finds item_of m None n =
 GivesMatch finds item_of m (Some (Ok item)) n = GivesFound finds item_of m item n
 GivesMatch finds item_of m (Some (Err error)) n = (m.is_over ≡ false) × (n.is_over ≡ true)
 
--- items of which none is refused
+-- items without an error
 abbrev pub not_refused : {A E : Type 0} → List A → List (Result A E)
 not_refused items = map (λ a. Ok a) items
 
--- what an iterator of such steps gives from a search on: before a refusal and before it is drained
--- the first matches, drained all of them, and nothing after a refusal
+-- an iterator gives the first matches of a search until it ends or has an error, all of them if it
+-- ends without an error, and nothing after an error
 pub record GivesInOrder {S A E F : Type 0} (member : S → ℕ → Bool) (is_word : ℕ → Bool)
     (p : Program Look S) (item_of : Outcome Notes → A) (gives : F → Option (Result A E) → F → Type 0)
     (s : Search) (m : F) : Type 0 where
@@ -76,7 +77,7 @@ pub record GivesInOrder {S A E F : Type 0} (member : S → ℕ → Bool) (is_wor
   pub refused : (n : F) (items : List A) (error : E) (others : List (Result A E))
       → Yields gives m (not_refused items ++ Err error ∷ others) n → others ≡ []
 
--- an iterator gives its matches in order; `left` tells what it has left, and `gives` its steps
+-- an iterator gives its matches in order; `left` is what it has left, and `gives` its steps
 abbrev pub IteratorsGiveInOrder : {S A E F : Type 0} → (S → ℕ → Bool) → (ℕ → Bool) → Program Look S
     → (Outcome Notes → A) → (F → MatchesLeft) → (F → Option (Result A E) → F → Type 0) → Type 0
 IteratorsGiveInOrder {S} {A} {E} {F} member is_word p item_of left gives =

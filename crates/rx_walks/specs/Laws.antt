@@ -1,4 +1,4 @@
--- Laws of walks and of what is found by them.
+-- Laws of walks and finds.
 use Rattle.std.specs.Prelude.{◌≡◌, ℕ, ◌+◌, ◌≤◌, ◌⊎◌, ◌↔◌, Bool, IsTrue, List, [], map, reverse, take, Option, None, Some, option_map, slice_get}
 use Rattle.std.specs.Str.{IsUtf8, IsCharBoundary}
 use Rattle.rx_walks.specs.Machines.{Machine, Outcome, IsForward, reads}
@@ -15,19 +15,19 @@ use Rattle.rx_walks.specs.StepsAll.{SearchesAll}
 use Rattle.rx_walks.specs.Refinements.{Refines}
 use Rattle.rx_walks.specs.Likenesses.{noted_by, Keeping}
 
--- a start begins at each possible place at which an empty match may stand
+-- a match may begin at each possible offset at which an empty match may be
 abbrev pub MayBegin : Search → ℕ → Type 0
 MayBegin s i = IsPossible s i × (IsTrue s.utf8_empty → IsCharBoundary s.content i)
 
--- of two nodes it is known whether they are one
+-- equality is decidable
 abbrev pub IsDecidable : Type 0 → Type 0
 IsDecidable Q = (a b : Q) → (a ≡ b) ⊎ (a ≡ b → ⊥)
 
--- reads begin where a character may begin
+-- reads start where a character may begin
 abbrev pub ReadsWhole : {Q N : Type 0} → Machine Q N → List ℕ → Type 0
 ReadsWhole {Q} m content = (i j : ℕ) (q r : Q) → m.move i q ≡ reads r j → IsCharBoundary content i
 
--- the automaton of each node over a set takes the set's characters, and nothing else
+-- the automaton of each node with a set reads the set's characters, and nothing else
 abbrev pub ReadsMembers : {L S : Type 0} → (S → List ℕ → Option ℕ) → (ℕ → Automaton)
     → List (Node L S) → Type 0
 ReadsMembers {L} {S} first step nodes = (q r : ℕ) (x : S) → slice_get nodes q ≡ Some (set x r)
@@ -35,13 +35,13 @@ ReadsMembers {L} {S} first step nodes = (q r : ℕ) (x : S) → slice_get nodes 
 
 -- ---- the definitions
 
--- a walk is a path that takes no pair of node and place twice
+-- a walk is a path that takes no pair of node and offset twice
 abbrev pub WalksTakeNoPairTwice : {Q N : Type 0} → Machine Q N → Type 0
 WalksTakeNoPairTwice {Q} {N} m = IsForward m → (n : N) (q : Q) (i : ℕ) (cs : List ℕ) (t : Outcome N)
     → Walk m [] n q i cs t
     ↔ ((pairs : List (Q × ℕ)) × PathThrough m n q i cs pairs t × HasNoRepeat pairs)
 
--- in a content a program has at most one find
+-- in each search a program has at most one find
 abbrev pub FindsAtMostOne : {S : Type 0} → (S → ℕ → Bool) → (ℕ → Bool) → Program Look S → Type 0
 FindsAtMostOne member is_word p = (s : Search) (out out' : Option (Outcome Notes))
     → ProgramFinds member is_word p s out → ProgramFinds member is_word p s out' → out ≡ out'
@@ -50,7 +50,7 @@ abbrev pub FindsAllAtMostOne : {S : Type 0} → (S → ℕ → Bool) → (ℕ �
 FindsAllAtMostOne member is_word p = (s : Search) (out out' : Option PatternMatch)
     → ProgramFindsAll member is_word p s out → ProgramFindsAll member is_word p s out' → out ≡ out'
 
--- and one: a match, or that there is none
+-- it has one: a match, or none
 abbrev pub FindsExist : {S : Type 0} → (S → ℕ → Bool) → (ℕ → Bool) → Program Look S → Type 0
 FindsExist member is_word p =
     (s : Search) → (out : Option (Outcome Notes)) × ProgramFinds member is_word p s out
@@ -59,7 +59,7 @@ abbrev pub FindsAllExist : {S : Type 0} → (S → ℕ → Bool) → (ℕ → Bo
 FindsAllExist member is_word p =
     (s : Search) → (out : Option PatternMatch) × ProgramFindsAll member is_word p s out
 
--- and at most one list of matches
+-- it has at most one list of matches
 abbrev pub MatchesAreOneList : {S : Type 0} → (S → ℕ → Bool) → (ℕ → Bool) → Program Look S → Type 0
 MatchesAreOneList member is_word p = (s : Search) (ms ms' : List (Outcome Notes))
     → ProgramMatches member is_word p s ms → ProgramMatches member is_word p s ms' → ms ≡ ms'
@@ -69,37 +69,37 @@ abbrev pub MatchesAllAreOneList : {S : Type 0} → (S → ℕ → Bool) → (ℕ
 MatchesAllAreOneList member is_word p = (s : Search) (ms ms' : List PatternMatch)
     → ProgramMatchesAll member is_word p s ms → ProgramMatchesAll member is_word p s ms' → ms ≡ ms'
 
--- the first character of bytes is the one whose UTF-8 stands first in them
+-- the first character of bytes is the one whose UTF-8 they start with
 abbrev pub FirstCharacterStands : Type 0
 FirstCharacterStands =
     (bytes : List ℕ) (c : ℕ) → (first_character bytes ≡ Some c) ↔ StandsFirst bytes c
 
--- and the last one is the one whose UTF-8 stands last; they are given from the last one back
+-- the last one is that whose UTF-8 they end with; they are given in reverse order
 abbrev pub LastCharacterStands : Type 0
 LastCharacterStands =
     (back : List ℕ) (c : ℕ) → (last_character back ≡ Some c) ↔ StandsLast (reverse back) c
 
--- whether a look holds is told by four bytes on each side
+-- four bytes on each side decide whether an assertion holds
 abbrev pub FourBytesTell : Type 0
 FourBytesTell = (is_word : ℕ → Bool) (terminator : ℕ) (l : Look) (before after : List ℕ)
     → holds_between is_word terminator l (take 4 before) (take 4 after)
     ≡ holds_between is_word terminator l before after
 
--- and by one byte on each side, where that is a character by itself or none is asked for
+-- one byte on each side decides it, if that is a whole character or the assertion isn't about words
 abbrev pub OneByteTells : Type 0
 OneByteTells = (is_word : ℕ → Bool) (terminator : ℕ) (l : Look) (before after : List ℕ)
     → (IsTrue (asks_characters l) → IsEdgeOrAscii before × IsEdgeOrAscii after)
     → holds_between is_word terminator l (take 1 before) (take 1 after)
     ≡ holds_between is_word terminator l before after
 
--- a match from a start to an end that a search may tell
+-- a search may find a match from this start to this end
 pub record MayBeFound (s : Search) (start end : ℕ) : Type 0 where
   pub possible : IsPossible s start
   pub ordered : start ≤ end
   pub inside : IsInside s end
   pub may_end : MayEnd s start end
 
--- what is found is such a match, and each place in a slot lies between its start and its end
+-- a find is such a match, and the offset in each slot is between its start and its end
 pub record LiesInside (s : Search) (t : Outcome Notes) : Type 0 where
   pub found : MayBeFound s (start_of t) (end_of t)
   pub slots : (slot i : ℕ) → slot_of t.notes slot ≡ Some i → (start_of t ≤ i) × (i ≤ end_of t)
@@ -112,25 +112,25 @@ abbrev pub FindsAllLieInside : {S : Type 0} → (S → ℕ → Bool) → (ℕ �
 FindsAllLieInside member is_word p = (s : Search) (a : PatternMatch)
     → ProgramFindsAll member is_word p s (Some a) → MayBeFound s a.start a.end
 
--- in the span that is cut at its end the same is found, with the same notes
+-- in the span that is cut at its end the find is the same, with the same notes
 abbrev pub FindsStayInCutSpans : {S : Type 0} → (S → ℕ → Bool) → (ℕ → Bool) → Program Look S → Type 0
 FindsStayInCutSpans member is_word p = (s : Search) (t : Outcome Notes)
     → ProgramFinds member is_word p s (Some t)
     → ProgramFinds member is_word p (up_to_place s (end_of t)) (Some t)
 
--- and what is found in a span that is cut tells that something is found in the whole one
+-- if there is a find in a span that is cut, there is one in the whole span
 abbrev pub CutSpansTell : {S : Type 0} → (S → ℕ → Bool) → (ℕ → Bool) → Program Look S → Type 0
 CutSpansTell member is_word p = (s : Search) (i : ℕ) (t : Outcome Notes) → i ≤ s.end
     → ProgramFinds member is_word p (up_to_place s i) (Some t)
     → (whole : Outcome Notes) × ProgramFinds member is_word p s (Some whole)
 
--- it starts and ends at boundaries of the content's characters; the places in its slots are such too
+-- it starts and ends at character boundaries of the haystack, and the offsets in its slots are such
 pub record StandsAtBoundaries (content : List ℕ) (t : Outcome Notes) : Type 0 where
   pub start : IsCharBoundary content (start_of t)
   pub end : IsCharBoundary content (end_of t)
   pub slots : (slot i : ℕ) → slot_of t.notes slot ≡ Some i → IsCharBoundary content i
 
--- in UTF-8 what is found is whole characters, where empty matches inside one are passed over
+-- in UTF-8 a find has whole characters, if empty matches inside one are skipped
 abbrev pub FindsStandAtBoundaries : {S : Type 0} → (S → ℕ → Bool) → (ℕ → Bool) → Program Look S → Type 0
 FindsStandAtBoundaries member is_word p = (s : Search) (t : Outcome Notes) → IsUtf8 s.content
     → IsTrue s.utf8_empty → ProgramFinds member is_word p s (Some t) → StandsAtBoundaries s.content t
@@ -142,21 +142,21 @@ FindsAllStandAtBoundaries member is_word p = (s : Search) (a : PatternMatch) →
 
 -- ---- threads
 
--- one step keeps the best walk: it is the best one of the next place, or the end that is met
+-- one step keeps the best walk: it is the best one at the next offset, or the match end
 abbrev pub StepsKeepBest : {Q N : Type 0} → Machine Q N → Type 0
 StepsKeepBest {Q} {N} m =
     (i : ℕ) (seen : List Q) (threads next : List (N × Q)) (met out : Option (Outcome N))
     → Steps m i seen threads next met → Best m [] (i + 1) next out
     → Best m seen i threads (either out met)
 
--- the loop over places, by a machine of single steps, finds what the machine that it refines has
+-- the search loop with a machine of single steps finds what the machine that it refines does
 abbrev pub SearchesFind : {C B N : Type 0} → Machine C N → Machine B N → (C → B) → Type 0
 SearchesFind {C} {B} {N} c b f =
     (s : Search) (fresh : ℕ → N) (q : C) (out : Option (Outcome N)) → Refines c b f
     → ReadsWhole c s.content → Searches b (MayBegin s) fresh (f q) s.start [] None out
     → IsFind c fresh s q out
 
--- without a cut it finds the greatest end
+-- the search loop for all matches finds the greatest end
 abbrev pub SearchesFindAll : {C B N : Type 0} → Machine C N → Machine B N → (C → B) → Type 0
 SearchesFindAll {C} {B} {N} c b f =
     (s : Search) (fresh : ℕ → N) (q : C) (out : Option PatternMatch) → Refines c b f
@@ -165,19 +165,19 @@ SearchesFindAll {C} {B} {N} c b f =
 
 -- ---- paths and smaller steps
 
--- some path leads to an end exactly where some walk does
+-- there is a path to an end exactly if there is a walk
 abbrev pub PathsHaveWalks : {Q N : Type 0} → Machine Q N → Type 0
 PathsHaveWalks {Q} {N} m =
     IsDecidable Q → (n : N) (q : Q) (i p e : ℕ) → Path m q i p e ↔ Reaches m [] n q i p e
 
--- the walks of both machines, and their least walks, are equal
+-- the walks of both machines are equal, and their least walks
 abbrev pub WalksAgree : {C B N : Type 0} → Machine C N → Machine B N → (C → B) → Type 0
 WalksAgree {C} {B} {N} c b f = Refines c b f → (seen : List C) (n : N) (q : C) (i : ℕ)
     → ((choices : List ℕ) (t : Outcome N) → Walk c seen n q i choices t
     ↔ Walk b (map f seen) n (f q) i choices t)
     × ((t : Outcome N) → IsLeast c seen n q i t ↔ IsLeast b (map f seen) n (f q) i t)
 
--- and so are their paths
+-- their paths are equal
 abbrev pub PathsAgree : {C B N : Type 0} → Machine C N → Machine B N → (C → B) → Type 0
 PathsAgree {C} {B} {N} c b f = Refines c b f → IsDecidable C → IsDecidable B → N
     → (q : C) (i p e : ℕ)
@@ -191,8 +191,8 @@ abbrev pub BytesRefine : {L S N : Type 0} → (ℕ → ℕ → N → N) → (S �
 BytesRefine put first step nodes h = ReadsMembers first step nodes
     → Refines (over_characters put first nodes h) (over_bytes put step nodes h) (λ q. (q, 0))
 
--- the walks from each node at each place, the least ones, and the paths: those of both machines are
--- the same
+-- both machines have the same walks from each node at each offset, the same least walks, and the
+-- same paths
 pub record HasWalksOf {C B N : Type 0} (c : Machine C N) (b : Machine B N)
     (f : C → B) : Type 0 where
   pub walks : (n : N) (q : C) (i : ℕ) (choices : List ℕ) (t : Outcome N)
@@ -213,7 +213,7 @@ abbrev pub ProgramWalksAgree : {S : Type 0} → (S → ℕ → Bool) → (ℕ �
 ProgramWalksAgree member is_word p step = ReadsMembers (first_by member) step p.nodes → (s : Search)
     → HasWalksOf (machine_of member is_word p s) (byte_machine_of is_word p step s) (λ q. (q, 0))
 
--- the loop over places by a program's bytes finds what its characters have
+-- the search loop of a program over bytes finds what the program over characters does
 abbrev pub ProgramsFind : {L S N : Type 0} → (ℕ → ℕ → N → N) → (S → ℕ → Bool) → (ℕ → Automaton)
     → List (Node L S) → (L → ℕ → Bool) → Type 0
 ProgramsFind {L} {S} {N} put member step nodes holds =
@@ -223,7 +223,7 @@ ProgramsFind {L} {S} {N} put member step nodes holds =
     (q, 0) s.start [] None out
     → IsFind (over_characters put (first_by member) nodes (haystack_of holds s)) fresh s q out
 
--- without a cut it finds the greatest end of what its characters have
+-- for all matches it finds the greatest end
 abbrev pub ProgramsFindAll : {L S N : Type 0} → (ℕ → ℕ → N → N) → (S → ℕ → Bool) → (ℕ → Automaton)
     → List (Node L S) → (L → ℕ → Bool) → Type 0
 ProgramsFindAll {L} {S} {N} put member step nodes holds =
@@ -233,7 +233,7 @@ ProgramsFindAll {L} {S} {N} put member step nodes holds =
     (q, 0) s.start [] None out
     → IsFindAll (over_characters put (first_by member) nodes (haystack_of holds s)) fresh s q out
 
--- the same of a whole program, from the node that its walks start from
+-- the same for a whole program, from its start node
 abbrev pub ProgramIsSearched : {S : Type 0} → (S → ℕ → Bool) → (ℕ → Bool) → Program Look S
     → (ℕ → Automaton) → Type 0
 ProgramIsSearched member is_word p step = ReadsMembers (first_by member) step p.nodes
@@ -242,7 +242,7 @@ ProgramIsSearched member is_word p step = ReadsMembers (first_by member) step p.
     (q, 0) s.start [] None out
     → ProgramFinds member is_word p s out
 
--- and by machines that keep something else of what is noted
+-- the same for machines that keep something else in place of notes
 abbrev pub ProgramIsSearchedKeeping : {S N : Type 0} → Keeping N → (S → ℕ → Bool) → (ℕ → Bool)
     → Program Look S → (ℕ → Automaton) → Type 0
 ProgramIsSearchedKeeping {S} {N} keeping member is_word p step =

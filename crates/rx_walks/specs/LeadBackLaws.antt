@@ -1,4 +1,4 @@
--- Laws of nodes that lead, told by the program turned round.
+-- Laws of leading nodes, found with the reverse program.
 use Rattle.std.specs.Prelude.{ℕ, ◌+◌, ◌-◌, ◌<◌, ◌≤◌, ◌↔◌, Bool, List, [], ◌∷◌, ◌++◌, length, Option}
 use Rattle.rx_walks.specs.Machines.{Machine}
 use Rattle.rx_walks.specs.Programs.{Node, Program, Haystack, over_characters}
@@ -12,8 +12,8 @@ use Rattle.rx_walks.specs.Leading.{LeadsToMatch}
 use Rattle.rx_walks.specs.LeadLaws.{IsStepped}
 use Rattle.rx_walks.specs.Reached.{Comes, Reached, ReadTo, IsInClosure, ThreadStandsAt}
 
--- a node leads at a place exactly where the program turned round comes to that node there, from its
--- start at some place
+-- a node leads at an offset exactly if the reverse program, started at some offset, reaches that
+-- node there
 abbrev pub ReverseTellsLeads : {L S N : Type 0} → (ℕ → ℕ → N → N) → (S → ℕ → Bool) → Program L S
     → Haystack L → Type 0
 ReverseTellsLeads put member p h = h.low ≤ length h.content → h.high ≤ length h.content
@@ -23,8 +23,8 @@ ReverseTellsLeads put member p h = h.low ≤ length h.content → h.high ≤ len
     × Comes (over_characters put (last_by member) (back_program p).nodes (mirrored h))
     (back_program p).start (length h.content - e) q (length h.content - i))
 
--- the threads at a place stand at the nodes that reads come to; then so they do at the next place,
--- and the nodes reached here are those that empty edges lead to
+-- if the threads at an offset are at the nodes that reads reach, so they are at the next offset,
+-- and the nodes reached here are those to which epsilon transitions lead
 abbrev pub ListsHoldReached : {Q N : Type 0} → Machine Q N → Type 0
 ListsHoldReached {Q} m = IsStepped m → (start : Q) (i : ℕ) (live next : List (ℕ × Q))
     (ms : List (ℕ × ℕ)) → ((q : Q) → ThreadStandsAt live q ↔ ReadTo m start i q)
@@ -36,14 +36,14 @@ ListsHoldReached {Q} m = IsStepped m → (start : Q) (i : ℕ) (live next : List
 abbrev pub NoneReturns : (ℕ → Automaton) → Type 0
 NoneReturns step = (q : ℕ) → NeverReturns (step q)
 
--- then a program's bytes come to the nodes to which its characters come
+-- then a program over bytes reaches the nodes that the program over characters does
 abbrev pub BytesComeAlike : {L S N : Type 0} → (ℕ → ℕ → N → N) → (S → List ℕ → Option ℕ)
     → (ℕ → Automaton) → List (Node L S) → Haystack L → Type 0
 BytesComeAlike put first step nodes h = ReadsMembers first step nodes → NoneReturns step
     → (x i z j : ℕ) → Comes (over_characters put first nodes h) x i z j
     ↔ Comes (over_bytes put step nodes h) (x, 0) i (z, 0) j
 
--- the machine that reads a content's bytes back, from its end
+-- the machine that reads a haystack's bytes backward, from its end
 abbrev pub back_machine : {L S N : Type 0} → (ℕ → ℕ → N → N) → (ℕ → Automaton) → Program L S
     → Haystack L → Machine (ℕ × ℕ) N
 back_machine put step p h = over_bytes put step (back_program p).nodes (mirrored h)
@@ -51,8 +51,8 @@ back_machine put step p h = over_bytes put step (back_program p).nodes (mirrored
 abbrev pub back_start_of : {L S : Type 0} → Program L S → ℕ × ℕ
 back_start_of p = ((back_program p).start, 0)
 
--- it reads nothing up to its first place, so that there are no threads there; and where its threads
--- stand at the nodes that reads come to, the nodes that lead are those that empty edges lead to
+-- it reads nothing up to its first offset, so there is no thread there; if its threads are at the
+-- nodes that reads reach, the leading nodes are those to which epsilon transitions lead
 pub record TellsLeads {L S N : Type 0} (put : ℕ → ℕ → N → N) (member : S → ℕ → Bool)
     (step : ℕ → Automaton) (p : Program L S) (h : Haystack L) : Type 0 where
   pub none_at_first : (q : ℕ × ℕ)

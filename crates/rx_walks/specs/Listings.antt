@@ -1,10 +1,11 @@
--- All matches by the nodes that lead.
+-- All matches, found with leading nodes.
 use Rattle.std.specs.Prelude.{◌≡◌, ℕ, ◌+◌, ◌≤◌, Bool, true, false, IsTrue, List, [], ◌∷◌, Some}
 use Rattle.rx_walks.specs.Machines.{Machine, Outcome}
 use Rattle.rx_walks.specs.Leading.{LeadsToMatch, Follows}
 
--- The matches from a place on, of the find that began at `from`; `after` says that a match ended
--- there. A start counts that begins and leads; an empty match where one ended is passed over.
+-- The matches from an offset on, of the find that began at `from`; `after` is set if a match ended
+-- there. A start counts if a match may begin there and the node leads; an empty match where one
+-- ended is skipped.
 pub data Listing {Q N : Type 0} (m : Machine Q N) (begins : ℕ → ℕ → Type 0) (fresh : ℕ → N)
     (q : Q) : Bool → ℕ → ℕ → List (Outcome N) → Type 0 where
   over : {after : Bool} {from i : ℕ} → ((j : ℕ) → i ≤ j → begins from j → LeadsToMatch m q j → ⊥)

@@ -1,5 +1,5 @@
--- Looks: what has to stand around a place, in a content that is cut to the slice. What stands
--- before the place is given from the place back.
+-- Look-around assertions about an offset, in a haystack that is cut to the slice. The bytes before
+-- the offset are given in reverse order.
 use Rattle.std.specs.Prelude.{ℕ, ◌<◌, Bool, true, false, not, ◌&&◌, ◌==◌, List, [], ◌∷◌, Option, Some, None}
 use Rattle.rx_walks.specs.Characters.{first_character, last_character}
 
@@ -17,7 +17,7 @@ pub data Look : Type 0 where
   -- `\B`
   no_word_boundary : Look
 
--- what stands on one side of a place: nothing, bytes that are no whole character, or a character
+-- what is on one side of an offset: nothing, bytes that are no whole character, or a character
 pub data Side : Type 0 where
   edge : Side
   broken : Side
@@ -34,7 +34,7 @@ side_before before = side_of before (last_character before)
 abbrev pub side_after : List ℕ → Side
 side_after after = side_of after (first_character after)
 
--- a word character stands on this side
+-- a word character is on this side
 abbrev pub has_word : (ℕ → Bool) → Side → Bool
 has_word is_word edge = false
 has_word is_word broken = false
@@ -49,27 +49,28 @@ abbrev pub is_same : Bool → Bool → Bool
 is_same true b = b
 is_same false b = not b
 
--- whether characters tell if a look holds: the others are told by bytes
+-- an assertion about words: it depends on characters, the others on bytes
 abbrev pub asks_characters : Look → Bool
 asks_characters word_boundary = true
 asks_characters no_word_boundary = true
 asks_characters _ = false
 
--- there are no bytes, or the first one is a character by itself
+-- there are no bytes, or the first one is ASCII
 abbrev pub IsEdgeOrAscii : List ℕ → Type 0
 IsEdgeOrAscii [] = Unit {0}
 IsEdgeOrAscii (b ∷ bytes) = b < 128
 
--- there are no bytes, or the first one is this
+-- there are no bytes
 abbrev pub is_edge : List ℕ → Bool
 is_edge [] = true
 is_edge (b ∷ bytes) = false
 
+-- there are no bytes, or the first one is this
 abbrev pub is_edge_or : ℕ → List ℕ → Bool
 is_edge_or terminator [] = true
 is_edge_or terminator (b ∷ bytes) = b == terminator
 
--- a look holds at a place, by which characters are word characters and which byte ends a line
+-- an assertion holds at an offset, for these word characters and this line terminator
 abbrev pub holds_between : (ℕ → Bool) → ℕ → Look → List ℕ → List ℕ → Bool
 holds_between is_word terminator start_text before after = is_edge before
 holds_between is_word terminator end_text before after = is_edge after

@@ -1,4 +1,4 @@
--- Laws of lists of matches: that there is one, how its members lie, and what its first members are.
+-- Laws of lists of matches: that there is one, the order of its matches, and its first matches.
 use Rattle.std.specs.Prelude.{◌≡◌, ℕ, ◌+◌, ◌<◌, ◌≤◌, ◌↔◌, Bool, IsTrue, List, [], ◌∷◌, ◌++◌, length, Option, None, Some, All, AllPairs}
 use Rattle.std.specs.Str.{IsUtf8}
 use Rattle.rx_walks.specs.Machines.{Outcome}
@@ -9,7 +9,7 @@ use Rattle.rx_walks.specs.Programs.{Program, Notes}
 use Rattle.rx_walks.specs.ProgramFinds.{ProgramFinds, ProgramMatches, ProgramMatchesAll, ProgramFirstMatches, ProgramComesNext, start_of, end_of}
 use Rattle.rx_walks.specs.Laws.{StandsAtBoundaries}
 
--- in a content a program has a list of matches
+-- in each search a program has a list of matches
 abbrev pub MatchesExist : {S : Type 0} → (S → ℕ → Bool) → (ℕ → Bool) → Program Look S → Type 0
 MatchesExist member is_word p =
     (s : Search) → (ms : List (Outcome Notes)) × ProgramMatches member is_word p s ms
@@ -18,29 +18,28 @@ abbrev pub MatchesAllExist : {S : Type 0} → (S → ℕ → Bool) → (ℕ → 
 MatchesAllExist member is_word p =
     (s : Search) → (ms : List PatternMatch) × ProgramMatchesAll member is_word p s ms
 
--- it is found from some place on, which is the search's start or lies behind it
+-- it is a find from the search's start or a later offset on
 abbrev pub IsFoundBehind : {S : Type 0} → (S → ℕ → Bool) → (ℕ → Bool) → Program Look S → Search
     → Outcome Notes → Type 0
 IsFoundBehind member is_word p s t =
     (i : ℕ) × (s.start ≤ i) × ProgramFinds member is_word p (from_place_on s i) (Some t)
 
--- each member of the list is, so that all that is known of finds is known of it
+-- each match of the list is one, so that what holds of finds holds of it
 abbrev pub MatchesAreFound : {S : Type 0} → (S → ℕ → Bool) → (ℕ → Bool) → Program Look S → Type 0
 MatchesAreFound member is_word p = (s : Search) (ms : List (Outcome Notes))
     → ProgramMatches member is_word p s ms → All (IsFoundBehind member is_word p s) ms
 
--- in UTF-8 they are whole characters, where empty matches inside one are passed over
+-- in UTF-8 they have whole characters, if empty matches inside one are skipped
 abbrev pub MatchesStandAtBoundaries : {S : Type 0} → (S → ℕ → Bool) → (ℕ → Bool) → Program Look S → Type 0
 MatchesStandAtBoundaries member is_word p = (s : Search) (ms : List (Outcome Notes)) → IsUtf8 s.content
     → IsTrue s.utf8_empty → ProgramMatches member is_word p s ms
     → All (StandsAtBoundaries s.content) ms
 
--- a match from a start to an end lies inside slice, span and content
+-- a match from this start to this end is inside slice, span and haystack
 abbrev pub LiesBetween : Search → ℕ → ℕ → Type 0
 LiesBetween s start end = IsInside s start × (start ≤ end) × IsInside s end
 
--- matches inside, of which each starts where the ones before it end, or behind that, and ends
--- behind it
+-- matches inside, of which each starts at the end of the one before or after it, and ends after it
 pub record AreInOrder {A : Type 0} (start_of end_of : A → ℕ) (s : Search) (ms : List A)
     : Type 0 where
   pub inside : All (λ a. LiesBetween s (start_of a) (end_of a)) ms
@@ -49,7 +48,7 @@ pub record AreInOrder {A : Type 0} (start_of end_of : A → ℕ) (s : Search) (m
   pub rise : AllPairs (λ a b. end_of a < end_of b) ms
   pub few : length ms ≤ length s.content + 1
 
--- matches rise, don't overlap, and are at most one more than the content has bytes
+-- matches are in order, don't overlap, and are at most one more than the haystack has bytes
 abbrev pub MatchesRise : {S : Type 0} → (S → ℕ → Bool) → (ℕ → Bool) → Program Look S → Type 0
 MatchesRise member is_word p = (s : Search) (ms : List (Outcome Notes))
     → ProgramMatches member is_word p s ms → AreInOrder start_of end_of s ms
@@ -58,8 +57,8 @@ abbrev pub MatchesAllRise : {S : Type 0} → (S → ℕ → Bool) → (ℕ → B
 MatchesAllRise member is_word p = (s : Search) (ms : List PatternMatch)
     → ProgramMatchesAll member is_word p s ms → AreInOrder (λ a. a.start) (λ a. a.end) s ms
 
--- what the first members of the list are: none are; with what comes next they are one more; and
--- they are all where none comes next
+-- the first matches of the list: none are; with the next one they are one more; and if none is next
+-- they are all
 pub record HasFirstMatches {S : Type 0} (member : S → ℕ → Bool) (is_word : ℕ → Bool)
     (p : Program Look S) (s : Search) : Type 0 where
   pub none : ProgramFirstMatches member is_word p s []
@@ -75,6 +74,6 @@ pub record HasFirstMatches {S : Type 0} (member : S → ℕ → Bool) (is_word :
       → ProgramComesNext member is_word p s ms out → ProgramComesNext member is_word p s ms out'
       → out ≡ out'
 
--- so each program has them in each search
+-- each program has them in each search
 abbrev pub FirstMatchesGrow : {S : Type 0} → (S → ℕ → Bool) → (ℕ → Bool) → Program Look S → Type 0
 FirstMatchesGrow member is_word p = (s : Search) → HasFirstMatches member is_word p s

@@ -1,6 +1,6 @@
--- The matches of a program where all matches are wanted: the first members of their list, what comes
--- next, and what an iterator over them gives. `finds` says what a search finds, and `item_of` what
--- is told of a match.
+-- The matches of a program for `MatchKind::All`: the first ones of their list, the next one, and
+-- what an iterator over them gives. `finds` is what a search finds, and `item_of` the item for a
+-- match.
 use Rattle.std.specs.Prelude.{◌≡◌, ℕ, ◌+◌, ◌↔◌, Bool, true, false, IsTrue, List, [], ◌∷◌, ◌++◌, map, Option, Some, None, Result, Ok, Err, All}
 use Rattle.std.specs.Str.{IsUtf8, IsCharBoundary}
 use Rattle.std.specs.Iterator.{Yields, Drains}
@@ -11,20 +11,20 @@ use Rattle.rx_walks.specs.Programs.{Program}
 use Rattle.rx_walks.specs.ProgramFinds.{ProgramFinds, ProgramFindsAll, ProgramMatchesAll, finds_all_on}
 use Rattle.rx_walks.specs.Iterating.{MatchesLeft, matches_from, not_refused}
 
--- the first members of the list: more may come
+-- the first matches of the list, possibly all
 abbrev pub ProgramFirstMatchesAll : {S : Type 0} → (S → ℕ → Bool) → (ℕ → Bool) → Program Look S
     → Search → List PatternMatch → Type 0
 ProgramFirstMatchesAll member is_word p s ms =
     FirstMatches (finds_all_on (ProgramFindsAll member is_word p) s) s.start ms
 
--- what comes next in it behind these, or that none comes
+-- the match after these, or none
 abbrev pub ProgramComesNextAll : {S : Type 0} → (S → ℕ → Bool) → (ℕ → Bool) → Program Look S
     → Search → List PatternMatch → Option PatternMatch → Type 0
 ProgramComesNextAll member is_word p s ms out =
     ComesNext (finds_all_on (ProgramFindsAll member is_word p) s) s.start ms out
 
--- what the first members are: none are; with what comes next they are one more; and they are all
--- where none comes next
+-- the first matches of the list: none are; with the next one they are one more; and if none is next
+-- they are all
 pub record HasFirstMatchesAll {S : Type 0} (member : S → ℕ → Bool) (is_word : ℕ → Bool)
     (p : Program Look S) (s : Search) : Type 0 where
   pub none : ProgramFirstMatchesAll member is_word p s []
@@ -46,18 +46,18 @@ abbrev pub FirstMatchesAllGrow : {S : Type 0} → (S → ℕ → Bool) → (ℕ 
     → Type 0
 FirstMatchesAllGrow member is_word p = (s : Search) → HasFirstMatchesAll member is_word p s
 
--- it starts and ends at boundaries of the content's characters
+-- it starts and ends at character boundaries of the haystack
 abbrev pub StandsWhole : List ℕ → PatternMatch → Type 0
 StandsWhole content a = IsCharBoundary content a.start × IsCharBoundary content a.end
 
--- in UTF-8 they are whole characters, where empty matches inside one are passed over
+-- in UTF-8 they have whole characters, if empty matches inside one are skipped
 abbrev pub MatchesAllStandAtBoundaries : {S : Type 0} → (S → ℕ → Bool) → (ℕ → Bool)
     → Program Look S → Type 0
 MatchesAllStandAtBoundaries member is_word p = (s : Search) (ms : List PatternMatch)
     → IsUtf8 s.content → IsTrue s.utf8_empty → ProgramMatchesAll member is_word p s ms
     → All (StandsWhole s.content) ms
 
--- where all matches are wanted something is found exactly where the leftmost one is
+-- there is a find among all matches exactly if there is a leftmost-first one
 abbrev pub FindsAgree : {S : Type 0} → (S → ℕ → Bool) → (ℕ → Bool) → Program Look S → Type 0
 FindsAgree member is_word p = (s : Search)
     → ProgramFinds member is_word p s None ↔ ProgramFindsAll member is_word p s None
@@ -72,8 +72,8 @@ FindingAll = Search → Option PatternMatch → Type 0
 abbrev pub IsEmptyAtLastAll : Option ℕ → PatternMatch → Type 0
 IsEmptyAtLastAll last a = (a.start ≡ a.end) × (last ≡ Some a.end)
 
--- what a search finds next, where the last match, if there was one, ended at `last`: an empty match
--- there is passed over, for what is found from one byte further on
+-- what a search finds after a match that ended at `last`, if there was one: an empty match there is
+-- skipped, for what is found from the next byte on
 pub data FindsNextAll (finds : FindingAll) (s : Search) (last : Option ℕ) : Option PatternMatch
     → Type 0 where
   nothing : finds s None → FindsNextAll finds s last None
@@ -83,7 +83,7 @@ pub data FindsNextAll (finds : FindingAll) (s : Search) (last : Option ℕ) : Op
       → IsEmptyAtLastAll last a → finds (from_place_on s (s.start + 1)) out
       → FindsNextAll finds s last out
 
--- a match comes next, and what is left is what comes after its end
+-- a match is next, and what is left is what follows its end
 pub record GivesFoundAll {A : Type 0} (finds : FindingAll) (item_of : PatternMatch → A)
     (m : MatchesLeft) (item : A) (n : MatchesLeft) : Type 0 where
   pub goes_on : m.is_over ≡ false
@@ -96,7 +96,8 @@ pub record GivesFoundAll {A : Type 0} (finds : FindingAll) (item_of : PatternMat
     is_over = false;
   }
 
--- a step of an iterator: a match, a refusal, or none; after a refusal and after none, none comes
+-- a step of an iterator: a match, an error, or none; after an error and after none the iterator has
+-- ended
 abbrev pub GivesMatchAll : {A E : Type 0} → FindingAll → (PatternMatch → A) → MatchesLeft
     → Option (Result A E) → MatchesLeft → Type 0
 GivesMatchAll finds item_of m None n =
@@ -104,8 +105,8 @@ GivesMatchAll finds item_of m None n =
 GivesMatchAll finds item_of m (Some (Ok item)) n = GivesFoundAll finds item_of m item n
 GivesMatchAll finds item_of m (Some (Err error)) n = (m.is_over ≡ false) × (n.is_over ≡ true)
 
--- what an iterator of such steps gives from a search on: before a refusal and before it is drained
--- the first matches, drained all of them, and nothing after a refusal
+-- an iterator gives the first matches of a search until it ends or has an error, all of them if it
+-- ends without an error, and nothing after an error
 pub record GivesAllInOrder {S A E F : Type 0} (member : S → ℕ → Bool) (is_word : ℕ → Bool)
     (p : Program Look S) (item_of : PatternMatch → A) (gives : F → Option (Result A E) → F → Type 0)
     (s : Search) (m : F) : Type 0 where

@@ -1,5 +1,5 @@
--- What a program finds in a content. `member` says which characters are in a set, `is_word` which
--- are word characters.
+-- What a program finds in a haystack. `member` defines which characters are in a set, `is_word`
+-- which are word characters.
 use Rattle.std.specs.Prelude.{◌≡◌, ℕ, Bool, List, take, drop, reverse, length, Option, Some, None, slice_get, max, min}
 use Rattle.rx_walks.specs.Machines.{Machine, Outcome}
 use Rattle.rx_walks.specs.Characters.{member_len}
@@ -8,19 +8,19 @@ use Rattle.rx_walks.specs.Programs.{Program, Haystack, Notes, fresh_notes, put_n
 use Rattle.rx_walks.specs.Finds.{Anchoring, unanchored, anchored, anchored_pattern, Search, from_place_on, PatternMatch, IsFind, IsFindAll}
 use Rattle.rx_walks.specs.Matches.{RepeatedFinds, Matches, ComesNext, FirstMatches}
 
--- what stands before a place in the slice, from the place back; and what stands after it
+-- the bytes of the slice before an offset, in reverse order; and those after it
 abbrev pub before_in : Search → ℕ → List ℕ
 before_in s i = reverse (drop s.slice_start (take i s.content))
 
 abbrev pub after_in : Search → ℕ → List ℕ
 after_in s i = drop i (take s.slice_end s.content)
 
--- a look holds at a place in the content cut to the slice
+-- an assertion holds at an offset of the slice
 abbrev pub holds_in : (ℕ → Bool) → ℕ → Search → Look → ℕ → Bool
 holds_in is_word terminator s l i =
     holds_between is_word terminator l (before_in s i) (after_in s i)
 
--- the first and the last place inside slice, span and content
+-- the lowest and the highest offset inside slice, span and haystack
 abbrev pub lowest : Search → ℕ
 lowest s = max s.slice_start s.start
 
@@ -31,7 +31,7 @@ abbrev pub haystack_of : {L : Type 0} → (L → ℕ → Bool) → Search → Ha
 haystack_of holds s =
     record { content = s.content; low = lowest s; high = highest s; holds = holds }
 
--- the bytes that one of a set's characters takes, where one stands first
+-- the number of bytes of the first character, if it is in the set
 abbrev pub first_by : {S : Type 0} → (S → ℕ → Bool) → S → List ℕ → Option ℕ
 first_by member x bytes = member_len (member x) bytes
 
@@ -41,13 +41,13 @@ machine_of member is_word p s =
     over_characters put_note (first_by member) p.nodes
     (haystack_of (holds_in is_word p.line_terminator s) s)
 
--- the node from which walks start; an unknown pattern has none
+-- the start node; an unknown pattern has none
 abbrev pub start_node : {L S : Type 0} → Program L S → Anchoring → Option ℕ
 start_node p unanchored = Some p.start
 start_node p anchored = Some p.start
 start_node p (anchored_pattern k) = slice_get p.patterns k
 
--- a find from a node, and none where there is no node
+-- a find from a node, and none without a node
 abbrev pub IfStarts : {A : Type 0} → Option ℕ → (ℕ → Option A → Type 0) → Option A → Type 0
 IfStarts None finds out = out ≡ None
 IfStarts (Some q) finds out = finds q out
@@ -58,7 +58,7 @@ abbrev pub ProgramFinds : {S : Type 0} → (S → ℕ → Bool) → (ℕ → Boo
 ProgramFinds member is_word p s out =
     IfStarts (start_node p s.anchoring) (IsFind (machine_of member is_word p s) fresh_notes s) out
 
--- where all matches are wanted, the greatest end
+-- the greatest end among all matches
 abbrev pub ProgramFindsAll : {S : Type 0} → (S → ℕ → Bool) → (ℕ → Bool) → Program Look S → Search
     → Option PatternMatch → Type 0
 ProgramFindsAll member is_word p s out =
@@ -71,7 +71,7 @@ start_of t = t.notes.start
 abbrev pub end_of : Outcome Notes → ℕ
 end_of t = t.end
 
--- what searches find, one after the other from further places on
+-- what searches find from later offsets on
 abbrev pub finds_on : (Search → Option (Outcome Notes) → Type 0) → Search
     → RepeatedFinds (Outcome Notes)
 finds_on finds s = record {
@@ -80,7 +80,7 @@ finds_on finds s = record {
   end_of = end_of;
 }
 
--- and where all matches are wanted
+-- and among all matches
 abbrev pub finds_all_on : (Search → Option PatternMatch → Type 0) → Search
     → RepeatedFinds PatternMatch
 finds_all_on finds s = record {
@@ -95,19 +95,19 @@ abbrev pub ProgramMatches : {S : Type 0} → (S → ℕ → Bool) → (ℕ → B
 ProgramMatches member is_word p s ms =
     Matches (finds_on (ProgramFinds member is_word p) s) s.start ms
 
--- the first members of that list: more may come
+-- the first matches of that list, possibly all
 abbrev pub ProgramFirstMatches : {S : Type 0} → (S → ℕ → Bool) → (ℕ → Bool) → Program Look S
     → Search → List (Outcome Notes) → Type 0
 ProgramFirstMatches member is_word p s ms =
     FirstMatches (finds_on (ProgramFinds member is_word p) s) s.start ms
 
--- what comes next in it behind these, or that none comes
+-- the match after these, or none
 abbrev pub ProgramComesNext : {S : Type 0} → (S → ℕ → Bool) → (ℕ → Bool) → Program Look S → Search
     → List (Outcome Notes) → Option (Outcome Notes) → Type 0
 ProgramComesNext member is_word p s ms out =
     ComesNext (finds_on (ProgramFinds member is_word p) s) s.start ms out
 
--- and where all matches are wanted
+-- the list for `MatchKind::All`
 abbrev pub ProgramMatchesAll : {S : Type 0} → (S → ℕ → Bool) → (ℕ → Bool) → Program Look S → Search
     → List PatternMatch → Type 0
 ProgramMatchesAll member is_word p s ms =

@@ -1,35 +1,37 @@
--- Programs, and the machine that a program's nodes are over a content.
+-- Programs, and the machine of a program's nodes over a haystack.
 use Rattle.std.specs.Prelude.{◌≡◌, ℕ, ◌+◌, Bool, true, false, ◌&&◌, ◌==◌, nat_le, List, [], ◌∷◌, take, drop, cond, Option, Some, None, slice_get}
 use Rattle.rx_walks.specs.Machines.{Move, ends, goes, reads, Machine}
 
--- a node of a program, with its edges as numbers of nodes; looks are of L, sets of characters of S
+-- a node of a program, whose edges are numbers of nodes; assertions are of L, sets of characters of
+-- S
 pub data Node (L S : Type 0) : Type 0 where
   -- a match of this pattern ends
   match : ℕ → Node L S
-  -- ordered empty edges, the preferred one first
+  -- ordered epsilon transitions, the preferred one first
   pass : List ℕ → Node L S
-  -- notes the place in this slot
+  -- notes the offset in this slot
   note : ℕ → ℕ → Node L S
-  -- an empty edge where the look holds
+  -- an epsilon transition if the assertion holds
   look : L → ℕ → Node L S
-  -- an edge over one character of the set
+  -- an edge that reads one character of the set
   set : S → ℕ → Node L S
 
--- a program: its nodes, the number of the node above all patterns, that of each pattern's own, and
--- the byte that ends a line
+-- a program: its nodes, the start node of all patterns, that of each pattern, and the line
+-- terminator
 pub record Program (L S : Type 0) : Type 0 where
   pub nodes : List (Node L S)
   pub start : ℕ
   pub patterns : List ℕ
   pub line_terminator : ℕ
 
--- one pattern stands alone; more, or none, stand under one node with ordered edges to them
+-- a single pattern has the start node; several, or none, have a node above them with ordered edges
+-- to each
 pub data IsAbovePatterns {L S : Type 0} (p : Program L S) : Type 0 where
   one_pattern : p.patterns ≡ p.start ∷ [] → IsAbovePatterns p
   several : slice_get p.nodes p.start ≡ Some (pass p.patterns) → IsAbovePatterns p
 
--- a content, the first and the last place where a walk may stand, and the looks that hold at each
--- place
+-- a haystack: the bytes, the least and the greatest offset that a walk can reach, and the
+-- assertions that hold at each offset
 pub record Haystack (L : Type 0) : Type 0 where
   pub content : List ℕ
   pub low : ℕ
@@ -43,7 +45,7 @@ only_if false x = goes []
 abbrev pub is_within : ℕ → ℕ → ℕ → Bool
 is_within low high i = nat_le low i && nat_le i high
 
--- the bytes from a place on that a walk may take
+-- the bytes from an offset on that a walk may read
 abbrev pub left_from : {L : Type 0} → Haystack L → ℕ → List ℕ
 left_from h i = drop i (take h.high h.content)
 
@@ -51,8 +53,7 @@ abbrev pub read_up_to : {Q : Type 0} → Q → ℕ → Option ℕ → Move Q
 read_up_to r i None = goes []
 read_up_to r i (Some k) = reads r (i + k)
 
--- what there is to do at a node; `first` tells of a set how many bytes of one of its characters
--- stand first
+-- the move at a node; `first` is the number of bytes of the first character, if it is in a set
 abbrev pub by_character : {L S : Type 0} → (S → List ℕ → Option ℕ) → Haystack L → ℕ
     → Option (Node L S) → Move ℕ
 by_character first h i None = goes []
@@ -66,7 +67,7 @@ abbrev pub note_at : {L S N : Type 0} → (ℕ → ℕ → N → N) → ℕ → 
 note_at put i (Some (note slot r)) n = put slot i n
 note_at put i _ n = n
 
--- the machine whose reads are whole characters; `put` notes a place in a slot
+-- the machine whose reads are whole characters; `put` notes an offset in a slot
 abbrev pub over_characters : {L S N : Type 0} → (ℕ → ℕ → N → N) → (S → List ℕ → Option ℕ)
     → List (Node L S) → Haystack L → Machine ℕ N
 over_characters put first nodes h = record {
@@ -74,7 +75,7 @@ over_characters put first nodes h = record {
   note = λ i q n. note_at put i (slice_get nodes q) n;
 }
 
--- what a walk notes: where it began, and slots with places, the last one first
+-- what a walk notes: where it started, and slots with offsets, the last one first
 pub record Notes : Type 0 where
   pub start : ℕ
   pub noted : List (ℕ × ℕ)
@@ -85,7 +86,7 @@ fresh_notes i = record { start = i; noted = [] }
 abbrev pub put_note : ℕ → ℕ → Notes → Notes
 put_note slot i n = record n { noted = (slot, i) ∷ n.noted }
 
--- the place that was noted last in a slot
+-- the offset that was noted last in a slot
 abbrev pub last_noted : ℕ → List (ℕ × ℕ) → Option ℕ
 last_noted slot [] = None
 last_noted slot (x ∷ noted) = cond (slot == x.0) (Some x.1) (last_noted slot noted)

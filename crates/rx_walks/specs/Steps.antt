@@ -1,9 +1,9 @@
--- How an engine follows walks: from place to place, with its threads in order.
+-- How an engine follows walks: offset by offset, with ordered threads.
 use Rattle.std.specs.Prelude.{◌≡◌, ℕ, ◌+◌, ◌<◌, ◌≤◌, List, [], ◌∷◌, ◌++◌, map, Option, Some, None, Contains}
 use Rattle.rx_walks.specs.Machines.{Machine, Outcome, ends, goes, reads}
 use Rattle.rx_walks.specs.Walks.{IsNew, IsLeast, HasNoWalk}
 
--- of threads at a place, each a node with its notes, the least walk of the first one that has a
+-- of threads at an offset, each a node with its notes: the least walk of the first one that has a
 -- walk
 pub data Best {Q N : Type 0} (m : Machine Q N) (seen : List Q) (i : ℕ) : List (N × Q)
     → Option (Outcome N) → Type 0 where
@@ -13,9 +13,9 @@ pub data Best {Q N : Type 0} (m : Machine Q N) (seen : List Q) (i : ℕ) : List 
   miss : {n : N} {q : Q} {out : Option (Outcome N)} {others : List (N × Q)} → HasNoWalk m seen n q i
       → Best m seen i others out → Best m seen i ((n, q) ∷ others) out
 
--- One step: threads at a place, past the nodes seen there, give the threads at the next place, in
--- order, down to the first end of a match that is met. Empty edges are followed in depth, with one
--- list of seen nodes for all threads.
+-- One step: threads at an offset, without the nodes seen there, give the threads at the next
+-- offset, in order, up to the first match end. Epsilon transitions are followed depth first, with
+-- one list of seen nodes for all threads.
 pub data Steps {Q N : Type 0} (m : Machine Q N) (i : ℕ) : List Q → List (N × Q) → List (N × Q)
     → Option (Outcome N) → Type 0 where
   done : {seen : List Q} → Steps m i seen [] [] None
@@ -35,15 +35,15 @@ pub data Steps {Q N : Type 0} (m : Machine Q N) (i : ℕ) : List Q → List (N �
       → IsNew seen q → m.move i q ≡ reads r (i + 1)
       → Steps m i (q ∷ seen) others next met → Steps m i seen ((n, q) ∷ others) ((n, r) ∷ next) met
 
--- a step that is not done yet: the nodes seen, the threads that are left to follow, and those put
--- out for the next place
+-- a step that is under way: the nodes seen, the threads that are left, and those for the next
+-- offset
 abbrev pub StepsSoFar : {Q N : Type 0} → Machine Q N → ℕ → List (N × Q) → List Q → List (N × Q)
     → List (N × Q) → Type 0
 StepsSoFar {Q} {N} m i threads seen stack out =
     (next : List (N × Q)) (met : Option (Outcome N)) → Steps m i seen stack next met
     → Steps m i [] threads (out ++ next) met
 
--- the same threads without some at a node that stood before
+-- the same threads without some at a node of an earlier one
 pub data Thins {Q N : Type 0} : List Q → List (N × Q) → List (N × Q) → Type 0 where
   thin_end : {seen : List Q} → Thins seen [] []
   kept : {seen : List Q} {n : N} {q : Q} {xs ys : List (N × Q)} → Thins (q ∷ seen) xs ys
@@ -52,12 +52,13 @@ pub data Thins {Q N : Type 0} : List Q → List (N × Q) → List (N × Q) → T
       → Thins seen xs ys
       → Thins seen ((n, q) ∷ xs) ys
 
--- the first of two outcomes that is there
+-- the first outcome, or else the second
 abbrev pub either : {A : Type 0} → Option A → Option A → Option A
 either None second = second
 either (Some x) second = Some x
 
--- of the places from i on where a start begins: the least walk of the first one that has a walk
+-- of the offsets from i on at which a match may begin: the least walk of the first one that has a
+-- walk
 pub data FindsFrom {Q N : Type 0} (m : Machine Q N) (begins : ℕ → Type 0) (fresh : ℕ → N) (q : Q)
     (i : ℕ) : Option (Outcome N) → Type 0 where
   nowhere : ((j : ℕ) → i ≤ j → begins j → HasNoWalk m [] (fresh j) q j)
@@ -66,8 +67,8 @@ pub data FindsFrom {Q N : Type 0} (m : Machine Q N) (begins : ℕ → Type 0) (f
       → ((k : ℕ) → i ≤ k → k < j → begins k → HasNoWalk m [] (fresh k) q k)
       → FindsFrom m begins fresh q i (Some t)
 
--- the loop over places, with the live threads and the last end that was met: while none was, each
--- place where a start begins adds a thread after the others
+-- the search loop, with the current threads and the last match end: without one, each offset at
+-- which a match may begin adds a thread after the others
 pub data Searches {Q N : Type 0} (m : Machine Q N) (begins : ℕ → Type 0) (fresh : ℕ → N) (q : Q) : ℕ
     → List (N × Q) → Option (Outcome N) → Option (Outcome N) → Type 0 where
   over : {i : ℕ} {met : Option (Outcome N)} → (met ≡ None → (j : ℕ) → i ≤ j → begins j → ⊥)

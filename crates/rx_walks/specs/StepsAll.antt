@@ -1,11 +1,11 @@
--- How an engine follows all walks, where the greatest end is wanted.
+-- How an engine follows all walks to the greatest end.
 use Rattle.std.specs.Prelude.{◌≡◌, ℕ, ◌+◌, ◌≤◌, List, [], ◌∷◌, ◌++◌, map, Option, Some, None, Contains}
 use Rattle.rx_walks.specs.Machines.{Machine, ends, goes, reads}
 use Rattle.rx_walks.specs.Walks.{IsNew}
 use Rattle.rx_walks.specs.Paths.{Path}
 use Rattle.rx_walks.specs.Finds.{PatternMatch, IsAtLeast}
 
--- the best of the matches of paths from the places from i on where a start begins
+-- the best of the matches of paths from the offsets from i on at which a match may begin
 pub data FindsAll {Q N : Type 0} (m : Machine Q N) (begins : ℕ → Type 0) (q : Q)
     (i : ℕ) : Option PatternMatch → Type 0 where
   nowhere : ((a : PatternMatch)
@@ -17,8 +17,8 @@ pub data FindsAll {Q N : Type 0} (m : Machine Q N) (begins : ℕ → Type 0) (q 
       → IsAtLeast a b)
       → FindsAll m begins q i (Some a)
 
--- One step: threads, each a node with the start that it came from, give those at the next place,
--- and all ends that are met, each as its start and pattern.
+-- One step: threads, each a node with its start, give those at the next offset, and all match ends,
+-- each a start and a pattern.
 pub data StepsAll {Q N : Type 0} (m : Machine Q N) (i : ℕ) : List Q → List (ℕ × Q) → List (ℕ × Q)
     → List (ℕ × ℕ) → Type 0 where
   done : {seen : List Q} → StepsAll m i seen [] [] []
@@ -39,27 +39,27 @@ pub data StepsAll {Q N : Type 0} (m : Machine Q N) (i : ℕ) : List Q → List (
       → StepsAll m i (q ∷ seen) others next met
       → StepsAll m i seen ((s, q) ∷ others) ((s, r) ∷ next) met
 
--- starts that do not fall, from low up to high
+-- starts that don't decrease, from low up to high
 pub data StartsRise {Q : Type 0} (high : ℕ) : ℕ → List (ℕ × Q) → Type 0 where
   no_more : {low : ℕ} → StartsRise high low []
   one_more : {low s : ℕ} {q : Q} {others : List (ℕ × Q)} → low ≤ s → s ≤ high
       → StartsRise high s others
       → StartsRise high low ((s, q) ∷ others)
 
--- an end with this start and pattern was met
+-- a match end with this start and pattern was met
 pub data Met (s p : ℕ) : List (ℕ × ℕ) → Type 0 where
   met_first : {s' p' : ℕ} {others : List (ℕ × ℕ)} → s' ≡ s → p' ≡ p → Met s p ((s', p') ∷ others)
   met_other : {s' p' : ℕ} {others : List (ℕ × ℕ)} → Met s p others → Met s p ((s', p') ∷ others)
 
--- of the ends met at a place the one of the least start, then of the least pattern; with none, what
--- was best before
+-- of the match ends at an offset the one with the least start, then the least pattern; without one,
+-- the best match before
 pub data Latest (i : ℕ) (best : Option PatternMatch) (ms : List (ℕ × ℕ)) : Option PatternMatch
     → Type 0 where
   none_met : ((s p : ℕ) → Met s p ms → ⊥) → Latest i best ms best
   some_met : {s p : ℕ} → Met s p ms → ((s' p' : ℕ) → Met s' p' ms → (s ≤ s') × (s' ≡ s → p ≤ p'))
       → Latest i best ms (Some (record { start = s; pattern = p; end = i }))
 
--- the loop over places: each place where a start begins adds a thread after the others
+-- the search loop: each offset at which a match may begin adds a thread after the others
 pub data SearchesAll {Q N : Type 0} (m : Machine Q N) (begins : ℕ → Type 0) (q : Q) : ℕ
     → List (ℕ × Q) → Option PatternMatch → Option PatternMatch → Type 0 where
   over : {i : ℕ} {best : Option PatternMatch} → ((j : ℕ) → i ≤ j → begins j → ⊥)

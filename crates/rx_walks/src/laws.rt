@@ -1,4 +1,4 @@
-//! Laws of walks and of what is found by them. Each function does nothing: its contract is the law.
+//! Laws of walks and finds. Each function does nothing: its contract is the law.
 
 ghost use Rattle.rx_walks.specs.Laws.{BytesRefine, CutSpansTell, FindsAllStandAtBoundaries, FindsAllAtMostOne, FindsAllExist, FindsAllLieInside, FindsStandAtBoundaries, FindsAtMostOne, FindsExist, FindsLieInside, FindsStayInCutSpans, FirstCharacterStands, FourBytesTell, LastCharacterStands, MatchesAllAreOneList, MatchesAreOneList, OneByteTells, PathsAgree, PathsHaveWalks, ProgramIsSearched, ProgramIsSearchedForAll, ProgramIsSearchedKeeping, ProgramWalksAgree, ProgramsFind, ProgramsFindAll, ProgramsReadForward, SearchesFind, SearchesFindAll, StepsKeepBest, WalksAgree, WalksTakeNoPairTwice};
 ghost use Rattle.rx_walks.specs.Iterating.{IteratorsGiveInOrder, MatchesLeft};
@@ -10,185 +10,184 @@ ghost use Rattle.rx_walks.specs.Looks.{Look};
 ghost use Rattle.rx_walks.specs.Bytes.{Automaton};
 ghost use Rattle.std.specs.Prelude.{ℕ, List, Option, Bool};
 
-/// A walk is a path that takes no pair of node and place twice.
+/// A walk is a path that takes no pair of node and offset twice.
 pub fn walks_take_no_pair_twice<Q, N>()
     ensures { (m : Machine Q N) → WalksTakeNoPairTwice m }
 {}
 
-/// In a content a program has at most one find.
+/// In each search a program has at most one find.
 pub fn finds_at_most_one<S>()
     ensures { (member : S → ℕ → Bool) (is_word : ℕ → Bool) (p : Program Look S)
         → FindsAtMostOne member is_word p }
 {}
 
-/// And at most one where all matches are wanted.
+/// In each search for all matches a program has at most one find.
 pub fn finds_all_at_most_one<S>()
     ensures { (member : S → ℕ → Bool) (is_word : ℕ → Bool) (p : Program Look S)
         → FindsAllAtMostOne member is_word p }
 {}
 
-/// And it has one in each search: a match, or none.
+/// In each search a program has a find: a match, or none.
 pub fn finds_exist<S>()
     ensures { (member : S → ℕ → Bool) (is_word : ℕ → Bool) (p : Program Look S)
         → FindsExist member is_word p }
 {}
 
-/// And one, where all matches are wanted.
+/// In each search for all matches a program has a find.
 pub fn finds_all_exist<S>()
     ensures { (member : S → ℕ → Bool) (is_word : ℕ → Bool) (p : Program Look S)
         → FindsAllExist member is_word p }
 {}
 
-/// In a content a program has at most one list of matches.
+/// In each search a program has at most one list of matches.
 pub fn matches_are_one_list<S>()
     ensures { (member : S → ℕ → Bool) (is_word : ℕ → Bool) (p : Program Look S)
         → MatchesAreOneList member is_word p }
 {}
 
-/// And at most one where all matches are wanted.
+/// The same for `MatchKind::All`.
 pub fn matches_all_are_one_list<S>()
     ensures { (member : S → ℕ → Bool) (is_word : ℕ → Bool) (p : Program Look S)
         → MatchesAllAreOneList member is_word p }
 {}
 
-/// And there is one list of them.
+/// In each search a program has a list of matches.
 pub fn matches_exist<S>()
     ensures { (member : S → ℕ → Bool) (is_word : ℕ → Bool) (p : Program Look S)
         → MatchesExist member is_word p }
 {}
 
-/// And one, where all matches are wanted.
+/// The same for `MatchKind::All`.
 pub fn matches_all_exist<S>()
     ensures { (member : S → ℕ → Bool) (is_word : ℕ → Bool) (p : Program Look S)
         → MatchesAllExist member is_word p }
 {}
 
-/// Each member of that list is what a search finds from some place on, so that what is known of
-/// finds is known of it.
+/// Each match of that list is a find from some offset on, so that what holds of finds holds of it.
 pub fn matches_are_found<S>()
     ensures { (member : S → ℕ → Bool) (is_word : ℕ → Bool) (p : Program Look S)
         → MatchesAreFound member is_word p }
 {}
 
-/// Matches rise and don't overlap, and there is at most one more of them than the content has
-/// bytes.
+/// Matches are in order and don't overlap, and there is at most one more of them than the haystack
+/// has bytes.
 pub fn matches_rise<S>()
     ensures { (member : S → ℕ → Bool) (is_word : ℕ → Bool) (p : Program Look S)
         → MatchesRise member is_word p }
 {}
 
-/// So it is where all matches are wanted.
+/// The same for `MatchKind::All`.
 pub fn matches_all_rise<S>()
     ensures { (member : S → ℕ → Bool) (is_word : ℕ → Bool) (p : Program Look S)
         → MatchesAllRise member is_word p }
 {}
 
-/// Behind the first members of the list comes exactly one next member or none: with it they are
-/// its first members too, and where none comes they are all of it.
+/// After the first matches of the list exactly one match or none is next: with it they are the
+/// first matches too, and if none is next they are the whole list.
 pub fn first_matches_grow<S>()
     ensures { (member : S → ℕ → Bool) (is_word : ℕ → Bool) (p : Program Look S)
         → FirstMatchesGrow member is_word p }
 {}
 
-/// An iterator over matches, of whatever it tells of each, gives the first members of the list
-/// before a refusal and before it is drained, all of the list where it is drained, and nothing after
-/// a refusal.
+/// An iterator over matches, whatever it returns of each, gives the first matches of the list until
+/// it ends or has an error, all of the list if it ends without an error, and nothing after an
+/// error.
 pub fn iterators_give_in_order<S, A, E, I: Iterator<Item = Result<A, E>>>()
     ensures { (member : S → ℕ → Bool) (is_word : ℕ → Bool) (p : Program Look S)
         (item_of : Outcome Notes → A) (left : I → MatchesLeft)
         → IteratorsGiveInOrder member is_word p item_of left I.next_gives }
 {}
 
-/// The first character of bytes, whatever they are, is the one whose UTF-8 stands first in them.
+/// The first character of any bytes is the one whose UTF-8 they start with.
 pub fn first_character_stands()
     ensures { FirstCharacterStands }
 {}
 
-/// And the last character is the one whose UTF-8 stands last.
+/// The last character of any bytes is the one whose UTF-8 they end with.
 pub fn last_character_stands()
     ensures { LastCharacterStands }
 {}
 
-/// Whether a look holds is told by four bytes on each side of a place.
+/// Four bytes on each side of an offset decide whether an assertion holds.
 pub fn four_bytes_tell()
     ensures { FourBytesTell }
 {}
 
-/// And by one byte on each side, where that is ASCII or the look asks for no character.
+/// One byte on each side decides it, if it is ASCII or the assertion isn't about words.
 pub fn one_byte_tells()
     ensures { OneByteTells }
 {}
 
-/// What a program finds begins at a possible place, ends behind it inside content, slice and span,
-/// and the place in each slot lies between.
+/// A find starts at a possible offset, ends there or after it, inside haystack, slice and span, and
+/// the offset in each slot is between both.
 pub fn finds_lie_inside<S>()
     ensures { (member : S → ℕ → Bool) (is_word : ℕ → Bool) (p : Program Look S)
         → FindsLieInside member is_word p }
 {}
 
-/// In the span that is cut at its end the same is found, with the same notes.
+/// With the span cut at the end of a find, the find is the same, with the same notes.
 pub fn finds_stay_in_cut_spans<S>()
     ensures { (member : S → ℕ → Bool) (is_word : ℕ → Bool) (p : Program Look S)
         → FindsStayInCutSpans member is_word p }
 {}
 
-/// And what is found in such a span tells that something is found in the whole one.
+/// If there is a find in such a span, there is one in the whole span.
 pub fn cut_spans_tell<S>()
     ensures { (member : S → ℕ → Bool) (is_word : ℕ → Bool) (p : Program Look S)
         → CutSpansTell member is_word p }
 {}
 
-/// And so does what is found where all matches are wanted.
+/// A find among all matches is inside, too.
 pub fn finds_all_lie_inside<S>()
     ensures { (member : S → ℕ → Bool) (is_word : ℕ → Bool) (p : Program Look S)
         → FindsAllLieInside member is_word p }
 {}
 
-/// In UTF-8 what a program finds starts and ends at boundaries of characters, and so stand the
-/// places in its slots, where empty matches inside a character are passed over.
+/// In UTF-8 a find starts and ends at character boundaries, and the offsets in its slots are such,
+/// if empty matches inside a character are skipped.
 pub fn finds_at_boundaries<S>()
     ensures { (member : S → ℕ → Bool) (is_word : ℕ → Bool) (p : Program Look S)
         → FindsStandAtBoundaries member is_word p }
 {}
 
-/// So does what is found where all matches are wanted.
+/// The same for a find among all matches.
 pub fn finds_all_at_boundaries<S>()
     ensures { (member : S → ℕ → Bool) (is_word : ℕ → Bool) (p : Program Look S)
         → FindsAllStandAtBoundaries member is_word p }
 {}
 
-/// And so does each match of the list.
+/// The same for each match of the list.
 pub fn matches_at_boundaries<S>()
     ensures { (member : S → ℕ → Bool) (is_word : ℕ → Bool) (p : Program Look S)
         → MatchesStandAtBoundaries member is_word p }
 {}
 
-/// One step from a place keeps the best walk.
+/// One step from an offset keeps the best walk.
 pub fn steps_keep_best<Q, N>()
     ensures { (m : Machine Q N) → StepsKeepBest m }
 {}
 
-/// The loop over places finds the least walk of the least start that counts.
+/// The search loop finds the least walk of the least start that counts.
 pub fn searches_find<C, B, N>()
     ensures { (c : Machine C N) (b : Machine B N) (f : C → B) → SearchesFind c b f }
 {}
 
-/// The loop over places without a cut finds the greatest end.
+/// The search loop for all matches finds the greatest end.
 pub fn searches_find_all<C, B, N>()
     ensures { (c : Machine C N) (b : Machine B N) (f : C → B) → SearchesFindAll c b f }
 {}
 
-/// A path exists exactly where some walk does.
+/// There is a path exactly if there is a walk.
 pub fn paths_have_walks<Q, N>()
     ensures { (m : Machine Q N) → PathsHaveWalks m }
 {}
 
-/// A machine that reads in smaller steps without forks has the same walks.
+/// A machine that reads in smaller steps, without branches, has the same walks.
 pub fn walks_agree<C, B, N>()
     ensures { (c : Machine C N) (b : Machine B N) (f : C → B) → WalksAgree c b f }
 {}
 
-/// And the same paths.
+/// It has the same paths.
 pub fn paths_agree<C, B, N>()
     ensures { (c : Machine C N) (b : Machine B N) (f : C → B) → PathsAgree c b f }
 {}
@@ -205,36 +204,35 @@ pub fn program_walks_agree<S>()
         (step : ℕ → Automaton) → ProgramWalksAgree member is_word p step }
 {}
 
-/// The loop over places by a program's bytes finds what its characters have.
+/// The search loop of a program over bytes finds what the program over characters does.
 pub fn programs_find<L, S, N>()
     ensures { (put : ℕ → ℕ → N → N) (member : S → ℕ → Bool) (step : ℕ → Automaton)
         (nodes : List (Node L S)) (holds : L → ℕ → Bool)
         → ProgramsFind put member step nodes holds }
 {}
 
-/// Without a cut the loop over places by a program's bytes finds the greatest end.
+/// The search loop for all matches of a program over bytes finds the greatest end.
 pub fn programs_find_all<L, S, N>()
     ensures { (put : ℕ → ℕ → N → N) (member : S → ℕ → Bool) (step : ℕ → Automaton)
         (nodes : List (Node L S)) (holds : L → ℕ → Bool)
         → ProgramsFindAll put member step nodes holds }
 {}
 
-/// The loop over places by a program's bytes, from the node that its walks start from, finds what
-/// the program finds.
+/// The search loop of a program over bytes, from its start node, finds what the program finds.
 pub fn program_is_searched<S>()
     ensures { (member : S → ℕ → Bool) (is_word : ℕ → Bool) (p : Program Look S)
         (step : ℕ → Automaton) → ProgramIsSearched member is_word p step }
 {}
 
-/// And so it does where its walks keep a list in place of their notes, if a note does to that list
-/// what it does to the notes.
+/// The same if its walks keep a list in place of their notes, and writing to the list corresponds
+/// to noting.
 pub fn program_is_searched_keeping<S, T>()
     ensures { (keeping : Keeping (List T)) (member : S → ℕ → Bool) (is_word : ℕ → Bool)
         (p : Program Look S) (step : ℕ → Automaton)
         → ProgramIsSearchedKeeping keeping member is_word p step }
 {}
 
-/// And without a cut what it finds where all matches are wanted.
+/// The search loop for all matches finds what the program finds among all.
 pub fn program_is_searched_for_all<S>()
     ensures { (member : S → ℕ → Bool) (is_word : ℕ → Bool) (p : Program Look S)
         (step : ℕ → Automaton) → ProgramIsSearchedForAll member is_word p step }

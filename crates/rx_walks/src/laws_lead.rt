@@ -9,75 +9,75 @@ ghost use Rattle.rx_walks.specs.Looks.{Look};
 ghost use Rattle.rx_walks.specs.Bytes.{Automaton};
 ghost use Rattle.std.specs.Prelude.{ℕ, Bool, List, Option};
 
-/// It is known of each node at each place whether it leads to a match.
+/// Whether a node at an offset leads to a match is decidable.
 pub fn leads_is_known<Q, N>()
     ensures { (m : Machine Q N) → LeadsIsKnown m }
 {}
 
-/// Which nodes lead at a place is told by those that lead at the next.
+/// The nodes that lead at an offset follow from those that lead at the next.
 pub fn leads_is_told_back<Q, N>()
     ensures { (m : Machine Q N) → LeadsIsToldBack m }
 {}
 
-/// What is followed over nodes that lead is the least walk.
+/// The walk followed over leading nodes is the least walk.
 pub fn followed_is_least<Q, N>()
     ensures { (m : Machine Q N) → FollowedIsLeast m }
 {}
 
-/// And the least walk is followed wherever a node leads.
+/// The least walk is followed from every leading node.
 pub fn least_is_followed<Q, N>()
     ensures { (m : Machine Q N) → LeastIsFollowed m }
 {}
 
-/// A start counts exactly where one begins and its node leads.
+/// A start counts exactly if a match may begin there and its node leads.
 pub fn starts_count_where_they_lead<S>()
     ensures { (member : S → ℕ → Bool) (is_word : ℕ → Bool) (p : Program Look S)
         → StartsCountWhereTheyLead member is_word p }
 {}
 
-/// A list made by nodes that lead is the list of matches.
+/// A list built with leading nodes is the list of matches.
 pub fn listings_are_matches<S>()
     ensures { (member : S → ℕ → Bool) (is_word : ℕ → Bool) (p : Program Look S)
         → ListingsAreMatches member is_word p }
 {}
 
-/// And so is one that is made over bytes, of what is kept of the matches.
+/// The same for a list built over bytes, with what is kept of the matches.
 pub fn byte_listings_are_matches<S, T>()
     ensures { (keeping : Keeping (List T)) (member : S → ℕ → Bool) (is_word : ℕ → Bool)
         (p : Program Look S) (step : ℕ → Automaton)
         → ByteListingsAreMatches keeping member is_word p step }
 {}
 
-/// Nodes that lead make a list.
+/// Leading nodes give a list.
 pub fn listings_exist<S>()
     ensures { (member : S → ℕ → Bool) (is_word : ℕ → Bool) (p : Program Look S)
         → ListingsExist member is_word p }
 {}
 
-/// A program's bytes are read one by one.
+/// A program over bytes reads them one by one.
 pub fn bytes_are_stepped<L, S, N>()
     ensures { (put : ℕ → ℕ → N → N) (step : ℕ → Automaton) (nodes : List (Node L S))
         (h : Haystack L) → BytesAreStepped put step nodes h }
 {}
 
-/// Which nodes lead is told by the program turned round, begun at every place.
+/// The reverse program, started at every offset, reaches exactly the leading nodes.
 pub fn reverse_tells_leads<L, S, N>()
     ensures { (put : ℕ → ℕ → N → N) (member : S → ℕ → Bool) (p : Program L S) (h : Haystack L)
         → ReverseTellsLeads put member p h }
 {}
 
-/// The threads of a search stand at all nodes that walks come to, where one starts at every place.
+/// The threads of a search that starts one at every offset are at all nodes that walks reach.
 pub fn lists_hold_reached<Q, N>()
     ensures { (m : Machine Q N) → ListsHoldReached m }
 {}
 
-/// A program's bytes come to the nodes to which its characters come.
+/// A program over bytes reaches the nodes that the program over characters does.
 pub fn bytes_come_alike<L, S, N>()
     ensures { (put : ℕ → ℕ → N → N) (first : S → List ℕ → Option ℕ) (step : ℕ → Automaton)
         (nodes : List (Node L S)) (h : Haystack L) → BytesComeAlike put first step nodes h }
 {}
 
-/// The threads of the search through the program turned round tell which nodes lead.
+/// The threads of the search with the reverse program give the leading nodes.
 pub fn lists_tell_leads<L, S, N>()
     ensures { (put : ℕ → ℕ → N → N) (member : S → ℕ → Bool) (step : ℕ → Automaton)
         (p : Program L S) (h : Haystack L) → ListsTellLeads put member step p h }

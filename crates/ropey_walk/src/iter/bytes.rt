@@ -1,4 +1,4 @@
-//! The bytes of a text, both ways.
+//! The iterator over the bytes of a text.
 
 ghost use Rattle.std.specs.Prelude.{◌≡◌, ◌+◌, ◌≤◌, length, encode_utf8_all, ⊤};
 ghost use Rattle.str_indices.specs.Text.{byte_len};
@@ -12,16 +12,17 @@ use std::alloc::AllocError;
 use std::iter::{ExactSizeIterator, FusedIterator};
 use std::marker::Model;
 
-/// The bytes of a text's UTF-8, both ways. Contracts see those ahead and those behind.
+/// An iterator over the bytes of a text's UTF-8, in both directions. Contracts see the bytes on
+/// both sides.
 ///
-/// A step costs `O(1)` inside a chunk, and `O(log n)` from one to the next.
+/// A step takes `O(1)` inside a chunk, and `O(log n)` from one to the next.
 #[derive(Drop)]
 pub struct Bytes<'a> {
     slice: RopeSlice<'a>,
-    // A chunk, and the byte index at which it starts.
+    // The current chunk, and the byte index of its start.
     chunk: &'a str,
     start: usize,
-    // Where in the chunk the place is, or at its end.
+    // The position in the chunk, or its end.
     at: usize,
     // The length of the text in bytes.
     len: usize,
@@ -46,7 +47,7 @@ impl<'a> Model for Bytes<'a> {
 }
 
 impl<'a> Bytes<'a> {
-    /// The bytes of a text, from the place before one of them, or from the end.
+    /// Returns an iterator from a byte index, or from the end.
     pub(crate) fn at(slice: RopeSlice<'a>, byte_idx: usize) -> Self
         requires { byte_idx ≤ byte_len (slice_text slice) }
         ensures { result ≡ before_item byte_idx (encode_utf8_all (slice_text slice.entry)) }
@@ -62,14 +63,14 @@ impl<'a> Bytes<'a> {
         }
     }
 
-    /// Turns the iterator round: `next` gives what `prev` gave, and `prev` what `next` gave.
+    /// Reverses the direction: `next` and `prev` swap.
     pub fn reverse(&mut self)
         ensures { self.new ≡ turned self.old }
     {
         self.is_reversed = !self.is_reversed;
     }
 
-    /// The iterator turned round, as by `reverse`.
+    /// Returns the iterator with its direction reversed.
     pub fn reversed(mut self) -> Self
         ensures { result ≡ turned self.entry }
     {
@@ -77,8 +78,7 @@ impl<'a> Bytes<'a> {
         self
     }
 
-    /// The byte behind the place, which moves before it; none where none is, and the iterator
-    /// stays.
+    /// Returns the preceding byte and moves back before it, or returns `None` and stays.
     #[inline]
     pub fn prev(&mut self) -> Option<u8>
         ensures { GivesPrev GivesItem self.old result self.new }
@@ -107,7 +107,7 @@ impl<'a> Iterator for Bytes<'a> {
                     return None;
                 }
                 let byte_idx = self.start - 1;
-                // A copy, so that a loop keeps the iterator itself in registers.
+                // A copy, so that loops keep the iterator itself in registers.
                 let slice = self.slice;
                 let chunk = slice.chunk(By::Bytes, byte_idx);
                 let at = byte_idx - chunk.start.bytes;
@@ -125,7 +125,7 @@ impl<'a> Iterator for Bytes<'a> {
                 if byte_idx == self.len {
                     return None;
                 }
-                // A copy, so that a loop keeps the iterator itself in registers.
+                // A copy, so that loops keep the iterator itself in registers.
                 let slice = self.slice;
                 let chunk = slice.chunk(By::Bytes, byte_idx);
                 let at = byte_idx - chunk.start.bytes;

@@ -1,4 +1,4 @@
-//! The characters of a text, both ways.
+//! The iterator over the characters of a text.
 
 ghost use Rattle.std.specs.Prelude.{◌≡◌, ◌+◌, ◌<◌, ◌≤◌, ◌++◌, length, drop, encode_utf8, ⊤};
 ghost use Rattle.std.specs.Str.{IsCharBoundary};
@@ -13,23 +13,24 @@ use std::alloc::AllocError;
 use std::iter::{ExactSizeIterator, FusedIterator};
 use std::marker::Model;
 
-/// A place between the characters of a chunk, at its start or at its end.
+/// A position between the characters of a chunk, at its start or at its end.
 #[derive(Clone, Copy)]
 struct CharPlace<'a> {
     chunk: &'a str,
-    // The byte index of the place in the chunk.
+    // The byte index of the position in the chunk.
     at: usize,
 }
 
-/// A character beside a place, and the byte index of the place on its other side.
+/// A character next to a position, and the byte index of the position on its other side.
 #[derive(Clone, Copy)]
 struct Read {
     character: char,
     at: usize,
 }
 
-/// The place before character `char_idx` in the chunk in which character `in_char` lies, which is
-/// that one or the one before it. Loops come here once a chunk, and keep it out of their way.
+/// Returns the position before character `char_idx` in the chunk that contains character `in_char`,
+/// which is that one or the one before it. Loops call this once for each chunk, so it isn't
+/// inlined.
 #[inline(never)]
 fn place_in_chunk_of<'a>(slice: &RopeSlice<'a>, in_char: usize, char_idx: usize) -> CharPlace<'a>
     requires low { in_char ≤ char_idx }
@@ -47,7 +48,7 @@ fn place_in_chunk_of<'a>(slice: &RopeSlice<'a>, in_char: usize, char_idx: usize)
     }
 }
 
-/// The place, in a chunk that goes on behind it.
+/// Returns the position in a chunk that has a character after it.
 #[inline]
 fn place_to_go_on<'a>(slice: &RopeSlice<'a>, place: CharPlace<'a>, char_idx: usize) -> CharPlace<'a>
     requires place { IsCharPlace (slice_text slice.now) char_idx place.chunk.now place.at }
@@ -58,12 +59,12 @@ fn place_to_go_on<'a>(slice: &RopeSlice<'a>, place: CharPlace<'a>, char_idx: usi
     if place.at < place.chunk.len() {
         return place;
     }
-    // A copy, so that a loop keeps the iterator itself in registers.
+    // A copy, so that loops keep the iterator itself in registers.
     let slice = *slice;
     place_in_chunk_of(&slice, char_idx, char_idx)
 }
 
-/// The place, in a chunk that starts before it.
+/// Returns the position in a chunk that has a character before it.
 #[inline]
 fn place_to_go_back<'a>(
     slice: &RopeSlice<'a>,
@@ -79,12 +80,12 @@ fn place_to_go_back<'a>(
     if place.at > 0 {
         return place;
     }
-    // A copy, so that a loop keeps the iterator itself in registers.
+    // A copy, so that loops keep the iterator itself in registers.
     let slice = *slice;
     place_in_chunk_of(&slice, char_idx - 1, char_idx)
 }
 
-/// The character that starts at a byte of a text.
+/// Returns the character that starts at a byte of a text.
 #[inline]
 fn read_on(chunk: &str, at: usize) -> Read
     requires boundary { IsCharBoundary chunk.now at }
@@ -102,7 +103,7 @@ fn read_on(chunk: &str, at: usize) -> Read
     read_wide_on(chunk, at)
 }
 
-/// `read_on` of a character of several bytes, out of the way of loops over characters of one.
+/// `read_on` for a character of several bytes, not inlined into loops over ASCII.
 #[inline(never)]
 fn read_wide_on(chunk: &str, at: usize) -> Read
     requires boundary { IsCharBoundary chunk.now at }
@@ -120,7 +121,7 @@ fn read_wide_on(chunk: &str, at: usize) -> Read
     }
 }
 
-/// The character that ends at a byte of a text.
+/// Returns the character that ends at a byte of a text.
 #[inline]
 fn read_back(chunk: &str, at: usize) -> Read
     requires boundary { IsCharBoundary chunk.now at }
@@ -138,7 +139,7 @@ fn read_back(chunk: &str, at: usize) -> Read
     read_wide_back(chunk, at)
 }
 
-/// `read_back` of a character of several bytes, out of the way of loops over characters of one.
+/// `read_back` for a character of several bytes, not inlined into loops over ASCII.
 #[inline(never)]
 fn read_wide_back(chunk: &str, at: usize) -> Read
     requires boundary { IsCharBoundary chunk.now at }
@@ -156,17 +157,17 @@ fn read_wide_back(chunk: &str, at: usize) -> Read
     }
 }
 
-/// The characters of a text, which are Unicode scalar values, both ways. Contracts see those ahead
-/// and those behind.
+/// An iterator over the characters (Unicode scalar values) of a text, in both directions. Contracts
+/// see the characters on both sides.
 ///
-/// A step costs `O(1)` inside a chunk, and `O(log n)` from one to the next.
+/// A step takes `O(1)` inside a chunk, and `O(log n)` from one to the next.
 #[derive(Drop)]
 pub struct Chars<'a> {
     slice: RopeSlice<'a>,
     place: CharPlace<'a>,
-    // The character index of the place.
+    // The character index of the position.
     char_idx: usize,
-    // How many characters the text has.
+    // The number of characters of the text.
     len: usize,
     is_reversed: bool,
 }
@@ -188,7 +189,7 @@ impl<'a> Model for Chars<'a> {
 }
 
 impl<'a> Chars<'a> {
-    /// The characters of a text, from the place before one of them, or from the end.
+    /// Returns an iterator from a character index, or from the end.
     pub(crate) fn at(slice: RopeSlice<'a>, char_idx: usize) -> Self
         requires { char_idx ≤ length (slice_text slice) }
         ensures { result ≡ before_item char_idx (slice_text slice.entry) }
@@ -202,14 +203,14 @@ impl<'a> Chars<'a> {
         }
     }
 
-    /// Turns the iterator round: `next` gives what `prev` gave, and `prev` what `next` gave.
+    /// Reverses the direction: `next` and `prev` swap.
     pub fn reverse(&mut self)
         ensures { self.new ≡ turned self.old }
     {
         self.is_reversed = !self.is_reversed;
     }
 
-    /// The iterator turned round, as by `reverse`.
+    /// Returns the iterator with its direction reversed.
     pub fn reversed(mut self) -> Self
         ensures { result ≡ turned self.entry }
     {
@@ -217,8 +218,7 @@ impl<'a> Chars<'a> {
         self
     }
 
-    /// The character behind the place, which moves before it; none where none is, and the iterator
-    /// stays.
+    /// Returns the preceding character and moves back before it, or returns `None` and stays.
     #[inline(always)]
     pub fn prev(&mut self) -> Option<char>
         ensures { GivesPrev GivesItem self.old result self.new }

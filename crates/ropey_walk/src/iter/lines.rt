@@ -1,4 +1,4 @@
-//! The lines of a text, both ways.
+//! The iterator over the lines of a text.
 
 ghost use Rattle.std.specs.Prelude.{◌≡◌, ◌+◌, ◌<◌, ◌≤◌, ⊤};
 ghost use Rattle.std.specs.Str.{chars};
@@ -18,19 +18,19 @@ use std::alloc::AllocError;
 use std::iter::{ExactSizeIterator, FusedIterator};
 use std::marker::Model;
 
-/// The place where a line of a text starts, or its end.
+/// The position of a line's start, or the text's end.
 #[derive(Clone, Copy)]
 pub(crate) struct LinePlace<'a> {
     // The line index, or the number of lines at the end.
     line_idx: usize,
-    // Where it is in a chunk.
+    // The position in a chunk.
     place: Place<'a>,
-    // What the text before it counts.
+    // The counts of the text before it.
     before: Counts,
 }
 
 impl<'a> LinePlace<'a> {
-    /// The place where a line starts, or the text's end, looked up in the tree.
+    /// Returns the position of a line's start, or the text's end, by a lookup in the tree.
     pub(crate) fn look_up(slice: &RopeSlice<'a>, line_idx: usize) -> Self
         ensures place { IsLinePlace (slice_text slice.now) result }
         ensures chunk { IsChunkOf (slice_pieces slice.now) (chars result.place.text.now)
@@ -45,7 +45,7 @@ impl<'a> LinePlace<'a> {
         }
     }
 
-    /// The end of the line that starts here. Inside the chunk it takes no look-up.
+    /// Returns the end of the line that starts here. Inside the chunk it needs no lookup.
     #[inline]
     pub(crate) fn next(self, slice: &RopeSlice<'a>) -> Self
         requires here { IsLinePlace (slice_text slice.now) self }
@@ -89,7 +89,7 @@ impl<'a> LinePlace<'a> {
         }
     }
 
-    /// The start of the line that ends here. Inside the chunk it takes no look-up.
+    /// Returns the start of the line that ends here. Inside the chunk it needs no lookup.
     #[inline]
     fn prev(self, slice: &RopeSlice<'a>) -> Self
         requires here { IsLinePlace (slice_text slice.now) self }
@@ -132,7 +132,7 @@ impl<'a> LinePlace<'a> {
         }
     }
 
-    /// The line from here to its end.
+    /// Returns the line from here to its end.
     #[inline]
     pub(crate) fn line_to(self, end: Self, slice: &RopeSlice<'a>) -> RopeSlice<'a>
         requires here { IsLinePlace (slice_text slice.now) self }
@@ -146,17 +146,17 @@ impl<'a> LinePlace<'a> {
     }
 }
 
-/// The lines of a text, each a slice with the break that ends it, both ways. Contracts see those
-/// ahead and those behind, as pieces.
+/// An iterator over the lines of a text, each a slice with the break that ends it, in both
+/// directions. Contracts see the lines on both sides, as chunks.
 ///
-/// There are `len_lines`: the last has no break, and may be empty. Inside a chunk a step costs
-/// `O(m)` forwards for a line of m bytes and is bounded by the chunk backwards; from one chunk to
-/// another it costs `O(log n)`.
+/// There are `len_lines` lines: the last has no break, and may be empty. Inside a chunk a step
+/// takes `O(m)` forward for a line of m bytes, and time bounded by the chunk backward; from one
+/// chunk to another it takes `O(log n)`.
 #[derive(Drop)]
 pub struct Lines<'a> {
     slice: RopeSlice<'a>,
     place: LinePlace<'a>,
-    // How many lines the text has.
+    // The number of lines of the text.
     len: usize,
     is_reversed: bool,
 }
@@ -184,7 +184,7 @@ impl<'a> Model for Lines<'a> {
 }
 
 impl<'a> Lines<'a> {
-    /// The lines of a text, from the place before one of them, or from behind the last.
+    /// Returns an iterator from a line index, or from the end.
     pub(crate) fn at(slice: RopeSlice<'a>, line_idx: usize) -> Self
         requires { line_idx ≤ line_breaks (slice_text slice) + 1 }
         ensures { result ≡ before_item line_idx (lines_of (slice_pieces slice.entry)) }
@@ -197,14 +197,14 @@ impl<'a> Lines<'a> {
         }
     }
 
-    /// Turns the iterator round: `next` gives what `prev` gave, and `prev` what `next` gave.
+    /// Reverses the direction: `next` and `prev` swap.
     pub fn reverse(&mut self)
         ensures { self.new ≡ turned self.old }
     {
         self.is_reversed = !self.is_reversed;
     }
 
-    /// The iterator turned round, as by `reverse`.
+    /// Returns the iterator with its direction reversed.
     pub fn reversed(mut self) -> Self
         ensures { result ≡ turned self.entry }
     {
@@ -212,8 +212,7 @@ impl<'a> Lines<'a> {
         self
     }
 
-    /// The line behind the place, which moves before it; none where none is, and the iterator
-    /// stays.
+    /// Returns the preceding line and moves back before it, or returns `None` and stays.
     pub fn prev(&mut self) -> Option<RopeSlice<'a>>
         ensures { GivesPrev GivesLine self.old result self.new }
     {

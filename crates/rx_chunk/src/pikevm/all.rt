@@ -57,7 +57,7 @@ fn best_of_all<C: Cursor>(
     ensures bound { length input.old.cursor.content < 2 ^ 63 }
     ensures refused { IfErr result (λ error. error ≡ MatchError.Memory) }
 {
-    let _at = input.position(); // tells how long the content may be
+    let _at = input.position(); // for the proof: how long the haystack may be
     let utf8_empty = vm.utf8_empty();
     search::search_all(vm.program(), cache, input, utf8_empty, earliest)
 }

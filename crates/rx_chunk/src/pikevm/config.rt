@@ -12,7 +12,7 @@ use rx_util::{MatchError, MatchKind, WhichCaptures};
 use std::marker::Model;
 
 /// Settings of a PikeVM. A setting that isn't set has its default. Contracts see the settings of
-/// its engine, and the needles of the prefilter.
+/// its engine, and the literals of the prefilter.
 #[derive(Debug, Drop)]
 pub struct Config {
     engine: rx_engine::Config,

@@ -5,15 +5,15 @@ use rx_input::{Cursor, Input};
 use rx_util::{Match, MatchError};
 use std::iter::FusedIterator;
 
-/// Matches one after the other, each or a refusal, after which there are no more. An empty match
-/// where the one before ended is passed over. `find_iter` makes it.
+/// An iterator over matches, returned by `find_iter`. An empty match at the end of the one before
+/// is skipped; after an error it ends.
 #[derive(Drop)]
 pub struct FindMatches<'r, C: Cursor> {
     re: &'r Regex,
-    // The span starts where the last match ended.
+    // The span starts at the end of the last match.
     input: Input<C>,
     last_match_end: Option<usize>,
-    // No more come.
+    // Whether the iterator has ended.
     is_over: bool,
 }
 
@@ -23,7 +23,7 @@ impl<'r, C: Cursor> FindMatches<'r, C> {
     ghost use Rattle.rx_chunk.specs.Iterating.{matches_from};
     ghost use Rattle.rx_matches.specs.Matches.{dense_engine, dense_left};
 
-    /// None of the matches in an input has come yet.
+    /// Returns an iterator that is before the first match.
     pub(super) fn new(re: &'r Regex, input: Input<C>) -> FindMatches<'r, C>
         ensures left { dense_left result
             ≡ matches_from (search_of re.now.engine.utf8_empty input) }

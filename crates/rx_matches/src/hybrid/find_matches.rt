@@ -7,16 +7,16 @@ use rx_input::{Cursor, Input};
 use rx_util::{Match, MatchError};
 use std::iter::FusedIterator;
 
-/// Matches one after the other, each or a refusal, after which there are no more. An empty match
-/// where the one before ended is passed over. `find_iter` makes it.
+/// An iterator over matches, returned by `find_iter`. An empty match at the end of the one before
+/// is skipped; after an error it ends.
 #[derive(Drop)]
 pub struct FindMatches<'r, 'c, C: Cursor> {
     re: &'r Regex,
     cache: &'c mut Cache,
-    // The span starts where the last match ended.
+    // The span starts at the end of the last match.
     input: Input<C>,
     last_match_end: Option<usize>,
-    // No more come.
+    // Whether the iterator has ended.
     is_over: bool,
 }
 
@@ -26,7 +26,7 @@ impl<'r, 'c, C: Cursor> FindMatches<'r, 'c, C> {
     ghost use Rattle.rx_chunk.specs.Iterating.{matches_from};
     ghost use Rattle.rx_matches.specs.Matches.{lazy_cache, lazy_engine, lazy_left, lazy_serves};
 
-    /// None of the matches in an input has come yet.
+    /// Returns an iterator that is before the first match.
     pub(super) fn new(
         re: &'r Regex,
         cache: &'c mut Cache,

@@ -1,4 +1,4 @@
--- What is left of both texts is ordered as they are.
+-- The rests of both texts are ordered as they are.
 use Rattle.std.proofs.Common.{◌≡◌, [], length}
 use Rattle.std.specs.Cmp.Lexicographic.{slice_cmp}
 use Rattle.std.specs.Ordering.{nat_cmp}

@@ -1,4 +1,4 @@
--- What was copied and what is left are the bytes that came next.
+-- What was copied and what is left are the next bytes.
 use Rattle.std.proofs.Common.{◌≡◌, ◌≤◌, ◌-◌, ◌++◌, [], length, take}
 use Rattle.ropey_walk.specs.Chunks.{IsRopeText}
 use Rattle.ropey_walk.specs.Comparing.{bytes_left}

@@ -5,7 +5,7 @@ use Rattle.rx_chunk.specs.Engines.{IsAnswerAt}
 use Rattle.rx_chunk.proofs.EngineLaws.{lent_slots}
 use Rattle.rx_chunk.proofs.pikevm.note.Goals as goal
 
--- the answer in the captures as they are left
+-- the result in the captures
 pub returns-clause-answer : goal.returns-clause-answer
 returns-clause-answer g c =
     let e = c.args.vm.now in

@@ -8,14 +8,14 @@ use Rattle.rx_chunk.proofs.EarlyLaws.{AreFoundAt, captured_at, tells_slots}
 use Rattle.rx_chunk.proofs.FoundLaws.{notes_places}
 use Rattle.rx_chunk.proofs.pikevm.search.Goals as goal
 
--- the answer, with what the input asks for
+-- the result, for the settings of the input
 answered : (g : _) (c : goal.After-note g) → OnOk c.note.result (IsAnswerAt c.args.input.now.asked.earliest c.args.vm.now (search_of c.args.vm.now.utf8_empty c.args.input.now) c.note.new.input.position c.note.new.caps.pattern c.note.new.caps.slots)
 answered g c =
     let e = c.args.vm.now in
     let s = search_of c.args.vm.now.utf8_empty c.args.input.now in
     on_ok c.note.result (λ is. subst (λ b. IsAnswerAt b e s c.note.new.input.position c.note.new.caps.pattern c.note.new.caps.slots) c.get_earliest-earliest.ensures is) c.note.ensures.answer
 
--- what they tell, where they were those of the engine
+-- the whole match in captures, if they were those of the engine
 told : (g : _) (c : goal.After-note g) → c.args.caps.now.groups ≡ c.args.vm.now.groups → 2 * length c.args.vm.now.groups ≤ length c.args.caps.now.slots
     → IsAnswerAt c.args.input.now.asked.earliest c.args.vm.now (search_of c.args.vm.now.utf8_empty c.args.input.now) c.note.new.input.position c.note.new.caps.pattern c.note.new.caps.slots
     → AreFoundAt c.args.input.now.asked.earliest c.args.vm.now (search_of c.args.vm.now.utf8_empty c.args.input.now) c.note.new.caps

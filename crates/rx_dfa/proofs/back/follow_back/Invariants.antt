@@ -6,7 +6,7 @@ use Rattle.rx_dfa.specs.Back.{StandsBack}
 use Rattle.rx_dfa.specs.Tables.{IsTable}
 use Rattle.rx_dfa.proofs.back.follow_back.Given as goal
 
--- the search stands where the input does
+-- the search is at the input's position
 abbrev pub invariant-loop-met : goal.invariant-loop-met
 invariant-loop-met g l = record {
   table : IsTable g.T.Table.is_whole l.automaton (g.T.Table.shown l.table);

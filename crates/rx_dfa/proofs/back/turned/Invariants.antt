@@ -1,7 +1,7 @@
 use Rattle.std.proofs.Common.{ℕ, ◌≡◌, ◌-◌, ◌<◌, get_or, length}
 use Rattle.rx_dfa.proofs.back.turned.Given as goal
 
--- the bytes so far are turned round
+-- the bytes so far are reversed
 abbrev pub invariant-loop-index : goal.invariant-loop-index
 invariant-loop-index l = record {
   long : length l.bytes ≡ 64;

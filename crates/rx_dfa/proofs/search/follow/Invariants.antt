@@ -5,7 +5,7 @@ use Rattle.rx_dfa.specs.Passing.{SearchStandsAt, search_by}
 use Rattle.rx_dfa.specs.Tables.{IsTable}
 use Rattle.rx_dfa.proofs.search.follow.Given as goal
 
--- the search stands where the input does
+-- the search is at the input's position
 abbrev pub invariant-loop-met : goal.invariant-loop-met
 invariant-loop-met g l = record {
   table : IsTable g.T.Table.is_whole l.automaton (g.T.Table.shown l.table);

@@ -1,7 +1,7 @@
 use Rattle.rx_dfa.proofs.BareLaws.{SameUpTo}
 use Rattle.rx_dfa.proofs.states.same_nodes.Given as goal
 
--- so many nodes are the same
+-- this many nodes are equal
 abbrev pub invariant-loop-index : goal.invariant-loop-index
 invariant-loop-index l = record {
   same : SameUpTo l.threads.threads l.others.threads l.index;

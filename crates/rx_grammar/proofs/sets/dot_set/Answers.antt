@@ -3,7 +3,7 @@ use Rattle.rx_grammar.specs.Sets.{IsSetOf}
 use Rattle.rx_grammar.proofs.ReaderLemmas.{IfOk-map}
 use Rattle.rx_grammar.proofs.sets.dot_set.Goals as goal
 
--- what `.` stands for, by its flag and the terminator
+-- what `.` matches, by its flag and the terminator
 abbrev dot_if : Bool → ℕ → ℕ → Type 0
 dot_if all terminator d = elim all [ true ↦ Unit {0} | false ↦ d ≢ terminator ]
 

@@ -6,7 +6,8 @@ use Rattle.rx_lists.specs.Leading.{LeadsOn, AreSound, AreReal}
 use Rattle.rx_lists.proofs.RoundLaws.{IsBack}
 use Rattle.rx_lists.proofs.leading.fill.Given as goal
 
--- all nodes here lead on, those that do so by no others came in, and from each up to this one it was gone back
+-- all nodes here lead on, those that need no others were added, and those with a transition to a
+-- node up to this one were checked
 abbrev pub invariant-loop-done : goal.invariant-loop-done
 invariant-loop-done l = record {
   sound : AreSound l.program l.place l.beyond.nodes l.here.nodes;

@@ -7,7 +7,7 @@ use Rattle.rx_lists.specs.Passes.{IsWalking}
 use Rattle.rx_lists.specs.Lists.{AreListedTo, places_left, read_before}
 use Rattle.rx_lists.proofs.lists.list_all.Given as goal
 
--- the matches before the place at which the input stands were listed
+-- the matches before the input's position were listed
 abbrev pub invariant-loop-progress : goal.invariant-loop-progress
 invariant-loop-progress g l = record {
   ready : IsWalking l.program l.walk.stepper.widths l.walk.asks_looks;

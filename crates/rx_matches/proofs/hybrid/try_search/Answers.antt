@@ -8,7 +8,7 @@ use Rattle.rx_matches.specs.Halves.{StartsAtSpan, whole_of}
 use Rattle.rx_matches.proofs.HalfLaws.{back_answer, back_there, back_whole, first_whole, half_lies, same_search, whole_inside, whole_ordered}
 use Rattle.rx_matches.proofs.hybrid.try_search.Goals as goal
 
--- ---- where the start is known
+-- ---- the start is known
 pub whole-requires : goal.whole-requires
 whole-requires g c =
     let p = c.args.re.now.engine.program in
@@ -34,7 +34,7 @@ pub returns-then-starts_first-clause-inside : goal.returns-then-starts_first-cla
 returns-then-starts_first-clause-inside g c =
     whole_inside c.args.re.now.engine.program c.args.re.now.engine.utf8_empty c.args.input.now (Some c.whole.result) c.position-at.ensures.holds.lawful.bound (returns-then-starts_first-clause-answer g c)
 
--- ---- the search back
+-- ---- the backward search
 pub search_back-requires : goal.search_back-requires
 search_back-requires g c =
     let p = c.args.re.now.engine.program in
@@ -45,7 +45,7 @@ search_back-requires g c =
     let last : c.try_search_fwd.new.input.asked.span.end ≡ s.end = ap (λ a. a.span.end) c.in_ok-half.ensures.asked in
     record { made = c.in_ok-half.ensures.made; unanchored = c.starts_first.ensures.no c.if-starts_first.false; end = omega (arith, lies.on, start, c.offset-end.ensures); span = omega (arith, lies.on, lies.in_span, start, last) }
 
--- it comes to a start
+-- it finds a start
 pub returns-in_default-2-clause-answer : goal.returns-in_default-2-clause-answer
 returns-in_default-2-clause-answer g c =
     let p = c.args.re.now.engine.program in

@@ -5,7 +5,7 @@ use Rattle.rx_program.specs.Jobs.{sizes_of, starts_of, trees_before}
 use Rattle.rx_program.proofs.StartLaws.{Left}
 use Rattle.rx_program.proofs.parts.branch_starts.Given as goal
 
--- the parts left stand before those whose starts are known, the last one of these first
+-- the parts that are left come before those whose starts are known, the last one of these first
 abbrev pub invariant-loop : goal.invariant-loop
 invariant-loop l =
     let parts = subtrees_of (tree_of l.hir) in

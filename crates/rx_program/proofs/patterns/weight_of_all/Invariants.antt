@@ -4,7 +4,7 @@ use Rattle.rx_grammar.specs.Weights.{held}
 use Rattle.rx_program.specs.Sizes.{sum_of_weights, weight_of_all}
 use Rattle.rx_program.proofs.patterns.weight_of_all.Given as goal
 
--- what the patterns so far weigh, with those that are left
+-- the weight of the patterns so far, and of those that are left
 abbrev pub invariant-loop-hir : goal.invariant-loop-hir
 invariant-loop-hir l =
     let trees = map (λ hir. tree_of hir.now) l.hirs in

@@ -15,7 +15,7 @@ loop-utf8_empty-preserved g c =
     let n = c.passed_ahead-len.result in
     let b = c.args.utf8_empty in
     let same : search_of b here ≡ search_of b old = same_search b here old c.loop-utf8_empty.invariant.same.content c.loop-utf8_empty.invariant.asked in
-    -- as far as the bytes go that are ahead, which are there
+    -- as far as the bytes of the chunk go
     let moved : IsInside (search_of b old) here.position → IsInside (search_of b old) there.position =
     λ inside.
     let ahead : IsInside (search_of b old) (here.position + n) =

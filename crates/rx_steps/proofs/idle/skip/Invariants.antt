@@ -5,7 +5,7 @@ use Rattle.rx_steps.specs.Idle.{IsPassedAt}
 use Rattle.rx_steps.specs.Searching.{search_of}
 use Rattle.rx_steps.proofs.idle.skip.Given as goal
 
--- all bytes from the first place on are passed over
+-- all bytes from the first offset on can be skipped
 abbrev pub invariant-loop-utf8_empty : goal.invariant-loop-utf8_empty
 invariant-loop-utf8_empty g l = record {
   above : l.fn.input.position ≤ l.input.position;

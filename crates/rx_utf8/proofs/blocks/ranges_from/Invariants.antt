@@ -2,7 +2,7 @@ use Rattle.std.proofs.Common.{ℕ, ◌≡◌, ◌≤◌, length}
 use Rattle.rx_sets.specs.Sets.{in_ranges}
 use Rattle.rx_utf8.proofs.blocks.ranges_from.Given as goal
 
--- what was left out holds no code point from `low` on
+-- what was left out has no code point from `low` on
 abbrev pub invariant-loop-ranges : goal.invariant-loop-ranges
 invariant-loop-ranges l = (c : ℕ) → l.low ≤ c → in_ranges l.ranges c ≡ in_ranges l.fn.ranges c
 

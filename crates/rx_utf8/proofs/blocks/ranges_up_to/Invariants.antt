@@ -2,7 +2,7 @@ use Rattle.std.proofs.Common.{ℕ, ◌≡◌, ◌≤◌, length}
 use Rattle.rx_sets.specs.Sets.{in_ranges}
 use Rattle.rx_utf8.proofs.blocks.ranges_up_to.Given as goal
 
--- what was left out holds no code point up to `high`
+-- what was left out has no code point up to `high`
 abbrev pub invariant-loop-ranges : goal.invariant-loop-ranges
 invariant-loop-ranges l = record {
   fewer : length l.ranges ≤ length l.fn.ranges;

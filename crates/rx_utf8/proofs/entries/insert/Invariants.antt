@@ -2,7 +2,7 @@ use Rattle.std.proofs.Common.{ℕ, ◌≡◌, ◌&&◌, ◌||◌, nat_lt, length
 use Rattle.rx_walks.specs.Reversed.{has}
 use Rattle.rx_utf8.proofs.entries.insert.Given as goal
 
--- the numbers left complete the states
+-- the remaining numbers complete the states
 abbrev pub invariant-loop-number : goal.invariant-loop-number
 invariant-loop-number l = record {
   len : length l.states.items ≡ length l.fn.states.items;

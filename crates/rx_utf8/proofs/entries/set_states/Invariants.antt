@@ -2,7 +2,7 @@ use Rattle.std.proofs.Common.{ℕ, ◌≡◌, ◌&&◌, ◌||◌, nat_lt, length
 use Rattle.rx_utf8.specs.Subsets.{in_some, lists_of}
 use Rattle.rx_utf8.proofs.entries.set_states.Given as goal
 
--- the sets left complete the states
+-- the remaining sets complete the states
 abbrev pub invariant-loop-set : goal.invariant-loop-set
 invariant-loop-set l = record {
   len : length l.states.items ≡ length l.fn.states.items;

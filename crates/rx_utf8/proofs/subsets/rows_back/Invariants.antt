@@ -5,7 +5,7 @@ use Rattle.rx_utf8.specs.Subsets.{lists_of}
 use Rattle.rx_utf8.proofs.SubsetLaws.{Made}
 use Rattle.rx_utf8.proofs.subsets.rows_back.Given as goal
 
--- a level is made for each byte so far
+-- a level was built for each byte so far
 abbrev pub invariant-loop : goal.invariant-loop
 invariant-loop l = record {
   made : Made (length l.forward) (step_in (rows_of l.forward)) (4 - l.counter) (lists_of l.maker.subsets.sets.items) (rows_of l.maker.rows.items);

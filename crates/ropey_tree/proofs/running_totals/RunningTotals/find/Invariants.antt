@@ -3,7 +3,8 @@ use Rattle.ropey_tree.specs.declared.counts.Counts.{Counts}
 use Rattle.ropey_tree.specs.Counts.{amount}
 use Rattle.ropey_tree.proofs.running_totals.RunningTotals.find.Given as goal
 
--- What is looked for stands at low or at most so many places behind it as are left, the last of them or the one before it is known to be past, and n comparisons leave at most the 2^n-th part of 23.
+-- The result is `low` or one of the `left` indices after it; whether the end is past `i` is known
+-- of the last of them or the one before it.
 abbrev pub invariant-loop-left : goal.invariant-loop-left
 invariant-loop-left l =
     (l.low + l.left < length l.self)

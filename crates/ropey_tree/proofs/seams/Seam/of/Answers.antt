@@ -7,7 +7,7 @@ use Rattle.ropey_tree.proofs.Editing.{back_bytes}
 use Rattle.ropey_tree.proofs.Merging.{cr_lf_between, over_between, whole_cut}
 use Rattle.ropey_tree.proofs.seams.Seam.of.Goals as goal
 
--- what takes the whole of the one text cuts nothing
+-- a seam with the whole of the one text cuts nothing
 none_before : (bytes rest : List ℕ) → cuts_cr_lf (chars (take 0 bytes)) rest ≡ false
 none_before bytes rest = ap (λ t. cuts_cr_lf t rest) chars-nil
 

@@ -8,7 +8,7 @@ use Rattle.ropey_tree.proofs.Editing.{front_bytes, back_bytes}
 use Rattle.ropey_tree.proofs.seams.Seam.over.Goals as goal
 use Rattle.ropey_tree.proofs.seams.Seam.over.Goals.{After-fill-2}
 
--- both parts go in whole
+-- both parts fit
 both_in : (c : After-fill-2) → c.fill-2.new.self ≡ chars (drop c.args.from c.args.last.now) ++ chars (take c.args.to c.args.first.now)
 both_in c =
     let a = c.range_from.result.now in

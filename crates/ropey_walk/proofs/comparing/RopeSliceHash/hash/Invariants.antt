@@ -1,4 +1,4 @@
--- The hasher was given the blocks so far, and what is left stands behind them.
+-- The hasher got the blocks so far, and what is left follows them.
 use Rattle.std.proofs.Common.{◌≡◌, ◌*◌, [], drop, map}
 use Rattle.std.specs.Fork.{slice_chunk}
 use Rattle.std.specs.List.{fold, range_with_len}

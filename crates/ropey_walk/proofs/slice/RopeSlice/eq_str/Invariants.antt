@@ -1,4 +1,4 @@
--- The text and the `&str` begin with the same bytes.
+-- The text and the `&str` start with the same bytes.
 use Rattle.std.proofs.Common.{◌≡◌, ℕ, List, ◌++◌, encode_utf8_all}
 use Rattle.ropey_walk.specs.Chunks.{text_of}
 use Rattle.ropey_walk.specs.Comparing.{slice_bytes}

@@ -4,7 +4,7 @@ use Rattle.rx_dfa.specs.Tables.{HoldsBy}
 use Rattle.rx_dfa.specs.DenseTables.{HasStartsFrom}
 use Rattle.rx_dfa.proofs.cache.Cache.add_patterns.Given as goal
 
--- the states are there for the patterns so far
+-- the start states of the patterns so far are there
 abbrev pub invariant-loop-start : goal.invariant-loop-start
 invariant-loop-start l = record {
   made : HoldsBy l.automaton l.self;

@@ -6,7 +6,7 @@ use Rattle.rx_dfa.specs.Caches.{KeepNumbers}
 use Rattle.rx_dfa.specs.DenseTables.{HasStarts}
 use Rattle.rx_dfa.proofs.cache.Cache.add_sides.Given as goal
 
--- the states are there for what stands in the columns so far
+-- the start states for the columns so far are there
 abbrev pub invariant-loop-column : goal.invariant-loop-column
 invariant-loop-column l = record {
   made : HoldsBy l.automaton l.self;

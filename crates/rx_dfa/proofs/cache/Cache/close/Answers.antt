@@ -17,7 +17,7 @@ loop-number-preserved c = record {
   rows = rows_both c.args.self.now c.loop-number.self c.fill_row.new.self (sym c.loop-number.invariant.made.width) (sym c.fill_row.ensures.made.width) c.loop-number.invariant.rows c.in_ok-fill_row.ensures.rows;
 }
 
--- the states are at most as many as there were, or as entries can lead to
+-- there are at most as many states as before, or as entries can lead to
 pub loop-number-smaller : goal.loop-number-smaller
 loop-number-smaller c =
     let cache = c.loop-number.self in

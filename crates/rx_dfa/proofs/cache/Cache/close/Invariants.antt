@@ -14,6 +14,6 @@ invariant-loop-number l = record {
   rows : HaveRows l.fn.self l.self;
 }
 
--- how many states there may still be of which nothing is known
+-- the greatest number of states whose steps aren't known
 abbrev pub decreases-loop-number : goal.decreases-loop-number
 decreases-loop-number l = length l.fn.self.states + ENDS - l.number

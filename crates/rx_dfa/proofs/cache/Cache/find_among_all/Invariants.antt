@@ -3,6 +3,6 @@ use Rattle.rx_dfa.specs.declared.states.AutomatonState.{AutomatonState}
 use Rattle.rx_dfa.specs.Caches.{IsSameState}
 use Rattle.rx_dfa.proofs.cache.Cache.find_among_all.Given as goal
 
--- none of the states so far is the same
+-- none of the states so far equals it
 abbrev pub invariant-loop-number : goal.invariant-loop-number
 invariant-loop-number l = (k : ℕ) (x : AutomatonState) → k < l.number → slice_get l.self.states k ≡ Some x → IsSameState l.state x → ⊥

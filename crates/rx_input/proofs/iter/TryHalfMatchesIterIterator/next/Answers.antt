@@ -4,11 +4,11 @@ use Rattle.rx_input.specs.Searchers.{finder_of, half_matches_left}
 use Rattle.rx_input.proofs.SearcherLaws.{half_fewer, some_left}
 use Rattle.rx_input.proofs.iter.TryHalfMatchesIterIterator.next.Goals as goal
 
--- ---- nothing comes any more
+-- ---- it has ended
 pub returns-then-self-clause-steps : goal.returns-then-self-clause-steps
 returns-then-self-clause-steps g c = (inl c.if-self.true, c.if-self.true)
 
--- ---- a half match comes
+-- ---- a half match
 pub returns-in-Ok-Some-clause-steps : goal.returns-in-Ok-Some-clause-steps
 returns-in-Ok-Some-clause-steps g c = (c.if-self.false, rw c.in-Ok-Some.field-0-is at c.in-Ok-Some.ensures.advances, c.if-self.false)
 
@@ -32,7 +32,7 @@ returns-in-Ok-Some-clause-goes g c =
 pub returns-in-Ok-None-clause-steps : goal.returns-in-Ok-None-clause-steps
 returns-in-Ok-None-clause-steps g c = (inr (rw c.in-Ok-None.field-0-is at c.in-Ok-None.ensures.advances), refl)
 
--- ---- a refusal comes
+-- ---- an error
 pub returns-in-Err-clause-steps : goal.returns-in-Err-clause-steps
 returns-in-Err-clause-steps g c = (c.if-self.false, c.in-Err.ensures.advances, refl)
 

@@ -6,7 +6,7 @@ use Rattle.rx_lists.specs.LeadingSets.{HasLeadingSets, AreLeadingSets, IsLeading
 use Rattle.rx_lists.specs.Passes.{IsReady}
 use Rattle.rx_lists.proofs.blocks.Blocks.pass_all.Given as goal
 
--- the blocks behind the place at which the input stands were passed
+-- the blocks after the input's position were passed
 abbrev pub invariant-loop-self : goal.invariant-loop-self
 invariant-loop-self g l = record {
   ready : IsReady l.program l.self.pass;

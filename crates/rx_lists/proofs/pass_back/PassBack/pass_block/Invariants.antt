@@ -6,7 +6,7 @@ use Rattle.rx_lists.specs.LeadingSets.{HasLeadingSets, AreLeadingSets, IsLeading
 use Rattle.rx_lists.specs.Passes.{IsReady}
 use Rattle.rx_lists.proofs.pass_back.PassBack.pass_block.Given as goal
 
--- the places from the block's last one back to the one at which the input stands were passed
+-- the offsets from the block's last one back to the input's position were passed
 abbrev pub invariant-loop-input : goal.invariant-loop-input
 invariant-loop-input g l = record {
   ready : IsReady l.program l.self;

@@ -11,7 +11,7 @@ use Rattle.rx_lists.specs.Blocks.{AreBlocks, BlockReaches}
 use Rattle.rx_lists.specs.Passes.{IsWalking}
 use Rattle.rx_lists.proofs.walk.Walk.follow.Given as goal
 
--- one thread stands at the place to which the walk has come: what is followed from there is what is followed at all
+-- one thread is at the input's position: what is followed from there is the result
 abbrev pub invariant-loop-met : goal.invariant-loop-met
 invariant-loop-met g l = record {
   ready : IsWalking l.program l.self.stepper.widths l.self.asks_looks;

@@ -5,7 +5,8 @@ use Rattle.rx_program.specs.Jobs.{jobs_work}
 use Rattle.rx_program.proofs.PatternLaws.{Begun}
 use Rattle.rx_program.proofs.compiler.Compiler.pattern.Given as goal
 
--- what there is and what the jobs left become is the pattern's program, after what there was
+-- the states and the code of the jobs that are left are the pattern's program, after the states
+-- before
 abbrev pub invariant-loop-job : goal.invariant-loop-job
 invariant-loop-job l = record {
   begun : Begun l.fn.self.slots l.number (tree_of l.hir) l.fn.self.states.items l.self.states.items l.self.jobs.items;

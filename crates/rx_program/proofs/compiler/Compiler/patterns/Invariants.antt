@@ -5,7 +5,7 @@ use Rattle.rx_program.specs.Programs.{node_of, ReadsItsSet}
 use Rattle.rx_program.specs.Sizes.{sum_of_weights}
 use Rattle.rx_program.proofs.compiler.Compiler.patterns.Given as goal
 
--- what there is and the code of the patterns that are left is the code of all
+-- the states and the code of the patterns that are left are the code of all
 abbrev pub invariant-loop-number : goal.invariant-loop-number
 invariant-loop-number l =
     let trees = map (λ hir. tree_of hir.now) l.hirs in

@@ -8,7 +8,7 @@ use Rattle.rx_steps.specs.Coming.{course_of}
 use Rattle.rx_steps.specs.ComingAll.{HasMetNoneAll, IsUnderWayAll, IsUnderWayAllInParts}
 use Rattle.rx_steps.proofs.all_walks.AllWalks.follow.Given as goal
 
--- the search has come to the place at which the input stands
+-- the search has reached the input's position
 abbrev pub invariant-loop-self : goal.invariant-loop-self
 invariant-loop-self g l = record {
   made : AreOfProgram l.program l.walks.stepper.widths l.walks.asks_looks l.walks.idle;

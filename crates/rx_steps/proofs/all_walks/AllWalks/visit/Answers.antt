@@ -10,7 +10,7 @@ use Rattle.rx_steps.proofs.AllPartLaws.{parts_passed_all, part_over_all}
 use Rattle.rx_steps.proofs.all_walks.AllWalks.visit.Goals as goal
 use Rattle.rx_steps.proofs.all_walks.AllWalks.visit.Goals.{in-Some, in_default}
 
--- what was said of the step is so of what came of it
+-- the fields after the step are the step's results
 record CameTo (threads next : List Started) (best best' : Option Found) : Type 0 where
   threads_are : threads ≡ next
   best_is : best ≡ best'

@@ -3,7 +3,7 @@ use Rattle.rx_steps.specs.Asked.{is_look, is_of_lines}
 use Rattle.rx_steps.proofs.AskedLaws.{IsTold}
 use Rattle.rx_steps.proofs.asked.AskedLooks.of.Given as goal
 
--- what the states so far ask for is told
+-- the assertions of the states so far
 abbrev pub invariant-loop-state : goal.invariant-loop-state
 invariant-loop-state l = record {
   any : IsTold l.states is_look l.state-index l.asked.any;

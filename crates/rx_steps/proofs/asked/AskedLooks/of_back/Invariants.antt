@@ -5,7 +5,7 @@ use Rattle.rx_steps.specs.Reversed.{state_of}
 use Rattle.rx_steps.proofs.AskedLaws.{IsTold}
 use Rattle.rx_steps.proofs.asked.AskedLooks.of_back.Given as goal
 
--- what the states so far ask for is told
+-- the assertions of the states so far
 abbrev pub invariant-loop-state : goal.invariant-loop-state
 invariant-loop-state l = record {
   any : IsTold (map state_of l.states) is_look l.state-index l.asked.any;

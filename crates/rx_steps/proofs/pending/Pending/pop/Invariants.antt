@@ -2,7 +2,7 @@ use Rattle.std.proofs.Common.{◌≡◌, ◌≤◌, length, reverse}
 use Rattle.rx_steps.specs.Frames.{waiting}
 use Rattle.rx_steps.proofs.pending.Pending.pop.Given as goal
 
--- what waits is the same, though slots were put back
+-- the same threads wait, though slots were restored
 abbrev pub invariant-loop-frame : goal.invariant-loop-frame
 invariant-loop-frame l = record {
   threads : waiting l.self-inside.slots.items (reverse l.self-inside.stack.items) ≡ l.fn.self.threads;

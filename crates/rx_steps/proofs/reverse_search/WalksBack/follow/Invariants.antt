@@ -9,7 +9,7 @@ use Rattle.rx_steps.specs.Reversed.{byte_program_of}
 use Rattle.rx_steps.specs.ComingBack.{AreOfReverse, HasComeBack}
 use Rattle.rx_steps.proofs.reverse_search.WalksBack.follow.Given as goal
 
--- the search has come back to the place at which the input stands
+-- the search has reached the input's position
 abbrev pub invariant-loop-pattern : goal.invariant-loop-pattern
 invariant-loop-pattern g l = record {
   made : AreOfReverse l.program l.self.stepper.widths l.self.asks_looks;

@@ -13,7 +13,7 @@ use Rattle.rx_steps.proofs.BackComeLaws.{moves_back}
 use Rattle.rx_steps.proofs.OverLaws.{same_search}
 use Rattle.rx_steps.proofs.reverse_search.WalksBack.pass.Goals as goal
 
--- an input that stands where one did
+-- an input moved to where it was
 same_there : (P : Search → ℕ → Type 0) (b : Bool) (old new : InputState) → IsMoved old new old.position old.asked → P (search_of b old) old.position → P (search_of b new) new.position
 same_there P b old new moved is =
     let same : search_of b new ≡ search_of b old = same_search b new old moved.same.content moved.asked_is in

@@ -76,7 +76,7 @@ returns-then-are_over-clause-over g c =
           (subst (λ j. highest s < j + 1) c.in_ok-visit.ensures.same.position_is (subst (λ x. highest x < after.position + 1) same' past)) way
     ])
 
--- a walk stands at the place that was visited, if an end was met
+-- after a match end, there is a thread at the offset that was visited
 visit_stands : (p : ByteProgram) (s t : Search) (q first i : ℕ) (before met : Option ℕ) (live : List Thread) → t ≡ s → start_node (character_program p) s.anchoring ≡ Some q
     → (start_node (character_program p) t.anchoring ≡ Some q → KeepsFirst (course_of p t q) first i before live → (met ≡ None) ⊎ StandsSince (course_of p t q) first i before) → KeepsFirst (course_of p s q) first i before live
     → (met ≡ None) ⊎ StandsSince (course_of p s q) first i before

@@ -7,7 +7,7 @@ use Rattle.rx_steps.specs.Caches.{AreOfProgram}
 use Rattle.rx_steps.specs.Coming.{course_of, IsUnderWay, IsUnderWayInParts, KeepsFirst}
 use Rattle.rx_steps.proofs.search.Walks.follow.Given as goal
 
--- the search has come to the place at which the input stands
+-- the search has reached the input's position
 abbrev pub invariant-loop-self : goal.invariant-loop-self
 invariant-loop-self g l = record {
   made : AreOfProgram l.program l.self.stepper.widths l.self.asks_looks l.self.idle;

@@ -11,7 +11,7 @@ use Rattle.rx_steps.proofs.PartLaws.{parts_passed, part_over, first_kept, stands
 use Rattle.rx_steps.proofs.search.Walks.visit.Goals as goal
 use Rattle.rx_steps.proofs.search.Walks.visit.Goals.{in-Some, in_default}
 
--- what was said of the step is so of what came of it
+-- the fields after the step are the step's results
 record CameTo (threads next : List Thread) (met met' : Option ℕ) (slots slots' : Slots) : Type 0 where
   threads_are : threads ≡ next
   met_is : met ≡ met'

@@ -5,7 +5,7 @@ use Rattle.rx_steps.specs.Threads.{Slots, Thread, first_node}
 use Rattle.rx_steps.specs.Lists.{AreUnderWay, AreFollowed}
 use Rattle.rx_steps.proofs.stepper.Closure.follow.Goals as goal
 
--- a thread that begins: none waits
+-- a new thread: none waits
 begin : (m : Machine (ℕ × ℕ) Slots) (i : ℕ) (threads : List Thread) (widths ids : List ℕ) (n slots : Slots) (q : ℕ × ℕ) (waits others out : List Thread) → slots ≡ n → waits ≡ []
     → AreUnderWay m i threads widths ids ((n, q) ∷ others) out → AreUnderWay m i threads widths ids ((slots, q) ∷ waits ++ others) out
 begin m i threads widths ids n slots q waits others out e f way = subst (λ xs. AreUnderWay m i threads widths ids xs out) (sym (ap₂ (λ s ws. (s, q) ∷ ws ++ others) e f)) way

@@ -6,7 +6,7 @@ use Rattle.rx_steps.specs.Reversed.{byte_program_of}
 use Rattle.rx_steps.proofs.BackStepLaws.{BackWay}
 use Rattle.rx_steps.proofs.stepper.Stepper.next_list_back.Given as goal
 
--- the step is under way with the walks that are left
+-- the step is under way with the threads that are left
 abbrev pub invariant-loop-index : goal.invariant-loop-index
 invariant-loop-index l = record {
   way : BackWay (byte_program_of l.program) l.place (nodes_of l.threads.threads) l.self-inside.closure.visited.ids (drop l.index (nodes_of l.threads.threads)) l.next.threads l.best;

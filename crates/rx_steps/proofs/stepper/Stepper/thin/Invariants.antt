@@ -4,7 +4,7 @@ use Rattle.rx_steps.specs.Threads.{IsThreadOf}
 use Rattle.rx_steps.specs.Lists.{IsThinning}
 use Rattle.rx_steps.proofs.stepper.Stepper.thin.Given as goal
 
--- the threads that are left are still to be looked at
+-- the remaining threads are still to be checked
 abbrev pub invariant-loop-index : goal.invariant-loop-index
 invariant-loop-index l = record {
   way : IsThinning l.threads.threads l.closure.visited.widths l.closure.visited.ids (drop l.index l.threads.threads) l.thin.threads;

@@ -54,7 +54,7 @@ returns-then-self-eq0-clause-steps c =
     let seen = crosses_back bytes.is_reversed (bytes.start + bytes.at) place items (get_or c.chunk-chunk.result.text.now j 0) c.args.self.now c.if-self.true c.self.view_is over in
     rw c.as_bytes.ensures.value (seen.ahead, seen.behind)
 
--- ---- a chunk behind this one
+-- ---- a chunk after this one
 inside_on : (c : After-chunk-chunk-then-self-2) → c.self.inside.start + c.self.inside.at - c.chunk-chunk-then-self-2.result.start.bytes < length c.chunk-chunk-then-self-2.result.text.now
 inside_on c =
     let bytes = c.self.inside in

@@ -4,7 +4,7 @@ use Rattle.ropey_walk.proofs.TwoWay.{crosses_on, crosses_back}
 use Rattle.ropey_walk.proofs.CharWalks.{char_passed, char_unpassed, char_crossed}
 use Rattle.ropey_walk.proofs.iter.chars.CharsIterator.next.Goals as goal
 
--- ---- back
+-- ---- backward
 pub invariant_of-self : goal.invariant_of-self
 invariant_of-self c =
     let chars = c.self.inside in
@@ -25,7 +25,7 @@ returns-else-self-eq0-clause-steps c =
     let seen = crosses_back chars.is_reversed chars.char_idx (chars.char_idx - 1) text read.character c.args.self.now c.if-self.true c.self.view_is over in
     (seen.ahead, seen.behind)
 
--- ---- on
+-- ---- forward
 pub invariant_of-self-else-self : goal.invariant_of-self-else-self
 invariant_of-self-else-self c =
     let chars = c.self.inside in

@@ -12,7 +12,7 @@ use Rattle.ropey_walk.proofs.ChunkWalks.{CrossesChunk, next_chunk, chunk_before,
 use Rattle.ropey_walk.proofs.iter.chunks.ChunksIterator.next.Goals as goal
 use Rattle.ropey_walk.proofs.iter.chunks.ChunksIterator.next.Goals.{After-chunk_near-chunk, After-chunk_near-chunk-else-self}
 
--- ---- on
+-- ---- forward
 pub returns-then-self-2-clause-steps : goal.returns-then-self-2-clause-steps
 returns-then-self-2-clause-steps c =
     let pieces = slice_pieces c.self.inside.slice in
@@ -54,7 +54,7 @@ returns-else-self-2-clause-goes c =
     let fewer = ap length (seen_next (goal.at.returns-else-self-2-clause-goes c).After-chunk_near-chunk-else-self).ahead in
     record { on = λ _. (tt, tt, omega (arith, fewer)); keeps = tt; rests = λ _. tt }
 
--- ---- back
+-- ---- backward
 over_prev : (c : After-chunk_near-chunk) → CrossesChunk (slice_pieces c.self.inside.slice) c.chunk_near-chunk.result.start.bytes c.self.inside.byte_idx (chars c.chunk_near-chunk.result.text.now)
 over_prev c =
     let e = c.chunk_near-chunk.ensures in

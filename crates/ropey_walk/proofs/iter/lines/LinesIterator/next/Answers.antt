@@ -8,7 +8,7 @@ use Rattle.ropey_walk.proofs.TwoWay.{Crosses, crosses_on, crosses_back, crosses_
 use Rattle.ropey_walk.proofs.iter.lines.LinesIterator.next.Goals as goal
 use Rattle.ropey_walk.proofs.iter.lines.LinesIterator.next.Goals.{After-next-self-inside, After-prev-self-inside}
 
--- ---- on
+-- ---- forward
 pub returns-then-self-2-clause-steps : goal.returns-then-self-2-clause-steps
 returns-then-self-2-clause-steps c =
     let pieces = slice_pieces c.self.inside.slice in
@@ -35,7 +35,7 @@ returns-else-self-2-clause-goes c =
     let fewer = ap length (seen_next (goal.at.returns-else-self-2-clause-goes c).After-next-self-inside).ahead in
     record { on = λ _. (tt, tt, omega (arith, fewer)); keeps = tt; rests = λ _. tt }
 
--- ---- back
+-- ---- backward
 seen_prev : (c : After-prev-self-inside) → Crosses (line_pieces (slice_pieces c.self.inside.slice) c.prev-self-inside.result.line_idx) c.args.self.now (facing c.self.inside.is_reversed c.prev-self-inside.result.line_idx (lines_of (slice_pieces c.self.inside.slice)))
 seen_prev c =
     let pieces = slice_pieces c.self.inside.slice in

@@ -73,7 +73,7 @@ returns-in-Ok-None-clause-steps g c =
     let is : IsFoundNext (EngineFinds e) m.search m.last_end None = rw c.in-Ok-None.field-0-is at c.in-Ok-None.ensures.answer in
     record { next = gives_none (EngineFinds e) match_of m n (λ _. is) refl; same_engine = refl; same_cache = refl }
 
--- ---- a refusal comes
+-- ---- an error
 pub returns-in-Err-clause-steps : goal.returns-in-Err-clause-steps
 returns-in-Err-clause-steps g c = record { next = record { gives = (c.if-self.false, refl); refused = c.in-Err.ensures.refused }; same_engine = refl; same_cache = refl }
 
