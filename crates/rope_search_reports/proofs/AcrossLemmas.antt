@@ -1,4 +1,4 @@
--- The place of a position, by the code units and the breaks that stand before it in the text.
+-- The offset of a position, from the code units and the breaks before it in the text.
 use Rattle.std.proofs.Common.{◌≡◌, ℕ, nat_le, ◌==◌, not, ◌+◌, ◌-◌, ◌<◌, ◌≤◌, ◌⊎◌, inl, inr, true, cond, ◌&&◌, List, [], ◌∷◌, ◌++◌, length, take, drop, get_or, refl, sym, ap, subst, ◌∙◌, arith, append-nil, append_assoc, length-append, chars, IsUtf8}
 use Rattle.std.specs.Str.{all_scalars, IsCharBoundary, NonePass}
 use Rattle.std.proofs.Math.Seq.{take-append_seam}
@@ -37,7 +37,7 @@ units-one c cs =
     let one : units (c ∷ []) ≡ units_of c = let e : 0 + units_of c ≡ units_of c = omega arith in e in
     omega (arith, all, one)
 
--- of two fronts the one with fewer code units is a front of the other
+-- of two prefixes the one with fewer code units is a prefix of the other
 unit-within : (l r f b : List ℕ) → l ++ r ≡ f ++ b → units l ≤ units f → (mid : List ℕ) × (f ≡ l ++ mid)
 unit-within [] r f b e low = (f, refl)
 unit-within (c ∷ cs) r [] b e low = absurd (omega (arith, low, units-one c cs, some-unit c))
@@ -51,7 +51,7 @@ no-units : (t : List ℕ) → units t ≡ 0 → t ≡ []
 no-units [] none = refl
 no-units (c ∷ cs) none = absurd (omega (arith, none, units-one c cs, some-unit c))
 
--- with as many they are the same
+-- with equally many they are the same
 unit-one : (f b g d : List ℕ) → f ++ b ≡ g ++ d → units f ≡ units g → g ≡ f
 unit-one f b g d e same =
     let more = unit-within f b g d e (omega (arith, same)) in
@@ -66,7 +66,7 @@ plain-parts : (s t : List ℕ) → NonePass is_break (s ++ t) → NonePass is_br
 plain-parts [] t plain = (tt, plain)
 plain-parts (c ∷ cs) t plain = let later = plain-parts cs t plain.1 in ((plain.0, later.0), later.1)
 
--- what begins a break is one of its characters
+-- the start of a break is one of its characters
 begins : (x back one rest : List ℕ) → x ++ back ≡ one ++ rest → 0 < byte_len x → NonePass is_break x → IsBreak is_break one rest → ⊥
 begins [] back one rest e some plain is = omega (arith, some)
 begins (c ∷ cs) back [] rest e some plain is = is
@@ -78,7 +78,7 @@ begins (c ∷ cs) back (d ∷ f ∷ []) rest e some plain is =
     true≢false (sym is.2 ∙ ap is_break (sym is.0 ∙ sym same) ∙ plain.0)
 begins (c ∷ cs) back (d ∷ f ∷ g ∷ gs) rest e some plain is = is
 
--- what stands without a break from where a line starts is in its text
+-- what follows the start of a line, up to its break, is in its text
 within-own : (text : List ℕ) (line : ℕ) (mid back : List ℕ) → (h : LiesInPlace text line) → mid ++ back ≡ line_text text line ++ h.behind → NonePass is_break mid → byte_len mid ≤ byte_len (line_text text line)
 within-own text line mid back h e plain =
     let own = line_text text line in
@@ -95,7 +95,7 @@ within-own text line mid back h e plain =
       | inr low ↦ low
     ]
 
--- no CR LF is cut before a part of what stands behind
+-- no CR LF is split before a part of what follows
 uncut-front : (before mid back : List ℕ) → NoCrLfBetween before (mid ++ back) → NoCrLfBetween before mid
 uncut-front before [] back whole = no-lf (ends_with_cr before)
 uncut-front before (c ∷ cs) back whole = whole
@@ -105,7 +105,7 @@ joined s t whole =
     let none : cond {A = ℕ} (cuts_cr_lf s t) 1 0 ≡ 0 = ap (λ b. cond {A = ℕ} b 1 0) whole in
     omega (arith, none, breaks_of_joined_texts-lines_crlf s t)
 
--- so many breaks stand before a line
+-- the number of breaks before a line
 breaks-before : (text : List ℕ) (line : ℕ) → line < line_count text → (h : LiesInPlace text line) → breaks is_break h.before ≡ line
 breaks-before text line inside h =
     let own = line_text text line ++ h.behind in
@@ -118,7 +118,7 @@ breaks-before text line inside h =
     ap (λ n. ends_up_to n (break_ends is_break own)) (let e : place - place ≡ 0 = omega arith in e) ∙ none-yet (ends_of_a_part-lines is_break) own in
     omega (arith, inside, there, at, part, none)
 
--- ---- a place of the text with so many code units before it, and so many breaks
+-- ---- an offset of the text after this number of code units and of breaks
 
 pub record StandsBehind (text : List ℕ) (unit line : ℕ) : Type 0 where
   pub front : List ℕ
@@ -140,7 +140,7 @@ module _ (text : List ℕ) (line column start : ℕ) (scalars : all_scalars text
       let h = lines-in-place text line inside in
       omega (arith, units-of-start h, places.few_units h.before, ap byte_len h.parts, byte_len-append h.before (line_text text line ++ h.behind))
 
-  -- the position's place is such a one
+  -- the position's offset is such a one
   pub behind-at : (place : ℕ) → IsAt text (line, column) place → StandsBehind text (start + column) line
   behind-at place at =
       let h = lines-in-place text line inside in
@@ -184,7 +184,7 @@ module _ (text : List ℕ) (line column start : ℕ) (scalars : all_scalars text
       let first = ap (λ n. ends_up_to n (char_ends text)) starts ∙ b.chars_are in
       (in-line text line column scalars inside mid rest.0 rest.1 columns place (omega (arith, bytes, starts, byte_len-append h.before mid)) (omega (arith, count, first, length-append h.before mid))).is
 
--- ---- as the chunk tells it in which they end
+-- ---- from the chunk in which they end
 
 shown-of-unit : (pieces : List (List ℕ)) (unit : ℕ) (chunk : List ℕ) (start : Counts) → StandsAt pieces Units unit chunk start
     → ShowsChunk pieces units unit chunk start.bytes start.chars start.breaks
@@ -223,7 +223,7 @@ by-unit pieces chunk unit start cut s =
       ];
     }
 
--- a place in the chunk is such a one of the text
+-- an offset in the chunk is such a one of the text
 pub record IsTold (text bytes : List ℕ) (unit : ℕ) (start : Counts) (own : Place) : Type 0 where
   pub between : IsCharBoundary bytes own.byte_idx
   pub behind : StandsBehind text unit (start.breaks + breaks is_break (chars (take own.byte_idx bytes)))
@@ -280,7 +280,7 @@ told-by-unit text bytes unit start own utf8 is has =
       few_breaks = omega (arith, breaks_are, counts_are_at_most_bytes-lines is_break front, sizes);
     }
 
--- the chunk holds the place of such a one
+-- the chunk contains the offset of such a one
 in-chunk : (text chunk : List ℕ) (unit line : ℕ) (start : Counts) → IsByUnit text chunk unit start → StandsBehind text unit line → (front back : List ℕ) × (chunk ≡ front ++ back) × (unit - start.units ≡ units front)
 in-chunk text chunk unit line start is s =
     let h = is.shown in
@@ -304,7 +304,7 @@ none-by-unit text chunk unit line start is none s =
     let h = in-chunk text chunk unit line start is s in
     none h.0 h.1 h.2 h.3
 
--- two of them stand behind as many breaks
+-- two of them are after equally many breaks
 pub one-line : (text : List ℕ) (unit line line' : ℕ) → StandsBehind text unit line → StandsBehind text unit line' → line ≡ line'
 one-line text unit line line' s s' =
     s.breaks_are ∙ ap (breaks is_break) (sym (unit-one s.front s.back s'.front s'.back (sym s.parts ∙ s'.parts) (sym s.units_are ∙ s'.units_are))) ∙ sym s'.breaks_are

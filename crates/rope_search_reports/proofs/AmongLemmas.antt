@@ -1,4 +1,4 @@
--- The groups of one match among all of a content.
+-- The groups of one match among all of a haystack.
 use Rattle.std.proofs.Common.{◌≡◌, ℕ, zero, suc, ◌+◌, ◌≤◌, List, [], ◌∷◌, ◌++◌, Option, None, Some, IsUtf8, length, map, refl, sym, ap, ◌∙◌, arith}
 use Rattle.std.specs.Prelude.{option_map, slice_get}
 use Rattle.std.proofs.lemmas.List.{length-append, map-append}
@@ -16,8 +16,7 @@ use Rattle.rope_search_reports.proofs.MatchLemmas.{AllHaveFinds, AllNote, Search
 use Rattle.rope_search_reports.proofs.ReportLaws.{matches-one}
 use Rattle.rope_search_reports.proofs.RowLemmas.{NextMatch, groups-are, last-groups, next-shown}
 
--- some matches are passed, the last of which ends there, and so many are left before the one of a
--- number
+-- some matches are passed, the last of which ends there; `left` are left before match `number`
 pub record HasPassed (tree : Tree) (content : List ℕ) (last : Option ℕ) (number left : ℕ) : Type 0 where
   pub groups : List (List (Option (ℕ × ℕ)))
   pub sofar : Searched groups_of tree content last groups
@@ -26,7 +25,7 @@ pub record HasPassed (tree : Tree) (content : List ℕ) (last : Option ℕ) (num
 pub passed-none : (tree : Tree) (content : List ℕ) (number : ℕ) → HasFinds tree → HasPassed tree content None number number
 passed-none tree content number has = record { groups = []; sofar = Searched-start groups_of tree content has; counted = omega arith }
 
--- one more is
+-- one more is passed
 pub passed-more : (tree : Tree) (content : List ℕ) (last : Option ℕ) (span : ℕ × ℕ) (slots : List (Option ℕ)) (number left left' : ℕ) → HasFinds tree
     → NextMatch tree content last span slots → left ≡ left' + 1 → HasPassed tree content last number left → HasPassed tree content (Some span.1) number left'
 passed-more tree content last span slots number left left' has next less so =
@@ -46,7 +45,7 @@ get-past [] i past = refl
 get-past (a ∷ list) zero past = absurd (omega (arith, past))
 get-past (a ∷ list) (suc i) past = get-past list i (omega (arith, past))
 
--- here it is
+-- the match is here
 pub among-here : (tree : Tree) (content : List ℕ) (last : Option ℕ) (span : ℕ × ℕ) (slots : List (Option ℕ)) (number left : ℕ) (item : List (Option (ℕ × ℕ))) → HasFinds tree
     → (next : NextMatch tree content last span slots) → item ≡ groups_of next.t → left ≡ 0 → HasPassed tree content last number left
     → IsAmongGroups tree content number (Some item)
@@ -63,7 +62,7 @@ among-here tree content last span slots number left item has next is none so =
           ∙ ap (slice_get (map groups_of (more.matches ++ others))) at;
     }
 
--- and there is none
+-- there is none
 pub among-none : (tree : Tree) (content : List ℕ) (last : Option ℕ) (number left : ℕ) → HasFinds tree → TreeFindsNext tree content last None
     → HasPassed tree content last number left → IsAmongGroups tree content number None
 among-none tree content last number left has none so = record {
@@ -72,7 +71,7 @@ among-none tree content last number left has none so = record {
   told_is = get-past so.groups number (omega (arith, so.counted));
 }
 
--- the spans of a match that comes next
+-- the spans of the next match
 pub next-spans : (tree : Tree) (content : List ℕ) (last : Option ℕ) (span : ℕ × ℕ) (slots : List (Option ℕ)) → HasFinds tree → AllNote tree content → IsUtf8 content
     → (next : NextMatch tree content last span slots) → HasSpansIn content (groups_of next.t)
 next-spans tree content last span slots has notes utf8 next =
@@ -80,7 +79,7 @@ next-spans tree content last span slots has notes utf8 next =
     spans-in content next.t (lies-behind tree content from.0 next.t has from.1).ordered (notes from.0 next.t from.1)
     (has.at_boundaries (search_from content from.0) next.t utf8 refl from.1)
 
--- ---- by their columns in a line
+-- ---- as columns in a line
 
 pub tells-groups : (pattern line : List ℕ) (tree : Tree) (number : ℕ) (told : Option (List (Option (ℕ × ℕ)))) → SpellsTree pattern tree
     → IsAmongGroups tree (bytes_of line) number told → TellsGroups pattern line number (option_map (in_columns (bytes_of line)) told)
@@ -90,9 +89,9 @@ tells-groups pattern line tree number told spells is = record {
   told_is = ap (option_map (in_columns (bytes_of line))) is.told_is;
 }
 
--- ---- beside the row
+-- ---- compared with the row
 
--- of the match of a number they begin with its columns
+-- those of a match begin with its columns
 begin-with : (content : List ℕ) (ms : List FoundMatch) (number : ℕ)
     → option_map whole (option_map (in_columns content) (slice_get (map groups_of ms) number)) ≡ slice_get (map (columns content) (map span_of ms)) number
 begin-with content [] number = refl

@@ -1,4 +1,4 @@
--- Where the line of a place starts, told by the bytes before it.
+-- Where the line of an offset starts, from the bytes before it.
 use Rattle.std.proofs.Common.{◌≡◌, ℕ, zero, suc, ◌+◌, ◌-◌, ◌<◌, ◌≤◌, min, Bool, true, false, not, ◌&&◌, cond, List, length, take, drop, get_or, chars, IsUtf8, sum, refl, ap, sym, ◌∙◌, arith}
 use Rattle.std.specs.Prelude.{◌==◌, ◌||◌}
 use Rattle.std.proofs.lemmas.Bool.Decides.{nat_tests}
@@ -12,7 +12,7 @@ use Rattle.str_indices.proofs.Tested.{tested-at}
 use Rattle.ropey.specs.Chunks.{is_break}
 use Rattle.memchr.specs.Find.{Nowhere, NoneAfter, Passes, is_byte2}
 
--- how often a break ends with a byte
+-- the number of breaks that end with a byte
 ended : (bytes : List ℕ) (at : ℕ) → at < length bytes
     → get_or (crlf_line_weights bytes) at 0 ≡ cond ((get_or bytes at 0 == 10) || ((get_or bytes at 0 == 13) && not (starts_with_lf (drop (at + 1) bytes)))) 1 0
 ended bytes at within = tested-at ends_crlf_line 0 0 bytes at within
@@ -23,7 +23,7 @@ not-ended b lf plain = grind (arith, nat_tests, plain)
 ends-there : (b : ℕ) (lf : Bool) → is_byte2 10 13 b ≡ true → ((b == 13) && lf) ≡ false → cond {A = ℕ} ((b == 10) || ((b == 13) && not lf)) 1 0 ≡ 1
 ends-there b lf is whole = grind (arith, nat_tests, is, whole)
 
--- where none ends between two places, as many end up to either
+-- if none ends between two offsets, equally many end up to either
 none-between : (ws : List ℕ) (from n : ℕ) → from + n ≤ length ws → ((k : ℕ) → from ≤ k → k < from + n → get_or ws k 0 ≡ 0) → sum (take (from + n) ws) ≡ sum (take from ws)
 none-between ws from zero within none = ap (λ k. sum (take k ws)) (let e : from + zero ≡ from = omega arith in e)
 none-between ws from (suc n) within none =
@@ -42,7 +42,7 @@ module _ (text : List ℕ) (place : ℕ) (utf8 : IsUtf8 text) (within : place �
   long : length (crlf_line_weights text) ≡ length text
   long = crlf_lines_at_last_bytes.len text
 
-  -- a byte before the place, in what is looked through
+  -- a byte before the offset, in what is scanned
   bare-at : (k : ℕ) → k < place → (is_byte2 10 13 (get_or (take place text) k 0) ≡ true → ⊥) → get_or (crlf_line_weights text) k 0 ≡ 0
   bare-at k below plain =
       ended text k (omega (arith, below, within))

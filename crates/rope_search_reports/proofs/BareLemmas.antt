@@ -1,4 +1,4 @@
--- Lines in which nothing matches, by what is known of the places before one.
+-- Lines in which nothing matches, known from the offsets before one.
 use Rattle.std.proofs.Common.{◌≡◌, ℕ, suc, ◌+◌, ◌-◌, ◌^◌, ◌<◌, ◌≤◌, min, true, chars, IsUtf8, append-nil, inl, inr, List, [], ◌∷◌, ◌++◌, Option, None, Some, IfSome, length, take, drop, get_or, replicate, refl, sym, ap, subst, ◌∙◌, arith, length-drop, append_assoc}
 use Rattle.std.proofs.lemmas.List.{drop-drop, drop-take, length-take, get_or-take, get_or-drop, replicate_more}
 use Rattle.std.specs.Option.{is_some}
@@ -24,7 +24,7 @@ use Rattle.rope_search_reports.proofs.PlaceLemmas.{line_inside}
 use Rattle.rope_search_reports.proofs.ReportLaws.{AreRows-join}
 use Rattle.rope_search_reports.proofs.RowLemmas.{columns_of, last-row, row-is}
 
--- what a regex tells of the tree of a pattern is told of the pattern
+-- what a regex reports for the tree of a pattern holds for the pattern
 none-between : (pattern content : List ℕ) (from place : ℕ) (tree : Tree) → SpellsTree pattern tree → HasNoMatchBetween tree content from place → FindsNoneBetween pattern content from place
 none-between pattern content from place tree spells none start end behind before = record { tree = tree; spells = spells; finds = none start end behind before }
 
@@ -41,7 +41,7 @@ bare-row finds pattern line is =
     let has = finds is.tree in
     row-is pattern line is.tree [] is.spells (last-row is.tree line None [] has (nothing is.finds) (Searched-start (columns_of (bytes_of line)) is.tree (bytes_of line) has))
 
--- where no part of a text has a match, the empty text has none
+-- if no part of a text has a match, the empty text has none
 pub bare-empty : AllHaveFinds → (pattern content : List ℕ) (place : ℕ) → FindsNoneBetween pattern content 0 place → IsRow pattern [] []
 bare-empty finds pattern content place none = bare-row finds pattern [] (none 0 0 (omega arith) (omega arith))
 
@@ -50,7 +50,7 @@ pub starts-within : RisesWithIndex (break_ends is_break) → (text : List ℕ) (
 starts-within rises text line inside = omega (arith, rises text line (line_count text) inside, past-last text (breaks is_break text) refl)
 
 module _ (law : PlaceLaws) (rises : RisesWithIndex (break_ends is_break)) (text : List ℕ) where
-  -- a line before the one that a place is in ends at the place or before it
+  -- a line before the one that contains an offset ends at the offset or before it
   ends-before : (line place : ℕ) → line < line_at text place → text_end text line ≤ place
   ends-before line place before =
       let inside = line_inside text place in
@@ -74,9 +74,9 @@ module _ (law : PlaceLaws) (rises : RisesWithIndex (break_ends is_break)) (text 
       let own : between start stop (bytes_of text) ≡ bytes_of (line_text text line) = dropped (bytes_of text) start stop (omega arith) ∙ h.bytes in
       bare-row finds pattern (line_text text line) (subst (λ bytes. FindsMatch pattern bytes 0 None) own is)
 
--- ---- rows of some lines behind those of others
+-- ---- rows of some lines after those of others
 
--- the lines from one on and up to another, by one between them
+-- the lines of a range, split at a line
 lines-joined : (text : List ℕ) (first mid end : ℕ) → first ≤ mid → mid ≤ end → lines_between text first mid ++ lines_between text mid end ≡ lines_between text first end
 lines-joined text first mid end low high =
     let lines = drop first (line_texts text) in
@@ -113,7 +113,7 @@ bare-added pattern text first end rows rows' low high bare is =
       behind = is;
     }
 
--- rows of lines, and then those of the lines behind them
+-- rows of lines, and then those of the following lines
 pub adds-joined : (pattern text : List ℕ) (first mid end : ℕ) (rows rows' rows'' : List (List (ℕ × ℕ))) → first ≤ mid → mid ≤ end → AddsRows pattern (lines_between text first mid) rows rows'
     → AddsRows pattern (lines_between text mid end) rows' rows'' → AddsRows pattern (lines_between text first end) rows rows''
 adds-joined pattern text first mid end rows rows' rows'' low high one other = record {
@@ -128,14 +128,14 @@ rows-start pattern text first =
     let none : 0 ≡ first - first = omega arith in
     subst (λ n. AreRows pattern (take n (drop first (line_texts text))) []) none tt
 
--- behind the lines so far come some that are searched, and some that are passed over
+-- after the lines so far, some are searched, and some are skipped
 pub rows-step : (pattern text : List ℕ) (first at stop next : ℕ) (rows rows' rows'' : List (List (ℕ × ℕ))) → first ≤ at → at ≤ stop → stop ≤ next
     → AreRows pattern (lines_between text first at) rows → AddsRows pattern (lines_between text at stop) rows rows' → AddsRows pattern (lines_between text stop next) rows' rows''
     → AreRows pattern (lines_between text first next) rows''
 rows-step pattern text first at stop next rows rows' rows'' behind low high are adds passes =
     rows-added pattern text first stop next rows' rows'' (omega (arith, behind, low)) high (rows-added pattern text first at stop rows rows' behind low are adds) passes
 
--- one row more of a line in which nothing matches
+-- one more row of a line in which nothing matches
 pub bare-more : (rows rows' rows'' : List (List (ℕ × ℕ))) (row : List (ℕ × ℕ)) (k : ℕ) → rows' ≡ rows ++ replicate k [] → row ≡ [] → rows'' ≡ rows' ++ row ∷ []
     → rows'' ≡ rows ++ replicate (k + 1) []
 bare-more rows rows' rows'' row k so_far empty more =
@@ -143,7 +143,7 @@ bare-more rows rows' rows'' row k so_far empty more =
 
 -- ---- lines of a chunk
 
--- the lines of a text that end before a place up to which nothing matches
+-- the lines of a text that end before an offset up to which nothing matches
 pub bare-front : PlaceLaws → RisesWithIndex (break_ends is_break) → AllHaveFinds → (pattern bytes : List ℕ) (place count : ℕ) → IsUtf8 bytes
     → count ≡ line_at (chars bytes) place → FindsNoneBetween pattern bytes 0 place → HaveNoMatches pattern (chars bytes) 0 count
 bare-front law rises finds pattern bytes place count utf8 is none line low high =
@@ -160,7 +160,7 @@ bare-shown pattern text rest line count shows inside bare l low high =
     let own : line_text text l ≡ line_text rest k = ap (line_text text) (sym there) ∙ shows k (omega (arith, below, inside)) in
     subst (λ t. IsRow pattern t []) (sym own) (bare k (omega arith) below)
 
--- so those that end there before such a place have no match
+-- so those that end there before such an offset have no match
 pub bare-ahead : PlaceLaws → RisesWithIndex (break_ends is_break) → AllHaveFinds → (pattern bytes text rest : List ℕ) (line place count : ℕ) → IsUtf8 bytes → chars bytes ≡ rest
     → count ≡ line_at (chars bytes) place → FindsNoneBetween pattern bytes 0 place → ((k : ℕ) → k < breaks is_break rest → line_text text (line + k) ≡ line_text rest k)
     → HaveNoMatches pattern text line (line + count)
@@ -180,7 +180,7 @@ ahead-within bytes text rest line place count same is few =
 
 module _ (law : PlaceLaws) (pattern text : List ℕ) (line start place count : ℕ) (start_is : start ≡ line_start text line) (none : FindsNoneBetween pattern (bytes_of text) start place)
     (count_is : count ≡ line_at text place - line) where
-  -- those that end before a place up to which nothing matches
+  -- those that end before an offset up to which nothing matches
   pub bare-from : RisesWithIndex (break_ends is_break) → AllHaveFinds → HaveNoMatches pattern text line (line + count)
   bare-from rises finds l low high =
       bare-line law rises text finds pattern line place l low (omega (arith, low, high, count_is)) (subst (λ n. FindsNoneBetween pattern (bytes_of text) n place) start_is none)
@@ -191,7 +191,7 @@ module _ (law : PlaceLaws) (pattern text : List ℕ) (line start place count : �
       let inside = line_inside text place in
       omega (arith, inside, count_is, below)
 
-  -- where there are some, the empty text has no match
+  -- if there are some, the empty text has no match
   pub from-empty : AllHaveFinds → 0 < count → IsRow pattern [] []
   from-empty finds some =
       let inside = line_inside text place in
@@ -200,7 +200,7 @@ module _ (law : PlaceLaws) (pattern text : List ℕ) (line start place count : �
       let nothing : between start start (bytes_of text) ≡ [] = dropped (bytes_of text) start start (omega arith) ∙ ap (λ n. take n (drop start (bytes_of text))) zero_is in
       bare-row finds pattern [] (subst (λ bs. FindsMatch pattern bs 0 None) nothing (none start start (omega arith) (omega (arith, low, start_is))))
 
--- ---- rows behind rows
+-- ---- rows after rows
 
 -- none more
 pub adds-none : (pattern text : List ℕ) (at : ℕ) (rows : List (List (ℕ × ℕ))) → AddsRows pattern (lines_between text at (at + 0)) rows rows
@@ -231,9 +231,9 @@ adds-one pattern text at count rows rows' rows'' own row inside adds own_is is m
         head-of [] own some is = absurd (omega (arith, some))
         head-of (l ∷ ls) own some is = ap (λ x. x ∷ []) is
 
--- ---- rows that are counted, each by one
+-- ---- rows that are counted one by one
 
--- so many more, as far as the count goes
+-- `count` more rows, up to the maximum of the count
 pub counted-start : (ticks : Ticks) → MakesAsMany 0 ticks ticks
 counted-start ticks = record { grows = omega arith; least = omega arith; made = omega arith; no_whole = refl }
 
@@ -251,7 +251,7 @@ counted-both a b n old mid new one other sum =
     let made' = other.made in
     record { grows = omega (arith, one.grows, other.grows); least = omega (arith, least, least', sum); made = omega (arith, made, made', sum); no_whole = other.no_whole ∙ one.no_whole }
 
--- and one more at most
+-- and at most one more
 pub counted-most : (count n : ℕ) (old mid new : Ticks) → MakesAsMany count old mid → new.count ≡ min (mid.count + 1) (2 ^ 64 - 1) → mid.count ≤ new.count → new.wholes ≡ mid.wholes → count + 1 ≤ n → MakesAtMost n old new
 counted-most count n old mid new sofar one grows whole fits =
     let made = sofar.made in
@@ -262,7 +262,7 @@ counted-few count n old new sofar fits =
     let made = sofar.made in
     record { grows = sofar.grows; made = omega (arith, made, fits); no_whole = sofar.no_whole }
 
--- what is looked through makes no row
+-- a scan makes no row
 pub looked-most : (a n : ℕ) (old mid new : Ticks) → mid.count ≡ old.count → mid.wholes ≡ old.wholes → MakesAtMost a mid new → a ≤ n → MakesAtMost n old new
 looked-most a n old mid new count whole most fits =
     let made = most.made in
@@ -274,13 +274,13 @@ looked-many a old mid new count whole many =
     let made = many.made in
     record { grows = omega (arith, many.grows, count); least = omega (arith, least, count); made = omega (arith, made, count); no_whole = many.no_whole ∙ whole }
 
--- so many rows of lines in which nothing matches, from one line on
+-- `count` rows of lines in which nothing matches, from one line on
 pub rows-so : (rows rows' : List (List (ℕ × ℕ))) (line count : ℕ) → rows' ≡ rows ++ replicate count [] → rows' ≡ rows ++ replicate (line + count - line) []
 rows-so rows rows' line count is =
     let same : count ≡ line + count - line = omega arith in
     is ∙ ap (λ n. rows ++ replicate n []) same
 
--- ---- the rows of a stretch of lines, a turn at a time
+-- ---- the rows of a range of lines, turn by turn
 
 pub record TurnRows (pattern text : List ℕ) (first at searched passed : ℕ) (rows : List (List (ℕ × ℕ))) (start new : Ticks) : Type 0 where
   pub are : AreRows pattern (lines_between text first (at + searched + passed)) rows
@@ -297,7 +297,7 @@ turn-of pattern text first at searched passed rows rows' rows'' start old mid ne
       (counted-both (at - first) searched (at + searched - first) start old mid ticks one (omega (arith, behind))) other (omega (arith, behind));
 }
 
--- one line alone
+-- a single line
 pub rows-one : (pattern text : List ℕ) (first : ℕ) (rows rows' : List (List (ℕ × ℕ))) → rows ≡ [] → AddsRows pattern (lines_between text first (first + 1)) rows rows'
     → AreRows pattern (lines_between text first (first + 1)) rows'
 rows-one pattern text first rows rows' none adds =
@@ -312,7 +312,7 @@ lines-alike text own first end low same =
 
 -- ---- the empty text
 
--- where a place is told up to which nothing matches, the empty text has no match
+-- if an offset is known up to which nothing matches, the empty text has no match
 pub never-empty : (tree : Tree) (content : List ℕ) (from from' : ℕ) (place : Option ℕ) → is_some place ≡ true → from' ≡ from → from ≡ 0 → IfSome place (HasNoMatchBetween tree content from') → TreeFinds tree [] 0 None
 never-empty tree content from from' None some same start told = absurd (true≢false (sym some))
 never-empty tree content from from' (Some place) some same start told = told 0 0 (omega (arith, same, start)) (omega arith)

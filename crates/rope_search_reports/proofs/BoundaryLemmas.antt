@@ -1,4 +1,4 @@
--- Where a match is shown: at two boundaries of the text.
+-- Each match is at two boundaries of the text.
 use Rattle.std.proofs.Common.{◌≡◌, ℕ, zero, suc, ◌+◌, ◌-◌, ◌<◌, ◌≤◌, true, ◌⊎◌, inl, inr, List, [], ◌∷◌, ◌++◌, length, map, take, drop, slice_index_or, refl, sym, ap, ◌∙◌, subst, All, append_assoc, arith, chars}
 use Rattle.std.specs.Str.{all_scalars, IsUtf8, IsCharBoundary}
 use Rattle.std.proofs.lemmas.Bool.{cases_lt}
@@ -47,7 +47,7 @@ module _ (law : PlaceLaws) (text : List ℕ) (scalars : all_scalars text ≡ tru
       let h = lines-in-place text line inside in
       (scalars-parts own h.behind (scalars-parts h.before (own ++ h.behind) (sym (ap all_scalars h.parts) ∙ scalars)).1).0
 
-  -- a place in the line's text is in that line
+  -- an offset in the line's text is in that line
   line_there : (i : ℕ) → i ≤ byte_len own → line_at text (line_start text line + i) ≡ line
   line_there i low =
       let h = lines-in-place text line inside in
@@ -84,7 +84,7 @@ module _ (law : PlaceLaws) (text : List ℕ) (scalars : all_scalars text ≡ tru
       let f = front_of law text front (s.back ++ h.behind) parts in
       subst (IsCharBoundary (bytes_of text)) (f.back_from_chars ∙ sym there) (law.char_boundaries text (length front) scalars)
 
-  -- the column of a place in the line's text
+  -- the column of an offset in the line's text
   column_there : (i : ℕ) → i ≤ byte_len own → column (bytes_of own) i ≡ units (chars (take (line_start text line + i - line_start text line) (drop (line_start text line) (bytes_of text))))
   column_there i low =
       let h = lines-in-place text line inside in
@@ -140,7 +140,7 @@ module _ (law : PlaceLaws) (text : List ℕ) (scalars : all_scalars text ≡ tru
       let between = (has.rise search_it is.matches is.are.are).inside in
       subst (λ (ss : List (ℕ × ℕ)). All (StandsAtBoundaries text line) (map (columns (bytes_of own)) ss)) (sym is.spans_are) (stand-all is.matches at between)
 
--- each match of a report stands at boundaries
+-- each match of a report is at boundaries
 pub stand : PlaceLaws → AllHaveFinds → (text pattern : List ℕ) (rows : List (List (ℕ × ℕ))) (line : ℕ) → IsText text → IsReport text pattern rows
     → All (StandsAtBoundaries text line) (slice_index_or rows line [])
 stand law finds text pattern rows line scalars report = elim (row_at pattern (line_texts text) rows line report) [

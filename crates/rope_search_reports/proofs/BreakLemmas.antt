@@ -1,4 +1,4 @@
--- A line's break left off, by its last characters.
+-- A line without its break, from its last characters.
 use Rattle.std.proofs.Common.{◌≡◌, ℕ, zero, suc, ◌-◌, ◌<◌, true, false, ◌⊎◌, inl, inr, List, [], ◌∷◌, ◌++◌, length, take, get_or, sym, ap, ◌∙◌, append-nil, append_assoc, arith, length-append}
 use Rattle.std.specs.Str.{NonePass}
 use Rattle.std.proofs.Math.Seq.{take-append_seam, get_or-append_seam}
@@ -12,7 +12,7 @@ plain_at [] i none inside = absurd (omega (arith, inside))
 plain_at (x ∷ xs) zero none inside = none.0
 plain_at (x ∷ xs) (suc i) none inside = plain_at xs i none.1 (omega (arith, inside))
 
--- a character of the line's text is none of the break set
+-- no character of the line's text is in the break set
 not_in_text : (line own one : List ℕ) (i : ℕ) → line ≡ own ++ one → NonePass is_break own → i < length own → is_break (get_or line i 0) ≡ true → ⊥
 not_in_text line own one i parts plain inside is_so =
     let here : get_or line i 0 ≡ get_or own i 0 = ap (λ t. get_or t i 0) parts ∙ get_or_append_left own one 0 i inside in
@@ -23,7 +23,7 @@ is_break-of : (c : ℕ) → (c ≡ 10) ⊎ (c ≡ 13) → is_break c ≡ true
 is_break-of c (inl lf) = ap is_break lf
 is_break-of c (inr cr) = ap is_break cr
 
--- CR and LF stand last: they are the break
+-- CR LF at the end is the break
 crlf-by : (line own one : List ℕ) → line ≡ own ++ one → NonePass is_break own → (one ≡ []) ⊎ IsBreak is_break one [] → 1 < length line
     → get_or line (length line - 1) 0 ≡ 10 → get_or line (length line - 2) 0 ≡ 13 → take (length line - 2) line ≡ own
 crlf-by line own one parts plain (inl none) some lf cr =
@@ -43,7 +43,7 @@ pub without-crlf : (line own : List ℕ) → HasOwnText line own → 1 < length 
     → take (length line - 2) line ≡ own
 without-crlf line own is some lf cr = crlf-by line own is.one is.parts is.plain is.ended some lf cr
 
--- LF or CR stands last, and not both: it is the break
+-- LF or CR at the end, and not both, is the break
 one-by : (line own one : List ℕ) → line ≡ own ++ one → NonePass is_break own → (one ≡ []) ⊎ IsBreak is_break one [] → 0 < length line
     → is_break (get_or line (length line - 1) 0) ≡ true
     → (get_or line (length line - 1) 0 ≡ 10 → 1 < length line → get_or line (length line - 2) 0 ≡ 13 → ⊥) → take (length line - 1) line ≡ own

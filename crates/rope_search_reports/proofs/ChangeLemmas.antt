@@ -1,4 +1,4 @@
--- What several changes do to the lines of a text.
+-- The effect of several changes on the lines of a text.
 use Rattle.std.proofs.Common.{◌≡◌, ℕ, zero, suc, ◌+◌, ◌-◌, ◌≤◌, Bool, true, false, cond, List, [], ◌∷◌, ◌++◌, length, take, drop, refl, sym, ap, subst, ◌∙◌, inl, inr, arith, append_assoc}
 use Rattle.std.specs.Prelude.{max}
 use Rattle.std.proofs.lemmas.List.{take-append-drop, take_all, drop-take}
@@ -9,7 +9,7 @@ use Rattle.rope_search_reports.specs.Position.{line_at}
 use Rattle.rope_search_reports.specs.Changes.{IsAtStart, StandsAtLines, IsInStep, ChangesKeepLines, TailsKeepLines}
 use Rattle.rope_search_reports.proofs.SpliceLemmas.{put, ended, line_texts-put, front, rear, ended-append, few, near, line_at-is}
 
--- ---- a line behind each break
+-- ---- a line after each break
 
 some-put : (ends in_set : Bool) (c : ℕ) (lines : List (List ℕ)) → 1 ≤ length lines → 1 ≤ length (put ends in_set c lines)
 some-put true in_set c lines some = omega arith
@@ -37,7 +37,7 @@ behind (c ∷ cs) after =
     subst (λ ls. suc (ended (c ∷ cs) after) ≤ length ls) (sym (line_texts-put c (cs ++ after)))
     (behind-put (ends_break is_break c (cs ++ after)) (is_break c) c (ended cs after) (line_texts (cs ++ after)) (behind cs after))
 
--- ---- what stands between two changes
+-- ---- between two changes
 
 -- from the start of a text
 gap-first : (k : ℕ) (gap after after' : List ℕ) → ended gap after' ≡ k → take k (line_texts (gap ++ after')) ≡ take k (line_texts (gap ++ after))
@@ -53,7 +53,7 @@ take-behind (suc k) xs ys same =
     let less : suc k - 1 ≡ k = omega arith in
     ap (λ n. take n (drop 1 xs)) less ∙ sym (take-one k xs) ∙ ap (drop 1) same ∙ take-one k ys ∙ ap (λ n. take n (drop 1 ys)) (sym less)
 
--- behind a change
+-- after a change
 gap-next : (before before' gap after after' : List ℕ) (k : ℕ) → ended gap after' ≡ k
     → take (k - 1) (drop (suc (ended before' (gap ++ after'))) (line_texts (before' ++ (gap ++ after'))))
     ≡ take (k - 1) (drop (suc (ended before (gap ++ after))) (line_texts (before ++ (gap ++ after))))
@@ -80,9 +80,9 @@ two xs i j l = sym (take-append-drop i (take j xs)) ∙ ap (λ ys. ys ++ drop i 
 three : {A : Type 0} (xs : List A) (a b c : ℕ) → a ≤ b → b ≤ c → take c xs ≡ take a xs ++ take (b - a) (drop a xs) ++ take (c - b) (drop b xs)
 three xs a b c low high = two xs b c high ∙ ap (λ ys. ys ++ take (c - b) (drop b xs)) (two xs a b low)
 
--- ---- one change more
+-- ---- one more change
 
--- the numbers of one change: where the lines begin that are made anew, `k` breaks ending in the gap
+-- the numbers of one change: where the new lines begin if `k` breaks end in the gap
 record Places (before before' gap removed inserted after after' : List ℕ) : Type 0 where
   pub f_is : line_at (before' ++ gap ++ inserted ++ after') (byte_len (before' ++ gap)) ≡ ended before' (gap ++ (inserted ++ after')) + ended gap (inserted ++ after')
   pub g_is : line_at (before' ++ gap ++ inserted ++ after') (byte_len (before' ++ gap ++ inserted))
@@ -108,7 +108,7 @@ places before before' gap removed inserted after after' = record {
   e_is = line-after before gap removed after;
 }
 
--- kept and done, at the start or behind a change, with the lines between that the gap keeps
+-- kept and done, at the start or after a change, with the lines between that the gap keeps
 record Kept (old new : List (List ℕ)) (kept done start e g k k' : ℕ) : Type 0 where
   pub between : take (start - done) (drop done new) ≡ take (start - done) (drop kept old)
   pub far : kept + (start - done) ≤ e + k' + 1
@@ -132,7 +132,7 @@ keeps-first gap after after' start is = record {
   low = omega (arith, is);
 }
 
--- behind a change
+-- after a change
 keeps-next : (before before' gap after after' : List ℕ) (start : ℕ)
     → start ≡ max (ended before' (gap ++ after') + ended gap after') (suc (ended before' (gap ++ after')))
     → Kept (line_texts (before ++ (gap ++ after))) (line_texts (before' ++ (gap ++ after'))) (suc (ended before (gap ++ after))) (suc (ended before' (gap ++ after')))

@@ -1,4 +1,4 @@
--- The position of a place, told by the chunk in which its line starts too.
+-- The position of an offset in the chunk in which its line starts.
 use Rattle.std.proofs.Common.{◌≡◌, ℕ, ◌+◌, ◌-◌, ◌^◌, ◌<◌, ◌≤◌, inl, cond, min, List, ◌++◌, length, take, drop, sym, ap, subst, ◌∙◌, arith, append_assoc, chars, IsUtf8}
 use Rattle.std.specs.Str.{IsCharBoundary}
 use Rattle.std.proofs.Math.Seq.{drop-append-add}
@@ -18,7 +18,7 @@ use Rattle.rope_search_reports.proofs.StartLemmas.{few-lines, walk-from}
 use Rattle.rope_search_reports.proofs.TellerLemmas.{is-shown, is-teller, line-told, reached-there}
 use Rattle.rope_search_reports.proofs.WalkLemmas.{shown-rest, uncut-behind}
 
--- the line of a place, by the breaks of the chunk that end up to it
+-- the line of an offset, from the breaks of the chunk that end up to it
 pub line-of-place : (pieces : List (List ℕ)) (bytes : List ℕ) (place start char first count : ℕ) → IsCutting pieces → IsUtf8 bytes → byte_len (text_of pieces) < 2 ^ 63
     → ShowsChunk pieces byte_len place (chars bytes) start char first → place ≤ byte_len (text_of pieces) → count ≡ ends_up_to (place - start) (break_ends is_break (chars bytes))
     → first + count ≡ line_at (text_of pieces) place
@@ -28,7 +28,7 @@ line-of-place pieces bytes place start char first count cut utf8 fits s inside c
     let teller = is-teller (ends_of_a_part-lines is_break) pieces bytes place start char first cut utf8 s (few-lines text fits) fits in
     ap (λ n. first + n) count_is ∙ line-told (ends_of_a_part-lines is_break) (ends_behind_a_boundary-lines is_break) text bytes start first place teller reach.0 reach.1
 
--- where some do, the line starts in the chunk, behind the last of them
+-- if some do, the line starts in the chunk, after the last of them
 pub walk-in-chunk : (pieces : List (List ℕ)) (place first count : ℕ) (start : LineStart) → IsCutting pieces → IsUtf8 start.chunk.now → byte_len (text_of pieces) < 2 ^ 63
     → ShowsChunk pieces byte_len place (chars start.chunk.now) start.byte_idx start.char_idx first → place ≤ byte_len (text_of pieces)
     → count ≡ ends_up_to (place - start.byte_idx) (break_ends is_break (chars start.chunk.now)) → 0 < count
@@ -70,7 +70,7 @@ walk-in-chunk pieces place first count start cut utf8 fits s inside count_is som
     } in
     (walk-from text (first + count) start starts (omega (arith, line_is, line_inside text place)), here)
 
--- some breaks end in the chunk up to the place, and the last of them there
+-- some breaks end in the chunk up to the offset, and this is where the last of them does
 pub record IsInChunk (text bytes : List ℕ) (first place end count at : ℕ) : Type 0 where
   pub line_is : first + count ≡ line_at text place
   pub few : first + count < 2 ^ 64

@@ -1,4 +1,4 @@
--- The column of a place in a line: code units from the line's start.
+-- The column of an offset in a line: code units from the line's start.
 use Rattle.std.proofs.Common.{◌≡◌, ℕ, ◌+◌, ◌-◌, ◌≤◌, true, List, ◌++◌, length, take, drop, IsUtf8, sym, ap, ◌∙◌, arith, chars, length-append}
 use Rattle.std.specs.Str.{all_scalars, IsCharBoundary}
 use Rattle.std.proofs.lemmas.List.Sums.{sum_by-append}
@@ -12,7 +12,7 @@ use Rattle.rope_search_reports.proofs.ChangeLemmas.{two}
 use Rattle.rope_search_reports.proofs.LineLemmas.{byte_len-append}
 use Rattle.rope_search_reports.proofs.PlaceLemmas.{Split, split_at, scalars-parts, front_of, chars_there, units_there}
 
--- the code units of what stands before it
+-- the code units before it
 pub column-is : (line : List ℕ) (place : ℕ) → all_scalars line ≡ true → (s : Split line place) → column (bytes_of line) place ≡ units s.front
 column-is line place scalars s =
     let bytes : bytes_of line ≡ bytes_of s.front ++ bytes_of s.back = ap bytes_of s.parts ∙ encodes-append s.front s.back in
@@ -21,7 +21,7 @@ column-is line place scalars s =
     let front_scalars = (scalars-parts s.front s.back (sym (ap all_scalars s.parts) ∙ scalars)).0 in
     ap (λ bs. units (chars bs)) taken ∙ ap units (chars-encodes s.front front_scalars)
 
--- where each character takes one byte, it is the place
+-- if each character takes one byte, it is the offset
 pub ascii-column : PlaceLaws → (line : List ℕ) (place : ℕ) → all_scalars line ≡ true → IsCharBoundary (bytes_of line) place → units line ≡ byte_len line
     → place ≡ column (bytes_of line) place
 ascii-column law line place scalars boundary ascii =
@@ -41,7 +41,7 @@ ascii-column law line place scalars boundary ascii =
       column-is line place scalars s,
     )
 
--- else it is told by its character, which is one of the line or its end
+-- otherwise it is computed from its character, which is one of the line or its end
 pub char-column : PlaceLaws → (line : List ℕ) (place char : ℕ) → all_scalars line ≡ true → IsCharBoundary (bytes_of line) place → char ≡ ends_up_to place (char_ends line)
     → (char ≤ length line) × (ends_up_to (end_place (char_ends line) char (byte_len line)) (unit_ends line) ≡ column (bytes_of line) place)
 char-column law line place char scalars boundary is =
@@ -53,7 +53,7 @@ char-column law line place char scalars boundary is =
           ∙ sym (column-is line place scalars s),
     )
 
--- the column of a place, counted on from another
+-- the column of an offset, counted from another one
 pub column-further : (bytes : List ℕ) (place end : ℕ) → IsUtf8 bytes → IsCharBoundary bytes place → place ≤ end
     → column bytes end ≡ column bytes place + units (chars (take (end - place) (drop place bytes)))
 column-further bytes place end utf8 boundary low =
@@ -61,6 +61,6 @@ column-further bytes place end utf8 boundary low =
     ap (λ bs. units (chars bs)) (two bytes place end low) ∙ ap units (chars-append (take place bytes) (take (end - place) (drop place bytes)) first)
     ∙ sum_by-append units_of (chars (take place bytes)) (chars (take (end - place) (drop place bytes)))
 
--- the text of a chunk in its own words
+-- the text of a chunk
 pub own-bytes : (bytes : List ℕ) → IsUtf8 bytes → bytes_of (chars bytes) ≡ bytes
 own-bytes bytes utf8 = encodes-chars bytes utf8

@@ -1,4 +1,4 @@
--- The place of a column in a line's text, and in the text of which that is a line.
+-- The offset of a column in a line's text, and in the text that contains the line.
 use Rattle.std.proofs.Common.{◌≡◌, ℕ, ◌+◌, ◌<◌, ◌≤◌, true, List, ◌++◌, Option, None, Some, length, take, slice_index_or, refl, sym, ap, subst, ◌∙◌, arith, append_assoc, length-append, chars, IsUtf8}
 use Rattle.std.specs.Prelude.{MatchOption, IfSome}
 use Rattle.std.specs.Str.{all_scalars, IsCharBoundary}
@@ -17,9 +17,9 @@ use Rattle.rope_search_reports.proofs.PlaceLemmas.{front_of, chars_there, split_
 use Rattle.rope_search_reports.proofs.SpotsInLines.{few-chars, in_own}
 use Rattle.rope_search_reports.proofs.TextPlaces.{places}
 
--- ---- by the code units up to the place that one leads to
+-- ---- by the code units up to an offset
 
--- it is the place of the column, where these are so many
+-- it is the offset of the column if their number is that
 pub column-found : (own : List ℕ) (column : ℕ) (place : Place) → all_scalars own ≡ true
     → place.byte_idx ≡ slice_index_or (unit_starts own) column (byte_len own) → ends_up_to place.byte_idx (unit_ends own) ≡ column
     → place.char_idx ≡ ends_up_to place.byte_idx (char_ends own) → HasColumn own column place
@@ -35,7 +35,7 @@ column-found own column place scalars byte_is unit_is char_is =
       column_is = sym unit_is ∙ ap (λ n. ends_up_to n (unit_ends own)) s.place_is ∙ f.units_are;
     }
 
--- and else there is none
+-- otherwise there is none
 pub column-missed : (own : List ℕ) (column byte : ℕ) → byte ≡ slice_index_or (unit_starts own) column (byte_len own) → (ends_up_to byte (unit_ends own) ≡ column → ⊥) → HasNoColumn own column
 column-missed own column byte byte_is other front back parts column_is =
     let f = front_of places own front back parts in
@@ -46,7 +46,7 @@ column-missed own column byte byte_is other front back parts column_is =
 pub length-chars : (bytes : List ℕ) → IsUtf8 bytes → length bytes ≡ byte_len (chars bytes)
 length-chars bytes utf8 = sym (ap length (encodes-chars bytes utf8))
 
--- ---- in the text of which it is a line
+-- ---- in the text that contains the line
 
 pub record OnLine (text : List ℕ) (line column : ℕ) (place : Place) : Type 0 where
   pub is : IsPlaceOf text (line, column) place
@@ -84,7 +84,7 @@ in-line text line column text_scalars inside front back parts column_is place by
       few = omega (arith, within, few-chars text);
     }
 
--- told by the line's own text
+-- from the line's own text
 pub on-line : (text : List ℕ) (line column : ℕ) (line_is : OwnLine) (told : List ℕ) (own place : Place) → IsOwnLine text line line_is → told ≡ line_text text line → HasColumn told column own
     → place.byte_idx ≡ line_is.start.byte_idx + own.byte_idx → place.char_idx ≡ line_is.start.char_idx + own.char_idx → OnLine text line column place
 on-line text line column line_is told own place is same there byte_is char_is =
@@ -99,7 +99,7 @@ off-line text line column line_is told is same none place at =
     let h = in_own places text is.scalars line column place at in
     none h.front h.back (same ∙ h.parts) h.units_are
 
--- ---- a place or none
+-- ---- an offset or none
 
 pub place-at : (told : Option Place) (text : List ℕ) (line column : ℕ) → MatchOption told (IsNowhere text (line, column)) (IsPlaceOf text (line, column))
     → MatchOption told (IsNowhere text (line, column)) (λ place. IsAt text (line, column) place.byte_idx)

@@ -1,4 +1,4 @@
--- How many matches a report has at most.
+-- The maximum number of matches of a report.
 use Rattle.std.proofs.Common.{◌≡◌, ℕ, ◌+◌, ◌≤◌, List, [], ◌∷◌, length, sum_by, ap, ⊎_elim, length-append, arith}
 use Rattle.std.proofs.lemmas.Bool.{cases_Bool}
 use Rattle.std.proofs.lemmas.List.{length-map}
@@ -23,7 +23,7 @@ matches-few finds pattern content spans is =
     let few = ((finds is.are.tree).rise (search_from content 0) is.matches is.are.are).few in
     omega (arith, few, ap length is.spans_are, length-map is.matches span_of)
 
--- a line has at most one match more than bytes
+-- a line has at most one more match than bytes
 IsRow-few : AllHaveFinds → (pattern line : List ℕ) (row : List (ℕ × ℕ)) → IsRow pattern line row → length row ≤ length (bytes_of line) + 1
 IsRow-few finds pattern line row is =
     omega (arith, ap length is.shown, length-map is.spans (columns (bytes_of line)), matches-few finds pattern (bytes_of line) is.spans is.are)
@@ -42,7 +42,7 @@ rows-few finds pattern (line ∷ lines) [] are = absurd are
 rows-few finds pattern (line ∷ lines) (row ∷ rows) are =
     omega (arith, rows-few finds pattern lines rows are.1, IsRow-few finds pattern line row are.0, sum_by-cons length row rows, room-cons line lines)
 
--- a line has one character more
+-- a line with one more character
 lines-first : (c : ℕ) (cs : List ℕ) → room (line_texts cs) ≤ length (bytes_of cs) + 1 → line_texts (c ∷ cs) ≡ with_first c (line_texts cs)
     → room (line_texts (c ∷ cs)) ≤ length (bytes_of (c ∷ cs)) + 1
 lines-first c cs later is = by (line_texts cs) later (ap room is)
@@ -53,7 +53,7 @@ lines-first c cs later is = by (line_texts cs) later (ap room is)
     by (line ∷ lines) few e =
         omega (arith, e, few, room-cons (c ∷ line) lines, room-cons line lines, length-append (encode c) (bytes_of line), length-append (encode c) (bytes_of cs))
 
--- a line's break has bytes too, but for the last line, which has none
+-- each line's break has bytes too, except the last line, which has none
 lines-room : (text : List ℕ) → room (line_texts text) ≤ length (bytes_of text) + 1
 lines-room [] = omega (arith, ap room line_texts-nil, room-cons [] [])
 lines-room (c ∷ cs) =
@@ -68,6 +68,6 @@ lines-room (c ∷ cs) =
     (cases_Bool (is_break c)))
     (cases_Bool (ends_break is_break c cs))
 
--- a report has at most one match more than its text has bytes
+-- a report has at most one more match than its text has bytes
 pub report-few : AllHaveFinds → (text pattern : List ℕ) (rows : List (List (ℕ × ℕ))) → IsReport text pattern rows → match_count rows ≤ length (bytes_of text) + 1
 report-few finds text pattern rows is = omega (arith, rows-few finds pattern (line_texts text) rows is, lines-room text)

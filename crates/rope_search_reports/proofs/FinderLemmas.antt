@@ -1,4 +1,4 @@
--- Finders: why a pattern has none, and what is told of a search.
+-- Finders: why a pattern has none, and the result of a search.
 use Rattle.std.proofs.Common.{◌≡◌, ℕ, zero, suc, ◌<◌, ◌≤◌, ◌⊎◌, inl, inr, List, Option, None, Some, length, refl, ap, ap₂, ◌∙◌, arith}
 use Rattle.std.specs.Prelude.{option_map}
 use Rattle.std.proofs.lemmas.List.{take_all}
@@ -15,7 +15,7 @@ pub short-none : (text pattern : List ℕ) → length text ≤ 65536 → (65536 
 short-none text pattern short (inl long) = absurd (omega (arith, short, long))
 short-none text pattern short (inr none) = (short, none)
 
--- what is told of a search is what the pattern finds
+-- the result of a search is what the pattern finds
 pub finds-told : (pattern content : List ℕ) (from : ℕ) (tree : Tree) (span : Option (ℕ × ℕ)) (slots : List (Option ℕ)) → SpellsTree pattern tree
     → FinderTells (TreeFinds tree content from) span slots → FindsSpan pattern content from span
 finds-told pattern content from tree span slots spells told = record {
@@ -24,7 +24,7 @@ finds-told pattern content from tree span slots spells told = record {
   span_is = told.span_is;
 }
 
--- the span of what is found stands in the slots of group 0
+-- the span of a match is in the slots of group 0
 pub whole-told : (slots : List (Option ℕ)) (out : Option FoundMatch) → 2 ≤ length slots → slots ≡ answer_slots (length slots) out
     → ((t : FoundMatch) → out ≡ Some t → HasNotedGroups t) → group_told slots 0 ≡ option_map span_of out
 whole-told slots out two are noted = by (length slots) two out are noted

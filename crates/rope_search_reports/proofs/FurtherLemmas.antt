@@ -1,4 +1,4 @@
--- Where lines start that lie further on.
+-- Where later lines start.
 use Rattle.std.proofs.Common.{◌≡◌, ℕ, zero, suc, ◌+◌, ◌-◌, ◌<◌, ◌≤◌, cond, inl, inr, List, [], ◌++◌, length, refl, ap, ◌∙◌, arith, length-drop}
 use Rattle.std.proofs.lemmas.Bool.{cases_lt}
 use Rattle.str_indices.specs.Text.{breaks, break_ends, byte_len, end_place, ends_up_to}
@@ -10,7 +10,7 @@ use Rattle.rope_search_reports.specs.Drafts.{StartsLine}
 use Rattle.rope_search_reports.proofs.KeptLemmas.{all-ended, behind-it}
 use Rattle.rope_search_reports.proofs.LineLemmas.{lines-counted}
 
--- a line behind a place starts as far from it as it does in what stands behind
+-- a line after an offset starts as far from it as it does in the text after the offset
 line-behind : (before behind : List ℕ) (k : ℕ) → 0 < k → k ≤ breaks is_break behind
     → line_start (before ++ behind) (line_at (before ++ behind) (byte_len before) + k) ≡ byte_len before + line_start behind k
 line-behind before behind k some few =
@@ -32,7 +32,7 @@ line-behind before behind k some few =
           omega (arith, high, low, past)
     ]
 
--- some breaks end in what is left of a chunk from a line on: behind the last of them starts a line
+-- if breaks end in the rest of a chunk from a line on, a line starts after the last of them
 start-further : (text : List ℕ) (line byte : ℕ) (own : List ℕ) (count : ℕ) → StartsLine text line byte own → 0 < count → count ≤ breaks is_break own
     → line_start text (line + count) ≡ byte + end_place (break_ends is_break own) count (byte_len own)
 start-further text line byte own count w some few =

@@ -1,4 +1,4 @@
--- How many lines stand behind the last change.
+-- The number of lines after the last change.
 use Rattle.std.proofs.Common.{◌≡◌, refl, ℕ, ◌+◌, ◌-◌, ◌<◌, ◌≤◌, min, List, ◌++◌, length, sym, ap, ◌∙◌, arith, length-drop}
 use Rattle.str_indices.specs.Text.{breaks, break_ends, byte_len, ends_up_to}
 use Rattle.str_indices.proofs.TextLaws.{conversion_there_and_back-lines, ends_behind_a_boundary-lines}
@@ -17,7 +17,7 @@ all-ended text =
     let back : ends_up_to _ (break_ends is_break text) ≡ min (count + 1) (length (break_ends is_break text)) = conversion_there_and_back-lines is_break text (count + 1) in
     ap (line_at text) (sym (past-last text count refl)) ∙ back ∙ omega arith
 
--- those up to a place, and those of what stands behind it
+-- those up to an offset, and those of the text after it
 pub behind-it : (before after : List ℕ) → breaks is_break (before ++ after) ≡ line_at (before ++ after) (byte_len before) + ends_up_to (byte_len after) (break_ends is_break after)
 behind-it before after =
     let all = before ++ after in
@@ -25,7 +25,7 @@ behind-it before after =
     sym (all-ended all) ∙ ends_behind_a_boundary-lines is_break before after (byte_len all) (omega (arith, byte_len-append before after))
     ∙ ap (λ n. line_at all (byte_len before) + ends_up_to n (break_ends is_break after)) width
 
--- what a walk shows of a chunk tells the lines of places
+-- the lines of offsets, from what a walk shows of a chunk
 pub teller-of-walk : (text : List ℕ) (line byte : ℕ) (rest : List ℕ) → IsWalk text line byte rest → line < line_count text → IsTeller text rest byte line
 teller-of-walk text line byte rest w below =
     let start = w.starts below in

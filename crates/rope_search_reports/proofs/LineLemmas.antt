@@ -1,4 +1,4 @@
--- The lines of a text: the first one cut off, the lines of joined texts, and where each line lies.
+-- The lines of a text: the first one split off, the lines of joined texts, and where each line is.
 use Rattle.std.proofs.Common.{◌≡◌, ℕ, zero, suc, ◌+◌, ◌-◌, ◌<◌, ◌==◌, Bool, true, false, not, cond, ◌&&◌, List, [], ◌∷◌, ◌++◌, length, replicate, take, drop, slice_index_or, refl, sym, ap, ◌∙◌, subst, ◌⊎◌, inl, inr, append-nil, arith, append_assoc, length-append}
 use Rattle.std.proofs.Math.Seq.{take-append_seam, drop-append_seam}
 use Rattle.std.proofs.Math.Utf8.{encode}
@@ -36,7 +36,7 @@ line_texts-more c rest is_not is_not' = cond-false _ _ _ is_not ∙ cond-false _
 no_break-ends_none : (c : ℕ) (rest : List ℕ) → is_break c ≡ false → ends_break is_break c rest ≡ false
 no_break-ends_none c rest is_not = ap (λ b. b && not ((c == 13) && starts_with_lf rest)) is_not
 
--- ---- how many lines there are
+-- ---- the number of lines
 
 with_first-length : (c : ℕ) (lines : List (List ℕ)) → 0 < length lines → length (with_first c lines) ≡ length lines
 with_first-length c [] some = absurd (omega (arith, some))
@@ -78,7 +78,7 @@ lines-from at (c ∷ cs) =
 pub lines-counted : (text : List ℕ) → length (line_texts text) ≡ breaks is_break text + 1
 lines-counted text = lines-from 0 text
 
--- ---- the first line, cut off
+-- ---- the first line, split off
 
 -- a line, its break, and the rest
 pub record IsCutOff (text : List ℕ) : Type 0 where
@@ -133,14 +133,14 @@ break-lines (c ∷ []) rest is = line_texts-break c rest is
 break-lines (c ∷ d ∷ []) rest is = lines-crlf c d rest is.0 is.1
 break-lines (c ∷ d ∷ e ∷ es) rest is = absurd is
 
--- behind a line and its break come the lines of the rest
+-- a line and its break are followed by the lines of the rest
 pub lines-cut : (line one rest : List ℕ) → NonePass is_break line → IsBreak is_break one rest → line_texts (line ++ (one ++ rest)) ≡ line ∷ line_texts rest
 lines-cut line one rest plain is = line-cut line (one ++ rest) (line_texts rest) plain (break-lines one rest is)
 
 some-lines : (text : List ℕ) → 0 < length (line_texts text)
 some-lines text = omega (arith, lines-counted text)
 
--- ---- where lines lie
+-- ---- where lines are
 
 pub byte_len-append : (xs ys : List ℕ) → byte_len (xs ++ ys) ≡ byte_len xs + byte_len ys
 byte_len-append xs ys = ap length (encodes-append xs ys) ∙ length-append (bytes_of xs) (bytes_of ys)
@@ -179,7 +179,7 @@ ends-break at (c ∷ d ∷ []) rest is =
     ends-none at c (d ∷ rest) cr ∙ ends-ends (at + len_utf8 c) d rest lf ∙ ap (λ n. n ∷ ends_at n rest) same
 ends-break at (c ∷ d ∷ e ∷ es) rest is = absurd is
 
--- where a line starts in a text that starts at a place
+-- where a line starts in a text that starts at an offset
 abbrev pub start_at : ℕ → List ℕ → ℕ → ℕ → ℕ
 start_at at ends zero last = at
 start_at at ends (suc k) last = slice_index_or ends k last
@@ -191,7 +191,7 @@ start-later at e es (suc k) last = refl
 abbrev nth : List (List ℕ) → ℕ → List ℕ
 nth lines k = slice_index_or lines k []
 
--- behind a line of a text that starts at a place stands one break, and then the next line
+-- a line of a text that starts at an offset is followed by one break, and then the next line
 record IsBroken (at last : ℕ) (text : List ℕ) (k : ℕ) (before behind : List ℕ) : Type 0 where
   pub more : k + 1 < length (line_texts text)
   pub one : List ℕ
@@ -200,7 +200,7 @@ record IsBroken (at last : ℕ) (text : List ℕ) (k : ℕ) (before behind : Lis
   pub is : IsBreak is_break one rest
   pub next : start_at at (ends_at at text) (suc k) last ≡ at + byte_len before + byte_len (nth (line_texts text) k) + byte_len one
 
--- such a line, and what lies round it
+-- such a line, and the text around it
 record Lies (at last : ℕ) (text : List ℕ) (k : ℕ) : Type 0 where
   pub before : List ℕ
   pub behind : List ℕ
@@ -255,7 +255,7 @@ lies-first at last text = elim (first_line text) [
       }
 ]
 
--- a CR ends two joined texts where it ends the second, if that isn't empty
+-- a CR ends two joined texts if it ends the second, unless that is empty
 pub ends-joined_cr : (s : List ℕ) (c : ℕ) (cs : List ℕ) → ends_with_cr (s ++ c ∷ cs) ≡ ends_with_cr (c ∷ cs)
 ends-joined_cr [] c cs = refl
 ends-joined_cr (d ∷ []) c cs = refl
@@ -265,7 +265,7 @@ no-crlf : (b : Bool) → (b && false) ≡ false
 no-crlf true = refl
 no-crlf false = refl
 
--- no CR LF is cut behind a break
+-- no CR LF is split after a break
 break-whole : (line one rest : List ℕ) → IsBreak is_break one rest → NoCrLfBetween (line ++ one) rest
 break-whole line [] rest is = absurd is
 break-whole line (c ∷ []) [] is = no-crlf (ends_with_cr (line ++ c ∷ []))
@@ -274,7 +274,7 @@ break-whole line (c ∷ d ∷ []) rest is =
     ap (λ b. b && starts_with_lf rest) (ends-joined_cr line c (d ∷ []) ∙ ap (λ n. n == 13) is.1)
 break-whole line (c ∷ d ∷ e ∷ es) rest is = absurd is
 
--- nor further on, where none is cut in the rest
+-- nor further on, if none is split in the rest
 whole-behind : (line one rest before after : List ℕ) → IsBreak is_break one rest → rest ≡ before ++ after → NoCrLfBetween before after → NoCrLfBetween ((line ++ one) ++ before) after
 whole-behind line one rest [] after is parts whole =
     ap (λ t. cuts_cr_lf t after) (append-nil (line ++ one)) ∙ subst (NoCrLfBetween (line ++ one)) parts (break-whole line one rest is)
@@ -332,7 +332,7 @@ pub start-is : (ends : List ℕ) (k last : ℕ) → end_place ends k last ≡ st
 start-is ends zero last = refl
 start-is ends (suc k) last = refl
 
--- each line lies between the breaks
+-- each line is between the breaks
 pub lines-in-place : (text : List ℕ) (line : ℕ) → line < line_count text → LiesInPlace text line
 lines-in-place text line inside =
     let last = length (bytes_of text) in

@@ -1,4 +1,4 @@
--- How many rows patches bring.
+-- The number of rows that patches insert.
 use Rattle.std.proofs.Common.{◌≡◌, ℕ, ◌+◌, ◌-◌, ◌^◌, ◌≤◌, min, List, [], ◌∷◌, ◌++◌, length, take, drop, inl, inr, ap, arith, length-append, length-drop}
 use Rattle.std.proofs.lemmas.List.{length-take}
 use Rattle.std.proofs.lemmas.List.Sums.{sum_by-append}
@@ -11,25 +11,25 @@ use Rattle.rope_search_reports.specs.declared.patches.Patch.{Patch}
 use Rattle.rope_search_reports.proofs.LineLemmas.{lines-counted}
 use Rattle.rope_search_reports.proofs.ReportLaws.{AreRows-length}
 
--- the rows of some lines are as many as these
+-- the number of rows of some lines
 pub rows-counted : (pattern text : List ℕ) (first end : ℕ) (rows : List (List (ℕ × ℕ))) → first ≤ end → end ≤ line_count text
     → AreRows pattern (take (end - first) (drop first (line_texts text))) rows → length rows ≡ end - first
 rows-counted pattern text first end rows low high are =
     let lines = drop first (line_texts text) in
     omega (arith, AreRows-length pattern (take (end - first) lines) rows are, length-take (end - first) lines, length-drop first (line_texts text), lines-counted text, low, high)
 
--- one patch more
+-- one more patch
 pub made-more : (patches patches' : List Patch) (patch : Patch) → patches' ≡ patches ++ patch ∷ [] → made_by patches' ≡ made_by patches + length patch.made.items
 made-more patches patches' patch is =
     omega (arith, ap made_by is, sum_by-append (λ (p : Patch). length p.made.items) patches (patch ∷ []))
 
--- also where it goes into the last one
+-- also if it is merged into the last one
 pub made-added : (patches patches' : List Patch) (patch : Patch) → IsPatchAdded patches patch patches' → made_by patches' ≡ made_by patches + length patch.made.items
 made-added patches patches' patch (inl is) = made-more patches patches' patch is
 made-added patches patches' patch (inr g) =
     omega (arith, made-more g.others patches' g.joined g.new_is, made-more g.others patches g.last g.old_is, ap length g.rows, length-append g.last.made.items patch.made.items)
 
--- as many rows are counted
+-- equally many rows are counted
 pub counted-made : (start old new : Ticks) (made more all count : ℕ) → min (start.count + made) (2 ^ 64 - 1) ≤ old.count → MakesAsMany more old new → all ≡ made + count → count ≡ more
     → min (start.count + all) (2 ^ 64 - 1) ≤ new.count
 counted-made start old new made more all count so many sum same =

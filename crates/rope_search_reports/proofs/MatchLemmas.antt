@@ -1,4 +1,4 @@
--- What is found of a pattern: it is one thing, and where it lies.
+-- A search for a pattern: it has one result, and where that is.
 use Rattle.std.proofs.Common.{◌≡◌, ℕ, ◌+◌, ◌-◌, ◌<◌, ◌≤◌, inl, inr, List, [], ◌∷◌, ◌++◌, Option, None, Some, length, map, refl, sym, ap, subst, ◌∙◌, arith}
 use Rattle.std.specs.Prelude.{option_map}
 use Rattle.std.specs.List.{last_or}
@@ -17,7 +17,7 @@ use Rattle.rope_search_reports.specs.Laws.{IsPatternOrNot, IsOneOfThree, IsInTex
 abbrev pub AllHaveFinds : Type 0
 AllHaveFinds = (tree : Tree) → HasFinds tree
 
--- each match that is found of a tree has noted its groups
+-- each match of a tree has noted its groups
 abbrev pub AllNote : Tree → List ℕ → Type 0
 AllNote tree content = (from : ℕ) (t : FoundMatch) → TreeFinds tree content from (Some t) → HasNotedGroups t
 
@@ -43,7 +43,7 @@ one-of-three law = record {
   heavy_some = λ text heavy none. none heavy.tree heavy.spells;
 }
 
--- ---- what is found
+-- ---- what a search finds
 
 pub match-one : SpellsOneTree → AllHaveFinds → (pattern content : List ℕ) (from : ℕ) (a b : Option FoundMatch) → FindsMatch pattern content from a → FindsMatch pattern content from b → a ≡ b
 match-one trees finds pattern content from a b one other =
@@ -62,7 +62,7 @@ has-find finds pattern content from is =
       record { found = found.0; is = record { tree = is.0; spells = is.1.spells; finds = found.1 }; span_is = refl },
     )
 
--- a match of a tree lies in the content, behind the place from which it was searched
+-- a match of a tree is in the haystack, after the start of the search
 pub record LiesBehind (content : List ℕ) (from : ℕ) (t : FoundMatch) : Type 0 where
   pub behind : from ≤ start_of t
   pub ordered : start_of t ≤ end_of t
@@ -79,14 +79,14 @@ stands tree content from t has utf8 finds =
     let h = has.at_boundaries (search_from content from) t utf8 refl finds in
     (h.start, h.end)
 
--- ---- what comes next
+-- ---- the next match
 
--- it is found from some place on, behind the last match
+-- it is found from some offset on, after the last match
 pub comes-from : (tree : Tree) (content : List ℕ) (last : Option ℕ) (t : FoundMatch) → TreeFindsNext tree content last (Some t) → (from : ℕ) × TreeFinds tree content from (Some t)
 comes-from tree content last t (at_once finds other) = (start_behind last, finds)
 comes-from tree content last t (passed found empty later) = (start_behind last + 1, later)
 
--- how far a search for what comes next may go: less with each match
+-- how far a search for the next match may go: less with each match
 abbrev pub room_behind : ℕ → Option ℕ → ℕ
 room_behind len None = len + 1
 room_behind len (Some end) = len - end
@@ -113,7 +113,7 @@ comes-further tree content (Some end) t has (passed found empty later) =
 some-same : {A : Type 0} (a b : A) → Some a ≡ Some b → a ≡ b
 some-same a b e = cc
 
--- in the words of the list of matches
+-- as the list of matches defines it
 pub comes-behind : (tree : Tree) (content : List ℕ) (last : Option FoundMatch) (out : Option FoundMatch) → TreeFindsNext tree content (option_map end_of last) out
     → BehindLast (finds_on (TreeFindsIn tree) (search_from content 0)) 0 last out
 comes-behind tree content None None (nothing finds) = finds
@@ -127,7 +127,7 @@ comes-behind tree content (Some a) out (passed found empty later) =
 
 -- ---- the matches so far
 
--- these are the first ones, the last of them ends there, and this is what is shown of each
+-- these are the first ones, the last of them ends there, and this is shown of each
 pub record Searched {A : Type 0} (shows : FoundMatch → A) (tree : Tree) (content : List ℕ) (last : Option ℕ) (items : List A) : Type 0 where
   pub matches : List FoundMatch
   pub first : FirstTreeMatches tree content matches

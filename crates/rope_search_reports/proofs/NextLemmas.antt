@@ -1,4 +1,4 @@
--- What comes next behind a match: where it is looked for, and what is told of it.
+-- The match after another one: where the search for it starts, and its result.
 use Rattle.std.proofs.Common.{◌≡◌, ℕ, List, Option, None, Some, length, ap, ◌∙◌}
 use Rattle.std.specs.Prelude.{option_map}
 use Rattle.regex_cursor.specs.Patterns.{Asked, AsksFrom, InputState, FoundMatch, answer_slots}
@@ -8,14 +8,14 @@ use Rattle.rope_search_reports.specs.Finders.{FinderTells}
 some-is : {A : Type 0} (a b : A) → Some a ≡ Some b → a ≡ b
 some-is a b e = cc
 
--- a search that starts at another place
+-- a search that starts at another offset
 pub asks-moved : (content : List ℕ) (from start : ℕ) (old new : InputState) → AsksFrom content from old → new.cursor.content ≡ old.cursor.content
     → new.asked ≡ record old.asked { span = record old.asked.span { start = start } } → AsksFrom content start new
 asks-moved content from start old new asks same asked =
     let started : Asked → Asked = λ a. record a { span = record a.span { start = start } } in
     record { content_is = same ∙ asks.content_is; asked_is = asked ∙ ap started asks.asked_is }
 
--- a match that is told is one that was found
+-- a match that is returned is one that was found
 pub record ToldMatch (P : Option FoundMatch → Type 0) (span : ℕ × ℕ) (slots : List (Option ℕ)) : Type 0 where
   pub t : FoundMatch
   pub is : P (Some t)

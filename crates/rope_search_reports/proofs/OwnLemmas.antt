@@ -1,4 +1,4 @@
--- A line's text, where it lies, is text.
+-- A line in place is text.
 use Rattle.std.proofs.Common.{◌≡◌, ◌+◌, ◌-◌, ◌≤◌, ℕ, true, List, length, take, drop, refl, ap, subst, ◌∙◌, arith, chars, IsUtf8}
 use Rattle.std.specs.Borrow.{Bor}
 use Rattle.std.specs.Str.{all_scalars, IsCharBoundary}
@@ -20,13 +20,13 @@ own-scalars (Parted slice) holds = holds
 pub own-utf8 : (line : Line) → HoldsText line → IsUtf8 (bytes_of (own_text line))
 own-utf8 line holds = (own_text line, (own-scalars line holds, refl))
 
--- in one chunk these are its bytes
+-- in one chunk it has these bytes
 pub whole-bytes : (line : Line) (text : Bor (List ℕ)) → line ≡ Whole text → HoldsText line → bytes_of (own_text line) ≡ text.now
 whole-bytes line text is holds =
     let utf8 : IsUtf8 text.now = subst HoldsText is holds in
     ap (λ l. bytes_of (own_text l)) is ∙ encodes-chars text.now utf8
 
--- a place there, and the column counted on to another one
+-- an offset there, and the column counted up to another one
 pub record CountsOn (bytes : List ℕ) (place end : ℕ) : Type 0 where
   pub starts : IsCharBoundary bytes place
   pub ends : IsCharBoundary bytes end

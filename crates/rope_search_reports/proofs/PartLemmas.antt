@@ -1,4 +1,4 @@
--- The lines of a rope as its slices, and their texts.
+-- The lines of a rope as slices, and their texts.
 use Rattle.std.proofs.Common.{◌≡◌, ℕ, zero, suc, ◌+◌, ◌-◌, ◌<◌, ◌≤◌, ◌==◌, Bool, true, false, not, ◌&&◌, inl, inr, List, [], ◌∷◌, ◌++◌, length, take, drop, nat_lt, refl, sym, ap, ◌∙◌, arith, append-nil, append_assoc}
 use Rattle.std.proofs.Math.Seq.{take-append_seam, drop-append_seam}
 use Rattle.std.proofs.lemmas.Bool.{cases_Bool, cond-true, cond-false}
@@ -63,14 +63,14 @@ break-alone false cr lf is = is
 break-alone true false lf is = refl
 break-alone true true lf is = refl
 
--- a break is one where nothing follows it
+-- a break is one if nothing follows it
 break-last : (one behind : List ℕ) → IsBreak is_break one behind → IsBreak is_break one []
 break-last [] behind is = is
 break-last (c ∷ []) behind is = break-alone (is_break c) (c == 13) _ is
 break-last (c ∷ d ∷ []) behind is = is
 break-last (c ∷ d ∷ e ∷ es) behind is = is
 
--- where the line behind the last one would start
+-- where the line after the last one would start
 pub past-last : (text : List ℕ) (line : ℕ) → line + 1 ≡ line_count text → line_start text (line + 1) ≡ byte_len text
 past-last text line is_last =
     let all = byte_len text in
@@ -79,11 +79,11 @@ past-last text line is_last =
     ap (line_start text) same ∙ get_or_past ends line all (omega (arith, is_last))
 
 module _ (law : PlaceLaws) where
-  -- the character at which a line starts, where so much stands before it
+  -- the character at which a line starts, from the text before it
   char-is : (text front behind : List ℕ) (line : ℕ) → text ≡ front ++ behind → line_start text line ≡ byte_len front → char_of_line text line ≡ length front
   char-is text front behind line parts starts = ap (λ n. ends_up_to n (char_ends text)) starts ∙ (front_of law text front behind parts).chars_are
 
-  -- a part of a text by the characters before it and before its end
+  -- a part of a text, from the characters before it and before its end
   part-is : (pieces : List (List ℕ)) (start end : ℕ) (before part behind : List ℕ) → text_of pieces ≡ before ++ (part ++ behind) → start ≡ length before → end ≡ length (before ++ part)
       → text_of (clip start end pieces) ≡ part
   part-is pieces start end before part behind parts starts ends =
@@ -93,7 +93,7 @@ module _ (law : PlaceLaws) where
       ∙ ap (drop start) (take-append_seam (before ++ part) behind)
       ∙ ap (λ n. drop n (before ++ part)) starts ∙ drop-append_seam before part
 
-  -- a line's pieces are its text and the break that ends it
+  -- a line's pieces are its text and its break
   pub line-is : (pieces : List (List ℕ)) (line : ℕ) → line < line_count (text_of pieces) → HasOwnText (text_of (line_pieces pieces line)) (line_text (text_of pieces) line)
   line-is pieces line inside =
       let text = text_of pieces in

@@ -1,4 +1,4 @@
--- A step of a search that goes on: what is told of the match that comes next, and what is left then.
+-- A step of a search that continues: the next match, and the state after it.
 use Rattle.std.proofs.Common.{◌≡◌, ℕ, ◌≤◌, Bool, true, false, List, Option, None, Some, length, refl, sym, ap, subst, ◌∙◌}
 use Rattle.std.specs.Prelude.{option_map, IfNone, IfOk, IfSome, Result, Ok}
 use Rattle.regex_cursor.specs.Linear.{GivesSlots, IsLeftBehind, LinearState, left_of}
@@ -13,7 +13,7 @@ use Rattle.rope_search_reports.proofs.FinderLemmas.{whole-told}
 use Rattle.rope_search_reports.proofs.MatchLemmas.{comes-from, lies-behind}
 use Rattle.rope_search_reports.proofs.NextLemmas.{asks-moved}
 
--- what a step tells, in the words of the search: something where it isn't over, and nothing where it is
+-- the result of a step: a match or none if the search isn't over, otherwise none
 pub record Step (re : RegexView) (m n : LinearState) (pattern : Option ℕ) (slots : List (Option ℕ)) : Type 0 where
   pub next : m.is_over ≡ false → GivesSlots (EngineFinds re.engine) (left_of re.engine m) pattern slots (left_of re.engine n)
   pub over : m.is_over ≡ true → pattern ≡ None
@@ -28,7 +28,7 @@ step-of re m n result pattern slots is next over stays_over = record {
   stays_over = stays_over;
 }
 
--- what is left behind what came
+-- the state after the match
 abbrev pub IsLeft : Option FoundMatch → LinearState → Type 0
 IsLeft None n = n.is_over ≡ true
 IsLeft (Some t) n = (n.last_end ≡ Some (end_of t)) × (n.is_over ≡ false) × (n.input.asked.span.start ≡ end_of t)
@@ -37,7 +37,7 @@ left-is : (re : RegexView) (m n : LinearState) (out : Option FoundMatch) → IsL
 left-is re m n None is = is
 left-is re m n (Some t) is = (ap (λ l. l.last_end) is, ap (λ l. l.is_over) is, ap (λ l. l.search.start) is)
 
--- what came, in the words of the tree
+-- the match, by the tree
 pub record Came (tree : Tree) (content : List ℕ) (m n : LinearState) (pattern : Option ℕ) (slots : List (Option ℕ)) : Type 0 where
   pub out : Option FoundMatch
   pub comes : TreeFindsNext tree content m.last_end out
@@ -64,13 +64,13 @@ came-of text re built content m n pattern slots step on asks two =
       left = left-is re m n gives.out gives.left_is;
     }
 
--- ---- what is told of it
+-- ---- its result
 
 pub came-told : (tree : Tree) (content : List ℕ) (m n : LinearState) (pattern : Option ℕ) (slots : List (Option ℕ)) → Came tree content m n pattern slots
     → FinderTells (TreeFindsNext tree content m.last_end) (group_told slots 0) slots
 came-told tree content m n pattern slots came = record { out = came.out; is = came.comes; span_is = came.whole; slots_are = came.slots_are }
 
--- ---- what is left
+-- ---- the state after it
 
 pub came-on : (tree : Tree) (content : List ℕ) (m n : LinearState) (pattern : Option ℕ) (slots : List (Option ℕ)) (span : ℕ × ℕ) → Came tree content m n pattern slots → group_told slots 0 ≡ Some span
     → (n.last_end ≡ Some span.1) × (n.is_over ≡ false)
@@ -89,7 +89,7 @@ came-ends tree content m n pattern slots came is = by came.out (sym is ∙ came.
     by None e left = left
     by (Some t) e left = absurd (cc e)
 
--- it asks for what lies behind the last match, in the content
+-- it searches after the last match, in the haystack
 abbrev pub AsksBehind : LinearState → Type 0
 AsksBehind m = AsksFrom m.input.cursor.content (start_behind m.last_end) m.input × (start_behind m.last_end ≤ length m.input.cursor.content)
 
@@ -100,7 +100,7 @@ asks-behind n content start end last at same asks inside =
     let Asks : List ℕ → Option ℕ → Type 0 = λ cs l. AsksFrom cs (start_behind l) n.input × (start_behind l ≤ length cs) in
     subst (λ cs. Asks cs n.last_end) (sym same) (subst (λ l. Asks content l) (sym last) (asks', inside))
 
--- the end of what comes next lies in the content
+-- the end of the next match is in the haystack
 ends-inside : (tree : Tree) (content : List ℕ) (last : Option ℕ) (t : FoundMatch) → HasFinds tree → TreeFindsNext tree content last (Some t) → end_of t ≤ length content
 ends-inside tree content last t has comes =
     let from = comes-from tree content last t comes in
@@ -117,7 +117,7 @@ came-behind tree m n pattern slots start has came asks same asked on = by came.o
         let moved = asks-moved m.input.cursor.content (start_behind m.last_end) start m.input n.input asks.0 same asked in
         asks-behind n m.input.cursor.content start (end_of t) left.0 (sym starts ∙ left.2) same moved (ends-inside tree m.input.cursor.content m.last_end t has comes)
 
--- so it does behind a step, if it goes on
+-- so it does after a step, if it continues
 pub step-behind : (text : List ℕ) (re : RegexView) → IsRegexOf text re → (m n : LinearState) (pattern : Option ℕ) (slots : List (Option ℕ)) (start : ℕ) → Step re m n pattern slots
     → (m.is_over ≡ false → AsksBehind m) → 2 ≤ length slots → n.input.cursor.content ≡ m.input.cursor.content
     → n.input.asked ≡ record m.input.asked { span = record m.input.asked.span { start = start } } → n.is_over ≡ false → AsksBehind n
@@ -129,7 +129,7 @@ step-behind text re built m n pattern slots start step asks two same asked on = 
         let came = came-of text re built m.input.cursor.content m n pattern slots step is (asks is).0 two in
         came-behind built.tree m n pattern slots start (finds_of_trees built.tree) came (asks is) same asked on
 
--- it wasn't over where a match is told
+-- it wasn't over if a match is returned
 pub on-of : (re : RegexView) (m n : LinearState) (pattern : Option ℕ) (k : ℕ) (slots : List (Option ℕ)) → Step re m n pattern slots → pattern ≡ Some k → m.is_over ≡ false
 on-of re m n pattern k slots step is = by m.is_over refl
   where
@@ -143,7 +143,7 @@ pass_state m re = record { content = m.input.cursor.content; last = m.last_end; 
 abbrev pub gone_on : PassState → ℕ → PassState
 gone_on p end = record { content = p.content; last = Some end; is_over = false; by = p.by }
 
--- what the search is then, as contracts see it
+-- the view of the search then
 pub goes-on : (tree : Tree) (m n : LinearState) (pattern : Option ℕ) (slots : List (Option ℕ)) (told : Option (ℕ × ℕ)) (re : RegexView) (p : PassState) → Came tree m.input.cursor.content m n pattern slots
     → told ≡ group_told slots 0 → n.input.cursor.content ≡ m.input.cursor.content
     → pass_state m re ≡ p

@@ -1,5 +1,5 @@
--- Places of a text between its characters: what stands before one in characters, in code units and
--- in lines, and the line's start before it.
+-- Offsets of a text at character boundaries: the characters, code units and lines before one, and
+-- the start of its line.
 use Rattle.std.proofs.Common.{◌≡◌, ℕ, nat_le, ◌+◌, ◌-◌, ◌<◌, ◌≤◌, true, List, [], ◌∷◌, ◌++◌, length, take, drop, min, get_or, slice_index_or, refl, ap, arith, sym, ◌∙◌, subst, append-nil, append_assoc, chars}
 use Rattle.std.specs.Str.{all_scalars, IsUtf8, IsCharBoundary}
 use Rattle.std.proofs.Math.Seq.{take-append_seam, drop-append_seam}
@@ -37,9 +37,9 @@ rope-scalars [] cut = refl
 rope-scalars (p ∷ []) cut = scalars-joined p [] cut.scalars refl
 rope-scalars (p ∷ q ∷ ps) cut = scalars-joined p (text_of (q ∷ ps)) cut.0.scalars (rope-scalars (q ∷ ps) cut.2)
 
--- ---- a text cut at a place
+-- ---- a text split at an offset
 
--- what stands before a place, and what behind it
+-- the text before an offset, and the text after it
 pub record Split (text : List ℕ) (place : ℕ) : Type 0 where
   pub front : List ℕ
   pub back : List ℕ
@@ -58,7 +58,7 @@ split_at text place scalars boundary =
       place_is = sym (ap length (encodes-chars (take place bytes) first) ∙ length-take-le place bytes boundary.0);
     }
 
--- of two fronts of a text the one with fewer bytes is a front of the other
+-- of two prefixes of a text the one with fewer bytes is a prefix of the other
 pub front_within : (l r f b : List ℕ) → l ++ r ≡ f ++ b → byte_len l ≤ byte_len f → (mid : List ℕ) × (f ≡ l ++ mid)
 front_within [] r f b e low = (f, refl)
 front_within (c ∷ cs) r [] b e low = absurd (omega (arith, low, byte_len-one c cs, (len_utf8_bounds c).0))
@@ -68,10 +68,10 @@ front_within (c ∷ cs) r (d ∷ ds) b e low =
     let later = front_within cs r ds b rest (omega (arith, low, byte_len-one c cs, byte_len-one d ds, ap len_utf8 same)) in
     (later.0, ap (λ t. d ∷ t) later.1 ∙ ap (λ k. k ∷ (cs ++ later.0)) (sym same))
 
--- ---- what stands before a place
+-- ---- before an offset
 
--- so many characters and code units stand in a text's front, and back from these counts leads to
--- where it ends
+-- the number of characters and code units in a text's prefix; these counts lead back to where it
+-- ends
 pub record IsFrontOf (text front : List ℕ) : Type 0 where
   pub chars_are : ends_up_to (byte_len front) (char_ends text) ≡ length front
   pub units_are : ends_up_to (byte_len front) (unit_ends text) ≡ units front
@@ -112,7 +112,7 @@ module _ (law : PlaceLaws) where
   pub front_of : (text front back : List ℕ) → text ≡ front ++ back → IsFrontOf text front
   front_of text front back parts = subst (λ (t : List ℕ). IsFrontOf t front) (sym parts) (front_of_joined front back)
 
-  -- the way from a byte to its code unit
+  -- from a byte to its code unit
   pub units_there : (text front : List ℕ) (place : ℕ) → IsFrontOf text front → place ≡ byte_len front
       → ends_up_to (end_place (char_ends text) (ends_up_to place (char_ends text)) (byte_len text)) (unit_ends text) ≡ units front
   units_there text front place h e =
@@ -123,9 +123,9 @@ module _ (law : PlaceLaws) where
   pub chars_there : (text front : List ℕ) (place : ℕ) → IsFrontOf text front → place ≡ byte_len front → ends_up_to place (char_ends text) ≡ length front
   chars_there text front place h e = ap (λ n. ends_up_to n (char_ends text)) e ∙ h.chars_are
 
--- ---- a place in its line
+-- ---- an offset in its line
 
--- what stands before the line of a place, from there to the place, and behind the place
+-- the text before the offset's line, from there to the offset, and after the offset
 pub record InLine (text : List ℕ) (place : ℕ) : Type 0 where
   pub before : List ℕ
   pub mid : List ℕ
@@ -136,11 +136,11 @@ pub record InLine (text : List ℕ) (place : ℕ) : Type 0 where
   pub same : line.before ≡ before
   pub column : column_at text place ≡ units mid
 
--- a text's parts, from one front on
+-- a text's parts, from one prefix on
 pub cut_off : (xs ys zs : List ℕ) → xs ++ ys ≡ xs ++ zs → ys ≡ zs
 cut_off xs ys zs e = sym (drop-append_seam xs ys) ∙ ap (drop (length xs)) e ∙ drop-append_seam xs zs
 
--- a place is in one of the lines
+-- an offset is in one of the lines
 pub line_inside : (text : List ℕ) (place : ℕ) → line_at text place < line_count text
 line_inside text place =
     let few = count_by-le-length (λ e. nat_le e place) (break_ends is_break text) in
@@ -180,14 +180,14 @@ module _ (law : PlaceLaws) (text : List ℕ) (scalars : all_scalars text ≡ tru
         column = ap (λ bs. units (chars bs)) taken ∙ ap units (chars-encodes mid spelled);
       }
 
--- the line's start and the place, each in characters and in code units
+-- the line's start and the offset, each in characters and in code units
 pub record Reached (text : List ℕ) (place line start_char start at_char at : ℕ) : Type 0 where
   pub start_within : start_char ≤ length text
   pub at_within : at_char ≤ length text
   pub order : start ≤ at
   pub column : at - start ≡ column_at text place
 
--- the code units before the line's start, and those before the place
+-- the code units before the line's start, and those before the offset
 pub record CountsColumn (text : List ℕ) (place : ℕ) : Type 0 where
   pub order : ends_up_to (line_start text (line_at text place)) (unit_ends text) ≤ ends_up_to place (unit_ends text)
   pub column : ends_up_to place (unit_ends text) - ends_up_to (line_start text (line_at text place)) (unit_ends text) ≡ column_at text place

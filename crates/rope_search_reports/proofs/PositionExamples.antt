@@ -1,4 +1,4 @@
--- What positions are in a few small texts, each by computation.
+-- Positions in a few small texts, by computation.
 use Rattle.std.specs.Prelude.{◌≡◌, [], ◌∷◌, codes, refl}
 use Rattle.std.specs.Str.{chars}
 use Rattle.std.proofs.Math.Utf8.{encode}
@@ -11,7 +11,7 @@ use Rattle.rope_search_reports.specs.Position.{line_at, line_start, text_end, po
 pub ends_mixed : break_ends is_break (97 ∷ 13 ∷ 10 ∷ 0x2028 ∷ 13 ∷ []) ≡ 3 ∷ 7 ∷ []
 ends_mixed = refl
 
--- between CR and LF it is still the line that the break ends
+-- the offset between CR and LF is in the line that the break ends
 pub line_in_crlf : line_at (codes "\r\n") 1 ≡ 0
 line_in_crlf = refl
 

@@ -1,4 +1,4 @@
--- Rows that are moved one by one, and patches put in their places.
+-- Rows that are moved one by one, and patches that are applied.
 use Rattle.std.proofs.Common.{◌≡◌, MatchOption, ℕ, zero, suc, ◌+◌, ◌-◌, ◌<◌, ◌≤◌, List, [], ◌∷◌, ◌++◌, length, take, drop, Option, None, Some, sym, ap, ◌∙◌, subst, arith, append_assoc, length-append, length-take, length-drop}
 use Rattle.std.specs.Option.{option_to_list}
 use Rattle.std.proofs.lemmas.List.{drop-drop, drop-append-le, take-append-le, take-take, drop-take, length-take-le}
@@ -6,7 +6,7 @@ use Rattle.std.proofs.lemmas.List.Sums.{sum_by-append, sum_by-cons}
 use Rattle.rope_search_reports.specs.declared.patches.Patch.{Patch}
 use Rattle.rope_search_reports.specs.Patches.{patched, AreInTurn, growth_by, growth_of}
 
--- what one step of an iterator moves
+-- one step of an iterator
 pub record Stepped {A : Type 0} (all ys : List A) (i : ℕ) (r : Option A) : Type 0 where
   pub left : ys ≡ drop (i + 1) all
   pub moved : take (i + 1) all ≡ take i all ++ option_to_list r
@@ -33,13 +33,13 @@ stepped all xs ys i n m (Some x) is less len some = next-drop all ys i x (sym is
 
 -- ---- patches
 
--- patches in turn end inside the list
+-- patches in order end inside the list
 pub turn-within : (at len : ℕ) (patches : List Patch) → AreInTurn at len patches → at ≤ len
 turn-within at len [] turn = turn
 turn-within at len (p ∷ ps) turn = omega (arith, turn.0, turn.1, turn-within p.end len ps turn.2)
 
--- the first patches are put, and the rows before the last of them; the rows from `at` on and the
--- other patches are left
+-- the first patches are applied, with the rows before the last of them; the rows from `at` on and
+-- the other patches are left
 pub record IsPut (rows : List (List (ℕ × ℕ))) (patches : List Patch) (out left : List (List (ℕ × ℕ))) (at : ℕ) (rest : List Patch) (room : ℕ) : Type 0 where
   pub left_is : left ≡ drop at rows
   pub turn : AreInTurn at (length rows) rest
@@ -112,9 +112,9 @@ IsPut-room rows patches out left at rest room room' more put = record {
   fits = omega (arith, more, put.fits);
 }
 
--- ---- patches put in place, from the last one on
+-- ---- patches applied in place, from the last one on
 
--- where the last patch stands
+-- where the last patch is
 pub record IsLast (at len : ℕ) (p : Patch) : Type 0 where
   pub behind : at ≤ p.first
   pub ordered : p.first ≤ p.end
@@ -131,7 +131,7 @@ first-turn : (at len : ℕ) (ps : List Patch) (p : Patch) (more : ℕ) → AreIn
 first-turn at len [] p more turn less = omega (arith, turn.0, less)
 first-turn at len (q ∷ ps) p more turn less = (turn.0, turn.1, first-turn q.end len ps p more turn.2 less)
 
--- rows between two places before a patch
+-- rows of a range before a patch
 before-patch : (at first n : ℕ) (rows behind : List (List (ℕ × ℕ))) → at + n ≤ first → first ≤ length rows
     → take n (drop at (take first rows ++ behind)) ≡ take n (drop at rows)
 before-patch at first n rows behind less within =
@@ -145,7 +145,7 @@ before-patch at first n rows behind less within =
     ∙ ap (take n) front
     ∙ take-take n (first - at) (drop at rows) (omega (arith, less))
 
--- the rows from a place on, up to a patch and behind it
+-- the rows from an index on, up to a patch and after it
 drop-front : (at first : ℕ) (rows behind : List (List (ℕ × ℕ))) → at ≤ first → first ≤ length rows
     → drop at (take first rows ++ behind) ≡ take (first - at) (drop at rows) ++ behind
 drop-front at first rows behind less within =
@@ -154,7 +154,7 @@ drop-front at first rows behind less within =
     drop-append-le at (take first rows) behind (omega (arith, kept, less))
     ∙ ap (λ xs. xs ++ behind) (ap (λ m. drop at (take m rows)) (sym sum) ∙ drop-take at (first - at) rows)
 
--- the last patch is put in its place, and the others are left
+-- the last patch is applied, and the others are left
 last-put : (at : ℕ) (rows : List (List (ℕ × ℕ))) (ps : List Patch) (p : Patch) → AreInTurn at (length rows) (ps ++ p ∷ [])
     → patched at (take p.first rows ++ (p.made.items ++ drop p.end rows)) ps ≡ patched at rows (ps ++ p ∷ [])
 last-put at rows [] p turn =
@@ -167,13 +167,13 @@ last-put at rows (q ∷ ps) p turn =
     (before-patch at p.first (q.first - at) rows behind (omega (arith, turn.0, turn.1, last.behind)) (omega (arith, last.ordered, last.within)))
     ∙ ap (λ xs. take (q.first - at) (drop at rows) ++ q.made.items ++ xs) (last-put q.end rows ps p turn.2)
 
--- the last patches are put, and the first ones are left
+-- the last patches are applied, and the first ones are left
 pub record IsPutDown (old : List (List (ℕ × ℕ))) (all : List Patch) (rows : List (List (ℕ × ℕ))) (patches : List Patch) (room : ℕ) : Type 0 where
   pub turn : AreInTurn 0 (length rows) patches
   pub whole : patched 0 rows patches ≡ patched 0 old all
   pub fits : length rows + growth_by patches ≤ room
 
--- the last patch takes no more room than its growth
+-- the last patch needs no more room than its growth
 pub last-fits : (rows : List (List (ℕ × ℕ))) (patches ps : List Patch) (p : Patch) (room : ℕ) → patches ≡ ps ++ p ∷ [] → length rows + growth_by patches ≤ room → length rows + growth_of p ≤ room
 last-fits rows patches ps p room is fits =
     omega (arith, fits, ap growth_by is, sum_by-append growth_of ps (p ∷ []), sum_by-cons growth_of p [])

@@ -1,9 +1,9 @@
--- A list in which a part gives place to another.
+-- A list in which a part is replaced.
 use Rattle.std.proofs.Common.{◌≡◌, ℕ, ◌+◌, ◌-◌, ◌<◌, ◌≤◌, List, ◌++◌, length, take, drop, ap, ◌∙◌, arith, length-append, length-take, length-drop}
 use Rattle.std.proofs.Math.Seq.{take-append_seam, drop-append_seam, drop-append-add}
 use Rattle.std.proofs.lemmas.List.{take_all, take-append-le, drop-append-le, drop-drop}
 
--- what is behind a place goes behind what was joined to it
+-- the rows after the index go after the inserted ones
 pub inserted : {A : Type 0} (rows made all : List A) (at behind : ℕ) → at ≤ length rows → all ≡ rows ++ made → behind ≡ length rows - at
     → take at all ++ drop (at + behind) all ++ take behind (drop at all) ≡ take at rows ++ made ++ drop at rows
 inserted rows made all at behind within joined behind-is =
@@ -17,7 +17,7 @@ inserted rows made all at behind within joined behind-is =
     ap (λ t. t ++ drop (at + behind) all ++ take behind (drop at all)) first ∙ ap (λ t. take at rows ++ t ++ take behind (drop at all)) second
     ∙ ap (λ t. take at rows ++ made ++ t) third
 
--- what was put there, and the rows behind those that are gone
+-- the inserted rows, and the rows after the removed ones
 pub removed : {A : Type 0} (rows made all : List A) (first end count : ℕ) → first ≤ end → end ≤ length rows → count ≡ length made → count < end - first
     → all ≡ take first rows ++ take count made ++ drop (first + count) rows
     → take (first + count) all ++ drop (first + count + (end - first - count)) all ≡ take first rows ++ made ++ drop end rows

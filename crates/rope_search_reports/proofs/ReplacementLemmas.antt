@@ -9,7 +9,7 @@ use Rattle.rope_search_reports.specs.Changes.{AreChanges}
 use Rattle.rope_search_reports.specs.Text.{bytes_of, line_count}
 use Rattle.rope_search_reports.specs.Replacement.{ReplacementsAreChanges, Groups, whole, between, expand, replaced, searched, FollowEachOther, changes_of}
 
--- a part up to a place, and what is behind it
+-- a part up to an offset, and the rest
 split-at : (content : List ℕ) (start end : ℕ) → IsUtf8 content → start ≤ end → IsCharBoundary content start → IsCharBoundary content end
     → chars (drop start content) ≡ between content start end ++ chars (drop end content)
 split-at content start end utf8 ordered starts ends =

@@ -7,7 +7,7 @@ pub lines_of_nothing : line_texts [] ≡ [] ∷ []
 unfolding line_texts
 lines_of_nothing = refl
 
--- CR LF is left off whole, and a break at the end has an empty line behind it
+-- a line's text excludes both CR and LF, and a break at the end is followed by an empty line
 pub lines_crlf : line_texts (codes "q\r\nq\n") ≡ codes "q" ∷ codes "q" ∷ [] ∷ []
 unfolding line_texts
 lines_crlf = refl

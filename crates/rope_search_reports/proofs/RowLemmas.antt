@@ -1,4 +1,4 @@
--- The search of a content, match by match.
+-- The search of a haystack, match by match.
 use Rattle.std.proofs.Common.{◌≡◌, ℕ, ◌+◌, ◌<◌, ◌≤◌, arith, List, [], ◌∷◌, ◌++◌, Option, None, Some, length, map, refl, sym, ap, ap₂, subst, ◌∙◌}
 use Rattle.std.specs.List.{range_with_len}
 use Rattle.std.specs.Str.{IsUtf8, IsCharBoundary}
@@ -14,7 +14,7 @@ use Rattle.rope_search_reports.specs.Finders.{AreGroupsOf, AreSpansOf, IsRowOf, 
 use Rattle.rope_search_reports.proofs.MatchLemmas.{AllNote, Searched, Searched-more, Searched-end, comes-from, comes-further, lies-behind, room_behind, stands}
 use Rattle.rope_search_reports.proofs.NextLemmas.{ToldMatch, none-told, some-told}
 
--- a match that comes next, and what is told of it
+-- a next match, and what is shown of it
 abbrev pub NextMatch : Tree → List ℕ → Option ℕ → ℕ × ℕ → List (Option ℕ) → Type 0
 NextMatch tree content last span slots = ToldMatch (TreeFindsNext tree content last) span slots
 
@@ -24,7 +24,7 @@ next-told tree content content' last told span slots same next is =
     let next' = subst (λ cs. FinderTells (TreeFindsNext tree cs last) told slots) same next in
     some-told (TreeFindsNext tree content last) span slots (subst (λ s. FinderTells (TreeFindsNext tree content last) s slots) is next')
 
--- it lies in the content, at boundaries of its characters
+-- it is in the haystack, at character boundaries
 pub record Stands (content : List ℕ) (span : ℕ × ℕ) : Type 0 where
   pub starts : IsCharBoundary content span.0
   pub ends : IsCharBoundary content span.1
@@ -38,7 +38,7 @@ next-stands tree content last span slots has utf8 next =
     let inside = (lies-behind tree content from.0 next.t has from.1).inside in
     subst (Stands content) (sym next.span_is) (record { starts = at.0; ends = at.1; inside = inside })
 
--- it starts behind the last one, and ends behind its start
+-- it starts after the last one, and ends at its start or after it
 pub record Follows (last : Option ℕ) (span : ℕ × ℕ) : Type 0 where
   pub behind : start_behind last ≤ span.0
   pub ordered : span.0 ≤ span.1
@@ -55,14 +55,14 @@ follows tree content last t has (passed found empty later) =
 pub next-follows : (tree : Tree) (content : List ℕ) (last : Option ℕ) (span : ℕ × ℕ) (slots : List (Option ℕ)) → HasFinds tree → NextMatch tree content last span slots → Follows last span
 next-follows tree content last span slots has next = subst (Follows last) (sym next.span_is) (follows tree content last next.t has next.is)
 
--- less is left behind it
+-- less is left after it
 pub next-further : (tree : Tree) (content : List ℕ) (last : Option ℕ) (span : ℕ × ℕ) (slots : List (Option ℕ)) → HasFinds tree → NextMatch tree content last span slots
     → room_behind (length content) (Some span.1) < room_behind (length content) last
 next-further tree content last span slots has next =
     subst (λ (s : ℕ × ℕ). room_behind (length content) (Some s.1) < room_behind (length content) last) (sym next.span_is)
     (comes-further tree content last next.t has next.is)
 
--- it is shown behind those before it
+-- it is shown after those before it
 pub next-shown : {A : Type 0} (shows : FoundMatch → A) (tree : Tree) (content : List ℕ) (last : Option ℕ) (span : ℕ × ℕ) (slots : List (Option ℕ)) (items : List A) (item : A) → HasFinds tree
     → (next : NextMatch tree content last span slots) → item ≡ shows next.t → Searched shows tree content last items
     → Searched shows tree content (Some span.1) (items ++ item ∷ [])
@@ -71,7 +71,7 @@ next-shown shows tree content last span slots items item has next is sofar =
     let at = subst (λ e. Searched shows tree content (Some e) (items ++ shows next.t ∷ [])) (sym (ap (λ s. s.1) next.span_is)) more in
     subst (λ x. Searched shows tree content (Some span.1) (items ++ x ∷ [])) (sym is) at
 
--- and where none comes next, all are shown
+-- if there is no next match, all are shown
 pub none-next : (tree : Tree) (content content' : List ℕ) (last : Option ℕ) (told : Option (ℕ × ℕ)) (slots : List (Option ℕ)) → content' ≡ content
     → FinderTells (TreeFindsNext tree content' last) told slots → told ≡ None → TreeFindsNext tree content last None
 none-next tree content content' last told slots same next is =
@@ -90,7 +90,7 @@ columns-are tree content last span slots start_column end_column next starts end
     let pair : ℕ → ℕ → ℕ × ℕ = λ m n. (m, n) in
     ap₂ pair starts ends ∙ ap (columns content) next.span_is
 
--- all of a row, where none comes next
+-- all of a row, if there is no next match
 pub last-row : (tree : Tree) (line : List ℕ) (last : Option ℕ) (row : List (ℕ × ℕ)) → HasFinds tree → TreeFindsNext tree (bytes_of line) last None
     → Searched (columns_of (bytes_of line)) tree (bytes_of line) last row → IsRowOf tree line row
 last-row tree line last row has none sofar = record {
@@ -109,7 +109,7 @@ row-is pattern line tree row spells is = record {
 
 -- ---- groups
 
--- they are told by the slots of groups 0 to 9
+-- they are read from the slots of groups 0 to 9
 pub groups-told : (tree : Tree) (content : List ℕ) (last : Option ℕ) (span : ℕ × ℕ) (slots : List (Option ℕ)) → length slots ≡ 20 → AllNote tree content
     → (next : NextMatch tree content last span slots) → map (group_told slots) (range_with_len 0 10) ≡ groups_of next.t
 groups-told tree content last span slots len notes next =
@@ -118,7 +118,7 @@ groups-told tree content last span slots len notes next =
     ap (λ s. map (group_told s) (range_with_len 0 10)) (next.slots_are ∙ ap (λ n. answer_slots n (Some next.t)) len)
     ∙ ap (λ g. g ∷ map (group_of next.t) (range_with_len 1 9)) (ap₂ both has.start has.end)
 
--- all groups, where none comes next
+-- all groups, if there is no next match
 pub last-groups : (tree : Tree) (content : List ℕ) (last : Option ℕ) (groups : List (List (Option (ℕ × ℕ)))) → HasFinds tree → TreeFindsNext tree content last None
     → Searched groups_of tree content last groups → AreGroupsOf tree content groups
 last-groups tree content last groups has none sofar = record {

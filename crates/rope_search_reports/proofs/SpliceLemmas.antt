@@ -1,4 +1,4 @@
--- What an edit does to the lines of a text.
+-- The effect of an edit on the lines of a text.
 use Rattle.std.proofs.Common.{◌≡◌, ℕ, zero, suc, ◌+◌, ◌-◌, ◌<◌, ◌≤◌, Bool, true, false, cond, List, [], ◌∷◌, ◌++◌, length, replicate, take, drop, refl, sym, ap, subst, ◌∙◌, arith, append_assoc, length-append}
 use Rattle.std.specs.Prelude.{◌&&◌, not, ◌==◌, nat_le, encode_utf8_all}
 use Rattle.std.specs.Char.{len_utf8, encode_utf8}
@@ -15,9 +15,9 @@ use Rattle.rope_search_reports.specs.Splice.{EditsSpliceLines, KeepsRows}
 use Rattle.rope_search_reports.proofs.LineLemmas.{line_texts-break, byte_len-append}
 use Rattle.rope_search_reports.proofs.ReportLaws.{AreRows-join}
 
--- ---- places where ends stand
+-- ---- ends up to an offset
 
--- none is up to a place before them, and all are up to one behind
+-- none is up to an offset before them, and all are up to one after them
 none_up_to : (n e b : ℕ) → b < e → ends_up_to b (replicate n e) ≡ 0
 none_up_to zero e b h = refl
 none_up_to (suc n) e b h = sum_by-cons (λ e. cond (nat_le e b) 1 0) e (replicate n e) ∙ rw (lt-leb e b h) (omega (arith, none_up_to n e b h))
@@ -44,7 +44,7 @@ bytes-cons c cs = omega (arith, length-append (encode_utf8 c) (encode_utf8_all c
 
 -- ---- a character before the first line
 
--- whether it ends a break, whether it is in the break set, and the lines behind it
+-- whether it ends a break, whether it is in the break set, and the lines after it
 abbrev pub put : Bool → Bool → ℕ → List (List ℕ) → List (List ℕ)
 put ends in_set c lines = cond ends ([] ∷ lines) (cond in_set lines (with_first c lines))
 
@@ -52,12 +52,12 @@ pub line_texts-put : (c : ℕ) (rest : List ℕ) → line_texts (c ∷ rest) ≡
 unfolding line_texts
 line_texts-put c rest = refl
 
--- how many breaks end in the first of two texts
+-- the number of breaks that end in the first of two texts
 abbrev pub ended : List ℕ → List ℕ → ℕ
 ended [] rest = 0
 ended (c ∷ cs) rest = cond (ends_break is_break c (cs ++ rest)) (suc (ended cs rest)) (ended cs rest)
 
--- ---- the lines before the line of a place: what follows the place does not matter
+-- ---- the lines before the line of an offset do not depend on the text after the offset
 
 take-with_first : (c k : ℕ) (lines : List (List ℕ)) → take (suc k) (with_first c lines) ≡ with_first c (take (suc k) lines)
 take-with_first c k [] = ap (λ ls. (c ∷ []) ∷ ls) (take_all k [] (omega arith))
@@ -70,7 +70,7 @@ front-put false true c k lines others same = same
 front-put false false c zero lines others same = refl
 front-put false false c (suc k) lines others same = take-with_first c k lines ∙ ap (with_first c) same ∙ sym (take-with_first c k others)
 
--- the last character of the first text: a CR ends its line where an LF follows it and where none does
+-- the last character of the first text: a CR ends its line if an LF follows it and if none does
 front-last : (in_set cr lf lf' : Bool) (c : ℕ) (lines others : List (List ℕ)) → (lf' ≡ true → take 1 others ≡ [] ∷ [])
     → take (cond (in_set && not (cr && lf)) 1 0) (put (in_set && not (cr && lf)) in_set c lines)
     ≡ take (cond (in_set && not (cr && lf)) 1 0) (put (in_set && not (cr && lf')) in_set c others)
@@ -97,7 +97,7 @@ front (c ∷ d ∷ ds) after after' =
     ∙ front-put (ends_break is_break c (d ∷ ds)) (is_break c) c (ended (d ∷ ds) after) (line_texts (d ∷ ds ++ after)) (line_texts (d ∷ ds ++ after')) (front (d ∷ ds) after after')
     ∙ ap (take (ended (c ∷ d ∷ ds) after)) (sym (line_texts-put c (d ∷ ds ++ after')))
 
--- ---- the lines behind the line of a place: what is before the place does not matter
+-- ---- the lines after the line of an offset do not depend on the text before the offset
 
 rear-put : (ends in_set : Bool) (c k : ℕ) (lines : List (List ℕ)) → drop (suc (cond ends (suc k) k)) (put ends in_set c lines) ≡ drop (suc k) lines
 rear-put true in_set c k lines = refl
@@ -118,7 +118,7 @@ one-more : (ends : Bool) (p q r : ℕ) → p ≡ q + r → cond ends (suc p) p �
 one-more true p q r e = omega (arith, e)
 one-more false p q r e = e
 
--- the breaks that end in two texts joined
+-- the breaks that end in two joined texts
 pub ended-append : (before part after : List ℕ) → ended (before ++ part) after ≡ ended before (part ++ after) + ended part after
 ended-append [] part after = omega arith
 ended-append (c ∷ cs) part after =
@@ -138,7 +138,7 @@ few-last true false lf at = omega arith
 few-last true true true at = omega arith
 few-last true true false at = omega arith
 
--- what follows a text ends no further break in it
+-- the text after another one ends no further break in it
 pub few : (at : ℕ) (text after : List ℕ) → ended text after ≤ length (ends_from count at text)
 few at [] after = omega arith
 few at (c ∷ []) after = few-last (is_break c) (c == 13) (starts_with_lf after) (at + len_utf8 c)
@@ -146,7 +146,7 @@ few at (c ∷ d ∷ ds) after =
     let next = at + len_utf8 c in
     few-put (ends_break is_break c (d ∷ ds)) next (ended (d ∷ ds) after) (ends_from count next (d ∷ ds)) (few next (d ∷ ds) after)
 
--- the break ends up to a place
+-- the break ends up to an offset
 up_to-ended : (at place : ℕ) (before after : List ℕ) → place ≡ at + byte_len before → ends_up_to place (ends_from count at (before ++ after)) ≡ ended before after
 up_to-ended at place [] after e = up_to-start count at place after (omega (arith, e))
 up_to-ended at place (c ∷ cs) after e =
@@ -167,7 +167,7 @@ near-put : (ends : Bool) (p q : ℕ) → p ≤ q + 1 → cond ends (suc p) p ≤
 near-put true p q h = omega (arith, h)
 near-put false p q h = h
 
--- what follows a text decides on one break in it at most
+-- the text after another one decides on at most one break in it
 pub near : (before after after' : List ℕ) → ended before after ≤ ended before after' + 1
 near [] after after' = omega arith
 near (c ∷ []) after after' = near-last (ends_break is_break c after) (ends_break is_break c after')
@@ -184,7 +184,7 @@ spliced xs ys i j k low begins ends =
     ∙ ap (λ zs. take i ys ++ zs) (sym (take-append-drop (j - i) (drop i xs)) ∙ ap (λ zs. take (j - i) (drop i xs) ++ zs) rest)
     ∙ sym (append_assoc (take i ys) (take (j - i) (drop i xs)) (drop k ys))
 
--- the line of the place between two texts
+-- the line of the offset between two texts
 pub line_at-is : (place : ℕ) (before after : List ℕ) → place ≡ byte_len before → line_at (before ++ after) place ≡ ended before after
 line_at-is place before after e = up_to-ended 0 place before after (omega (arith, e))
 

@@ -1,4 +1,4 @@
--- Where a position is: its place in code units, and no CR LF that the place cuts.
+-- Where a position is: its offset in code units, at which no CR LF is split.
 use Rattle.std.proofs.Common.{◌≡◌, ℕ, ◌+◌, ◌<◌, ◌≤◌, ◌&&◌, true, false, List, [], ◌∷◌, ◌++◌, take, drop, slice_index_or, refl, ap, arith, sym, ◌∙◌, subst, append-nil, append_assoc}
 use Rattle.std.specs.Str.{all_scalars, NonePass}
 use Rattle.std.proofs.lemmas.Bool.Decides.{nat_tests}
@@ -11,7 +11,7 @@ use Rattle.rope_search_reports.specs.Position.{line_at, line_start, line_text, t
 use Rattle.rope_search_reports.proofs.LineLemmas.{byte_len-append, ends-joined_cr}
 use Rattle.rope_search_reports.proofs.PlaceLemmas.{front_within, InLine, in_line, line_inside, cut_off, IsFrontOf, front_of, units_there}
 
--- ---- no CR LF is cut in a line's text or at its end
+-- ---- no CR LF is split in a line's text or at its end
 
 not_cr : (s : List ℕ) → NonePass is_break s → ends_with_cr s ≡ false
 not_cr [] plain = refl
@@ -30,10 +30,10 @@ uncut before (c ∷ cs) back own behind e low whole plain =
     let none = not_cr (c ∷ cs) (plain_front (c ∷ cs) within.0 (subst (NonePass is_break) within.1 plain)) in
     ap (λ b. b && starts_with_lf back) (ends-joined_cr before c cs ∙ none)
 
--- ---- and one is cut behind that, before the next line
+-- ---- one is split after that, before the next line
 
 module _ (law : PlaceLaws) (text : List ℕ) (scalars : all_scalars text ≡ true) where
-  -- no CR LF is cut at a place up to the end of its line's text
+  -- no CR LF is split at an offset up to the end of its line's text
   pub whole_up_to_end : (place : ℕ) (h : InLine text place) → place ≤ text_end text (line_at text place) → NoCrLfBetween (h.before ++ h.mid) h.back
   whole_up_to_end place h low =
       let own = line_text text (line_at text place) in
@@ -46,9 +46,9 @@ module _ (law : PlaceLaws) (text : List ℕ) (scalars : all_scalars text ≡ tru
       let below : byte_len h.mid ≤ byte_len own = omega (arith, low, starts, ap byte_len same, place_is, byte_len-append h.before h.mid) in
       uncut h.before h.mid h.back own behind e below (subst (λ s. NoCrLfBetween s (own ++ behind)) same h.line.whole) h.line.plain
 
-  -- ---- the place of a position, in code units
+  -- ---- the offset of a position, in code units
 
-  -- what stands before a position's place, in code units
+  -- the number of code units before a position's offset
   pub record Spotted (spot : ℕ × ℕ) (place start : ℕ) : Type 0 where
     pub within : spot.0 < line_count text
     pub front : List ℕ
@@ -86,7 +86,7 @@ module _ (law : PlaceLaws) (text : List ℕ) (scalars : all_scalars text ≡ tru
         of_front = front_of law text (h.before ++ h.mid) h.back h.parts;
       }
 
-  -- its code units lead to one place
+  -- its code units lead to one offset
   pub spot-one : (spot : ℕ × ℕ) (place place' : ℕ) → IsAt text spot place → IsAt text spot place' → place ≡ place'
   spot-one spot place place' at at' =
       let start = ends_up_to (end_place (char_ends text) (ends_up_to (line_start text spot.0) (char_ends text)) (byte_len text)) (unit_ends text) in
@@ -96,9 +96,9 @@ module _ (law : PlaceLaws) (text : List ℕ) (scalars : all_scalars text ≡ tru
       one.place_is ∙ sym one.of_front.back_from_units ∙ ap (λ n. slice_index_or (unit_starts text) n (byte_len text)) same
       ∙ other.of_front.back_from_units ∙ sym other.place_is
 
-  -- ---- from a code unit to its character and to that one's byte
+  -- ---- from a code unit to its character and to the byte of that
 
-  -- no other place is that of the position
+  -- no other offset is that of the position
   pub record Found (spot : ℕ × ℕ) (unit char_idx byte_idx : ℕ) : Type 0 where
     pub same : spot ≡ position text byte_idx
     pub unit_there : ends_up_to (end_place (char_ends text) char_idx (byte_len text)) (unit_ends text) ≡ unit

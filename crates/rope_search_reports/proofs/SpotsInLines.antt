@@ -1,4 +1,4 @@
--- Where a position is, by its line's text.
+-- Where a position is in its line's text.
 use Rattle.std.proofs.Common.{◌≡◌, ℕ, ◌<◌, ◌≤◌, true, List, [], ◌∷◌, ◌++◌, length, take, sym, ap, subst, ◌∙◌, arith, append_assoc}
 use Rattle.std.specs.Str.{all_scalars}
 use Rattle.std.proofs.lemmas.Str.{len_utf8_bounds}
@@ -15,7 +15,7 @@ few-chars [] = omega arith
 few-chars (c ∷ cs) = omega (arith, few-chars cs, byte_len-one c cs, (len_utf8_bounds c).0)
 
 module _ (law : PlaceLaws) (text : List ℕ) (scalars : all_scalars text ≡ true) (line column : ℕ) where
-  -- a position's place is in its line's text, behind so many code units
+  -- a position's offset is in its line's text, after `column` code units
   pub record InOwn (place : ℕ) : Type 0 where
     pub inside : line < line_count text
     pub front : List ℕ
@@ -48,11 +48,11 @@ module _ (law : PlaceLaws) (text : List ℕ) (scalars : all_scalars text ≡ tru
         units_are = omega (arith, column_is, column');
       }
 
-  -- it is no line of the text
+  -- the text has no such line
   pub no_line : line_count text ≤ line → IsNowhere text (line, column)
   no_line past place at = let inside = (in_own place at).inside in omega (arith, past, inside)
 
-  -- its place, by the line's start
+  -- its offset, from the line's start
   pub record IsFoundAt (byte_idx char_idx : ℕ) : Type 0 where
     pub at : IsAt text (line, column) byte_idx
     pub within : char_idx ≤ length text

@@ -1,4 +1,4 @@
--- Where a line starts, as a chunk tells it.
+-- Where a line starts, found in a chunk.
 use Rattle.std.proofs.Common.{◌≡◌, ℕ, zero, suc, ◌+◌, ◌-◌, ◌^◌, ◌<◌, ◌≤◌, ◌⊎◌, inl, inr, List, [], ◌∷◌, ◌++◌, length, take, drop, refl, sym, ap, subst, ◌∙◌, arith, append-nil, append_assoc, length-append, chars, IsUtf8}
 use Rattle.std.specs.Str.{IsCharBoundary, NonePass}
 use Rattle.std.proofs.lemmas.Bool.{cases_lt}
@@ -21,7 +21,7 @@ use Rattle.rope_search_reports.proofs.TellerLemmas.{IsShown, is-shown}
 use Rattle.rope_search_reports.proofs.TextPlaces.{places}
 use Rattle.rope_search_reports.proofs.WalkLemmas.{behind-line, first-text, line-between, next-line, rest-at, rest-chars, uncut-behind, walk-behind, walk-end}
 
--- the lines up to a chunk are no more than told, and so many further on the line starts
+-- the chunk starts in this line or an earlier one; the line starts this number of lines further on
 pub record IsTold (pieces : List (List ℕ)) (line : ℕ) (chunk : List ℕ) (byte char first : ℕ) : Type 0 where
   pub shown : IsShown (text_of pieces) chunk byte char first
   pub low : first ≤ line
@@ -142,7 +142,7 @@ none-plain t none = elim (first_line t) [
   | inr cut ↦ absurd (omega (arith, none, lines-counted t, ap length (cut-lines t cut), lines-counted cut.rest))
 ]
 
--- the last line, where the chunk is the last one
+-- the last line, if the chunk is the last one
 pub last-here : (text : List ℕ) (line : ℕ) (start : LineStart) → StartsIn text line start → line < line_count text → byte_len text ≤ start.byte_idx + length start.chunk.now
     → breaks is_break (chars (drop start.at start.chunk.now)) ≡ 0 → chars (drop start.at start.chunk.now) ≡ line_text text line
 last-here text line start s below end none =
@@ -160,7 +160,7 @@ last-here text line start s below end none =
     let lines : line_texts w.behind ≡ rest ∷ [] = ap line_texts (w.shown.parts ∙ ap (λ t. rest ++ t) gone ∙ append-nil rest) ∙ line-last rest (none-plain rest none) in
     sym (first-text text w.behind line rest [] w.lines lines)
 
--- the chunk lies in the text
+-- the chunk is in the text
 pub chunk-inside : (text : List ℕ) (line : ℕ) (start : LineStart) → StartsIn text line start → start.byte_idx + length start.chunk.now ≤ byte_len text
 chunk-inside text line start s =
     let chunk = chars start.chunk.now in
@@ -202,7 +202,7 @@ chars-there text line start s =
       near = omega (arith, byte_is, inside, width, bytes_are);
     }
 
--- where the whole text has as many characters as bytes, they are the bytes before it
+-- if the whole text has as many characters as bytes, they are the bytes before it
 pub ascii-there : (text : List ℕ) (line : ℕ) (start : LineStart) → StartsIn text line start → line < line_count text → length text ≡ byte_len text
     → start.byte_idx + start.at ≡ ends_up_to (line_start text line) (char_ends text)
 ascii-there text line start s below ascii =

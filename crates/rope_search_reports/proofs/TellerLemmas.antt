@@ -1,4 +1,4 @@
--- The lines of places, told from the chunk that holds them.
+-- The lines of offsets, from the chunk that contains them.
 use Rattle.std.proofs.Common.{◌≡◌, ℕ, ◌+◌, ◌-◌, ◌<◌, ◌≤◌, ◌^◌, ◌&&◌, cond, List, [], ◌∷◌, ◌++◌, length, take, drop, map, nat_le, chars, refl, sym, ap, subst, ◌∙◌, arith, append_assoc, append-nil, length-append, IsUtf8}
 use Rattle.std.proofs.lemmas.List.{nil_from_length, take-append-drop, length-take-le}
 use Rattle.std.proofs.lemmas.Bool.{lt-leb}
@@ -16,7 +16,7 @@ use Rattle.rope_search_reports.specs.Position.{line_at}
 use Rattle.rope_search_reports.proofs.LineLemmas.{byte_len-append, ends-joined_cr}
 use Rattle.rope_search_reports.proofs.WalkLemmas.{chunk-whole, cutting-tail, no-lf, reaches, uncut-behind}
 
--- no CR LF is cut before a chunk
+-- no CR LF is split before a chunk
 first-piece : (p : List ℕ) (ps : List (List ℕ)) → IsCutting (p ∷ ps) → IsPiece p
 first-piece p [] cut = cut
 first-piece p (q ∷ qs) cut = cut.0
@@ -132,14 +132,14 @@ teller-start law text fits bytes_fit = record {
   bytes_fit = bytes_fit;
 }
 
--- the place that was looked up lies in the chunk, or at its end
+-- the offset that was looked up is in the chunk, or at its end
 pub reached-there : (pieces : List (List ℕ)) (bytes : List ℕ) (place start char line : ℕ) → IsUtf8 bytes → ShowsChunk pieces byte_len place (chars bytes) start char line
     → place ≤ byte_len (text_of pieces) → (start ≤ place) × (place ≤ start + length bytes)
 reached-there pieces bytes place start char line utf8 s within =
     let there = reaches pieces place start char line (chars bytes) s within in
     (there.0, omega (arith, there.1, ap length (encodes-chars bytes utf8)))
 
--- the line of a place in what is left
+-- the line of an offset in the rest
 pub line-told : EndsAddUp NoCrLfBetween (breaks is_break) (break_ends is_break) → EndsBehind (break_ends is_break) → (text rest : List ℕ) (start line place : ℕ) → IsTeller text rest start line
     → start ≤ place → place ≤ start + length rest → line + ends_up_to (place - start) (break_ends is_break (chars rest)) ≡ line_at text place
 line-told law behind text rest start line place is low high =
@@ -155,7 +155,7 @@ line-told law behind text rest start line place is low high =
     ap (λ n. ends_up_to n (break_ends is_break (chars rest))) (omega (arith, start_is)) in
     omega (arith, own, all, first, part, same)
 
--- and what is left from there on
+-- and the rest from there on
 pub teller-on : (text rest : List ℕ) (start line place line' : ℕ) → IsTeller text rest start line → start ≤ place → place ≤ start + length rest
     → IsCharBoundary rest (place - start) → line' ≡ line_at text place → IsTeller text (drop (place - start) rest) place line'
 teller-on text rest start line place line' is low high here line_is =
@@ -179,9 +179,9 @@ teller-on text rest start line place line' is low high here line_is =
       bytes_fit = is.bytes_fit;
     }
 
--- ---- places in the same line
+-- ---- offsets in the same line
 
--- no end of these lies up to a place: all are behind another one
+-- none of these ends is up to an offset: all are after another one
 none-up-to : (end place : ℕ) (ends : List ℕ) → place < end → ends_up_to place (map (λ e. end + e) ends) ≡ 0
 none-up-to end place [] low = refl
 none-up-to end place (e ∷ es) low =
@@ -196,11 +196,11 @@ none-before-first bytes start end place first low =
     ∙ sum_by-cons (λ e. cond (nat_le e place) 1 0) end others
     ∙ rw (lt-leb end place low) (omega (arith, none-up-to end place (break_ends is_break (chars (drop end bytes))) low))
 
--- no place is known to be in the same line
+-- no offset is known to be in the same line
 pub stays-none : (text : List ℕ) (start line : ℕ) → StaysInLine text start line 0
 stays-none text start line = λ k low. absurd (omega (arith, low))
 
--- the places of what is left, up to where its first line ends
+-- the offsets of the rest, up to where its first line ends
 pub stays-on : EndsAddUp NoCrLfBetween (breaks is_break) (break_ends is_break) → EndsBehind (break_ends is_break) → (text rest : List ℕ) (start line count : ℕ) → IsTeller text rest start line
     → count ≤ length rest → ((place : ℕ) → place < count → ends_up_to place (break_ends is_break (chars rest)) ≡ 0) → StaysInLine text start line count
 stays-on law behind text rest start line count is within first = λ k low.

@@ -1,4 +1,4 @@
--- What the words on texts say of a few small ones, each by computation.
+-- Examples of the definitions on texts, each by computation.
 use Rattle.std.specs.Prelude.{◌≡◌, [], ◌∷◌, codes, refl}
 use Rattle.std.proofs.Math.Utf8.{encode}
 use Rattle.str_indices.specs.Text.{breaks}
@@ -7,7 +7,8 @@ use Rattle.rope_search_reports.specs.Text.{line_count, bytes_of}
 
 -- ---- breaks
 
--- of the letter a, CR, LF, U+2028 and CR: CR LF is one break, U+2028 is none, and a CR at the end is one
+-- the letter a, CR, LF, U+2028 and CR have two breaks: CR LF is one, U+2028 is none, and a CR at
+-- the end is one
 pub breaks_mixed : breaks is_break (97 ∷ 13 ∷ 10 ∷ 0x2028 ∷ 13 ∷ []) ≡ 2
 breaks_mixed = refl
 
@@ -18,7 +19,7 @@ breaks_crlf = refl
 pub breaks_lfcr : breaks is_break (10 ∷ 13 ∷ []) ≡ 2
 breaks_lfcr = refl
 
--- of LF, VT, FF, CR, U+0085, U+2028 and U+2029, LF and CR alone
+-- of LF, VT, FF, CR, U+0085, U+2028 and U+2029, only LF and CR are breaks
 pub breaks_few : breaks is_break (10 ∷ 11 ∷ 12 ∷ 13 ∷ 0x85 ∷ 0x2028 ∷ 0x2029 ∷ []) ≡ 2
 breaks_few = refl
 
@@ -30,13 +31,13 @@ breaks_none = refl
 pub lines_empty : line_count [] ≡ 1
 lines_empty = refl
 
--- a break at the end has an empty line behind it
+-- a break at the end is followed by an empty line
 pub lines_ended : line_count (codes "one\ntwo\n") ≡ 3
 lines_ended = refl
 
 -- ---- bytes
 
--- the text with the one character U+2028 has three bytes
+-- the UTF-8 of the character U+2028 has three bytes
 pub bytes_separator : bytes_of (0x2028 ∷ []) ≡ 0xe2 ∷ 0x80 ∷ 0xa8 ∷ []
 unfolding encode
 bytes_separator = refl

@@ -1,11 +1,11 @@
--- Places in a text by characters, by code units and by lines agree with one another.
+-- Offsets in a text in characters, in code units and in lines agree with one another.
 use Rattle.std.proofs.Common.{length}
 use Rattle.str_indices.specs.Text.{break_ends, char_ends, unit_ends, units}
 use Rattle.str_indices.specs.Laws.{AnyTexts, CharsAndBoundariesAgree, EndsAddUp, EndsAndPlacesAgree, EndsAreBoundaries, LastEndIsBefore, LastUnitStartIsBefore, NoMoreThanBytes, UnitStartsAreBoundaries, UnitsAndBoundariesAgree}
 use Rattle.str_indices.proofs.TextLaws.{boundaries_and_indices_agree-chars, boundaries_and_indices_agree-units, counts_are_at_most_bytes-units, ends_and_places_agree-lines, ends_of_a_part-chars, ends_of_a_part-units, place_there_and_back-chars, place_there_and_back-lines, place_there_and_back-units, to_byte_idx_is_a_boundary-chars, to_byte_idx_is_a_boundary-units}
 use Rattle.ropey.specs.Chunks.{is_break}
 
--- what is known of places, by characters, by code units and by lines
+-- the laws of offsets in characters, in code units and in lines
 pub record PlaceLaws : Type 0 where
   pub chars_add : EndsAddUp AnyTexts length char_ends
   pub chars_agree : CharsAndBoundariesAgree

@@ -1,4 +1,4 @@
--- Changes turned about, and the lines that changes put.
+-- Reversed changes, and the lines that changes insert.
 use Rattle.std.proofs.Common.{◌≡◌, ℕ, ◌+◌, ◌-◌, ◌<◌, ◌≤◌, true, List, [], ◌∷◌, ◌++◌, length, take, drop, chars, refl, sym, ap, subst, ◌∙◌, arith, append_assoc, append-nil}
 use Rattle.std.specs.Str.{all_scalars}
 use Rattle.std.proofs.Math.Seq.{take-append_seam, drop-append_seam}
@@ -14,7 +14,7 @@ use Rattle.rope_search_reports.proofs.LineLemmas.{byte_len-append}
 use Rattle.rope_search_reports.proofs.PlaceLemmas.{scalars-parts}
 use Rattle.rope_search_reports.proofs.WeaveLemmas.{change_at, drop-cons}
 
--- ---- turned about
+-- ---- reversed
 
 back-from : (changes : List Change) (at_old at_new : ℕ) (old new : List ℕ) (n : ℕ) → AreChanges changes at_old at_new old new n
     → (m : ℕ) × AreChanges (turned_changes at_old at_new changes) at_new at_old new old m
@@ -53,9 +53,9 @@ twice-from (c ∷ cs) at_old at_new old new n one =
 pub turn_twice : ChangesTurnTwice
 turn_twice changes old new lead = twice-from changes 0 0 old new lead.0 lead.1
 
--- ---- what changes put
+-- ---- what changes insert
 
--- what stands between the places of a text's part
+-- the text between the offsets of a text's part
 part-between : (before part behind : List ℕ) (start end : ℕ) → all_scalars part ≡ true → start ≡ byte_len before → end ≡ byte_len before + byte_len part
     → between (bytes_of (before ++ part ++ behind)) start end ≡ part
 part-between before part behind start end scalars starts ends =
@@ -98,7 +98,8 @@ put_lines changes old new n is are = put-from changes [] 0 old new n is are
 
 -- ---- one after the other
 
--- Changes behind these places wait; those before are turned about, and so will all be.
+-- The changes before these offsets are reversed; with those after them reversed too, the list is
+-- complete.
 pub record TurnsOn (at_old at_new : ℕ) (changes back all : List Change) : Type 0 where
   pub old : List ℕ
   pub new : List ℕ

@@ -1,4 +1,4 @@
--- The code units before a place, told by a chunk and by what stands before that.
+-- The code units before an offset, counted in a chunk and before it.
 use Rattle.std.proofs.Common.{◌≡◌, ℕ, ◌+◌, ◌-◌, ◌^◌, ◌<◌, ◌≤◌, true, List, [], ◌++◌, length, sym, ap, subst, ◌∙◌, arith, chars, IsUtf8}
 use Rattle.std.specs.Str.{IsCharBoundary, all_scalars}
 use Rattle.std.proofs.lemmas.Str.{encodes-chars, scalars-chars}
@@ -16,7 +16,7 @@ use Rattle.rope_search_reports.proofs.TellerLemmas.{IsShown, is-shown, reached-t
 use Rattle.rope_search_reports.proofs.TextPlaces.{places}
 use Rattle.rope_search_reports.proofs.WalkLemmas.{shown-rest}
 
--- the chunk in which a place is, without its code units
+-- the chunk that contains an offset, without its code units
 pub shown-at : (pieces : List (List ℕ)) (place : ℕ) (chunk : List ℕ) (start : Counts) → StandsAt pieces Bytes place chunk start
     → ShowsChunk pieces byte_len place chunk start.bytes start.chars start.breaks
 shown-at pieces place chunk start s = record {
@@ -45,7 +45,7 @@ shown-of-break pieces k chunk start s = record {
   passed = s.passed;
 }
 
--- so many code units stand before a place of the text
+-- the number of code units before an offset of the text
 pub record AreUnitsBefore (text : List ℕ) (place count : ℕ) : Type 0 where
   pub are : count ≡ ends_up_to place (unit_ends text)
   pub few : count ≤ byte_len text
@@ -54,7 +54,7 @@ pub record AreUnitsBefore (text : List ℕ) (place count : ℕ) : Type 0 where
 pub none-before : (text : List ℕ) → 0 ≡ ends_up_to (line_start text 0) (unit_ends text)
 none-before text = sym (places.units_add [] [] text 0 tt tt (omega arith) (omega arith))
 
--- a place of a chunk, between two characters
+-- an offset of a chunk, at a character boundary
 units-at : (text chunk : List ℕ) (byte char line count at : ℕ) → (h : IsShown text chunk byte char line) → count ≡ units h.before → all_scalars chunk ≡ true
     → IsCharBoundary (bytes_of chunk) at → AreUnitsBefore text (byte + at) (count + ends_up_to at (unit_ends chunk))
 units-at text chunk byte char line count at h count_is scalars between =
@@ -74,7 +74,7 @@ units-at text chunk byte char line count at h count_is scalars between =
       few = omega (arith, count_is, counted, split.place_is, inside, sizes, byte_len-append h.before chunk, places.few_units h.before, places.few_units split.front);
     }
 
--- of the place by which the chunk was looked up
+-- the offset by which the chunk was looked up
 pub units-of-place : (pieces : List (List ℕ)) (bytes : List ℕ) (place : ℕ) (start : Counts) → IsCutting pieces → IsUtf8 bytes → StandsAt pieces Bytes place (chars bytes) start
     → IsCharBoundary (bytes_of (text_of pieces)) place → start.bytes ≤ place
     → AreUnitsBefore (text_of pieces) place (start.units + ends_up_to (place - start.bytes) (unit_ends (chars bytes)))
@@ -92,7 +92,7 @@ units-of-place pieces bytes place start cut utf8 s boundary low =
     subst (λ n. AreUnitsBefore text n (start.units + ends_up_to (place - start.bytes) (unit_ends chunk))) back
     (units-at text chunk start.bytes start.chars start.breaks start.units (place - start.bytes) h.0 units_are (scalars-chars bytes utf8) between)
 
--- of where a line starts but the first, by the chunk in which the break before it ends
+-- where a line other than the first starts, in the chunk in which the break before it ends
 pub record StartsBehind (pieces : List (List ℕ)) (line : ℕ) (bytes : List ℕ) (start : Counts) (at : ℕ) : Type 0 where
   pub low : start.breaks ≤ line
   pub units_are : AreUnitsBefore (text_of pieces) (line_start (text_of pieces) line) (start.units + ends_up_to at (unit_ends (chars bytes)))
@@ -118,7 +118,7 @@ starts-behind pieces line bytes start at cut utf8 some s at_is =
           (units-at text chunk start.bytes start.chars start.breaks start.units at h.0 units_are (scalars-chars bytes utf8) between);
     }
 
--- ---- a place whose line starts before the chunk in which it is
+-- ---- an offset whose line starts before its chunk
 
 pub record IsBeforeChunk (text : List ℕ) (place line units : ℕ) : Type 0 where
   pub line_is : line ≡ line_at text place

@@ -19,7 +19,7 @@ use Rattle.rope_search_reports.proofs.LineLemmas.{IsCutOff, byte_len-append, cut
 use Rattle.rope_search_reports.proofs.PartLemmas.{past-last}
 use Rattle.rope_search_reports.proofs.PlaceLemmas.{cut_off, front_within, scalars-parts}
 
--- ---- breaks before what is cut off behind them
+-- ---- breaks before a split
 
 pub no-lf : (b : Bool) → (b && false) ≡ false
 no-lf true = refl
@@ -29,7 +29,7 @@ alone : (in_set cr lf : Bool) → (in_set && not (cr && false)) ≡ true → (cr
 alone false cr lf is none = is
 alone true cr lf is none = ap not none
 
--- a break is one too where more follows, and no CR LF is cut
+-- a break is one also if more text follows, if no CR LF is split
 break-further : (front one rest after : List ℕ) → IsBreak is_break one rest → NoCrLfBetween (front ++ (one ++ rest)) after → IsBreak is_break one (rest ++ after)
 break-further front [] rest after is whole = absurd is
 break-further front (c ∷ []) [] after is whole =
@@ -42,7 +42,7 @@ fewer : (in_set cr lf : Bool) → (in_set && not (cr && lf)) ≡ true → (in_se
 fewer false cr lf is = is
 fewer true cr lf is = ap not (no-lf cr)
 
--- nor is it less of a break where less follows
+-- and also if less text follows
 break-nearer : (one before behind : List ℕ) → IsBreak is_break one (before ++ behind) → IsBreak is_break one before
 break-nearer [] before behind is = absurd is
 break-nearer (c ∷ []) [] behind is = fewer (is_break c) (c == 13) (starts_with_lf behind) is
@@ -50,14 +50,14 @@ break-nearer (c ∷ []) (d ∷ ds) behind is = is
 break-nearer (c ∷ d ∷ []) before behind is = is
 break-nearer (c ∷ d ∷ e ∷ es) before behind is = absurd is
 
--- no CR LF is cut behind the end of a text
+-- no CR LF is split after the end of a text
 pub uncut-behind : (front rest after : List ℕ) → NoCrLfBetween (front ++ rest) after → NoCrLfBetween rest after
 uncut-behind front [] after whole = refl
 uncut-behind front (c ∷ cs) after whole = ap (λ b. b && starts_with_lf after) (sym (ends-joined_cr front c cs)) ∙ whole
 
 -- ---- where a line starts
 
--- a line of a text that starts at a place, and behind which another text stands
+-- a line of a text that starts at an offset, followed by another text
 pub record LineStart (at last : ℕ) (text after : List ℕ) (k : ℕ) : Type 0 where
   pub before : List ℕ
   pub behind : List ℕ
@@ -109,7 +109,7 @@ line-starts (suc k) at last text after inside whole = elim (first_line text) [
       (line-starts k (at + byte_len cut.line + byte_len cut.one) last cut.rest after (omega (arith, inside, ap length (cut-lines text cut))) rest)
 ]
 
--- a line of a text: what stands before it, and behind that it and all lines after it
+-- a line of a text: the text before it, and then the line and all lines after it
 pub record Behind (text : List ℕ) (line byte : ℕ) : Type 0 where
   pub before : List ℕ
   pub behind : List ℕ
@@ -134,7 +134,7 @@ behind-line text line inside =
       few = h.few;
     }
 
--- it starts between two characters
+-- it starts at a character boundary
 pub starts-between : (text before behind : List ℕ) (place : ℕ) → all_scalars text ≡ true → text ≡ before ++ behind → place ≡ byte_len before → IsCharBoundary (bytes_of text) place
 starts-between text before behind place scalars parts is =
     let bytes : bytes_of text ≡ bytes_of before ++ bytes_of behind = ap bytes_of parts ∙ encodes-append before behind in
@@ -175,13 +175,13 @@ up-to-all text own line all is = record {
   few = omega (arith, all, ap line_count is);
 }
 
--- it starts between two characters
+-- it starts at a character boundary
 pub line-between : (text : List ℕ) (line place : ℕ) → all_scalars text ≡ true → line < line_count text → place ≡ line_start text line → IsCharBoundary (bytes_of text) place
 line-between text line place scalars inside is =
     let h = behind-line text line inside in
     starts-between text h.before h.behind place scalars h.parts (is ∙ h.place)
 
--- ---- what a chunk shows from a place on
+-- ---- what a chunk shows from an offset on
 
 pub cutting-tail : (p : List ℕ) (ps : List (List ℕ)) → IsCutting (p ∷ ps) → IsCutting ps
 cutting-tail p [] cut = tt
@@ -192,13 +192,13 @@ starts-joined_lf [] [] cut = refl
 starts-joined_lf [] (r ∷ rs) cut = let some = cut.0.not_empty in absurd (omega (arith, some))
 starts-joined_lf (c ∷ cs) qs cut = refl
 
--- no CR LF is cut behind a chunk
+-- no CR LF is split after a chunk
 pub chunk-whole : (bs : List (List ℕ)) (c : ℕ) (cs : List ℕ) (ps : List (List ℕ)) → IsCutting (bs ++ ((c ∷ cs) ∷ ps)) → NoCrLfBetween (c ∷ cs) (text_of ps)
 chunk-whole [] c cs [] cut = no-lf (ends_with_cr (c ∷ cs))
 chunk-whole [] c cs (q ∷ qs) cut = ap (λ b. ends_with_cr (c ∷ cs) && b) (starts-joined_lf q qs cut.2) ∙ cut.1
 chunk-whole (b ∷ bs) c cs ps cut = chunk-whole bs c cs ps (cutting-tail b (bs ++ ((c ∷ cs) ∷ ps)) cut)
 
--- a chunk with what stands before it and behind it
+-- a chunk, with the text before it and after it
 pub record ChunkIn (text chunk : List ℕ) (start : ℕ) : Type 0 where
   pub first : List ℕ
   pub others : List ℕ
@@ -223,7 +223,7 @@ chunk-in pieces bs ps (c ∷ cs) start cut parts start_is = record {
   whole = chunk-whole bs c cs ps (subst IsCutting parts cut);
 }
 
--- what it shows from the place on: what stands behind the place begins with it
+-- what it shows from the offset on: the text after the offset begins with it
 pub record RestAt (chunk behind : List ℕ) (within : ℕ) : Type 0 where
   pub mid : List ℕ
   pub rest : List ℕ
@@ -254,7 +254,7 @@ rest-at text chunk before behind start place h parts place_is low high =
       };
     }
 
--- the bytes of a chunk from a place on are those of what it shows
+-- the bytes of a chunk from an offset on are those of what it shows
 pub rest-bytes : (bytes mid rest : List ℕ) (within : ℕ) → IsUtf8 bytes → chars bytes ≡ mid ++ rest → within ≡ byte_len mid → drop within bytes ≡ bytes_of rest
 rest-bytes bytes mid rest within utf8 parts is =
     let all : bytes ≡ bytes_of mid ++ bytes_of rest = sym (encodes-chars bytes utf8) ∙ ap bytes_of parts ∙ encodes-append mid rest in
@@ -270,14 +270,14 @@ rest-chars bytes mid rest within utf8 parts is =
 some-lines : (text : List ℕ) → 0 < length (line_texts text)
 some-lines text = omega (arith, lines-counted text)
 
--- so many lines are not all, where some stand behind them
+-- this number of lines is not all, if some follow them
 not-all : (text behind : List ℕ) (line : ℕ) → drop line (line_texts text) ≡ line_texts behind → line < line_count text
 not-all text behind line is = omega (arith, length-drop line (line_texts text), ap length is, some-lines behind, lines-counted text)
 
 pub length-chars : (bytes : List ℕ) → IsUtf8 bytes → byte_len (chars bytes) ≡ length bytes
 length-chars bytes utf8 = ap length (encodes-chars bytes utf8)
 
--- from one line of what is left to another
+-- from one line of the rest to another
 pub skipped : (text : List ℕ) (line byte : ℕ) (rest : List ℕ) (count place : ℕ) → IsUtf8 rest → StartsLine text line byte (chars rest) → count ≤ breaks is_break (chars rest)
     → place ≡ end_place (break_ends is_break (chars rest)) count (length rest)
     → IsUtf8 (drop place rest) × (place ≤ length rest) × StartsLine text (line + count) (byte + place) (chars (drop place rest))
@@ -312,19 +312,18 @@ skipped text line byte rest count place utf8 w inside is =
 no-breaks : breaks is_break (chars []) ≡ 0
 no-breaks = ap (breaks is_break) chars-nil
 
--- where nothing is left there is no other
+-- if nothing is left there is no other
 none-left : (rest : List ℕ) (count : ℕ) → rest ≡ [] → count ≤ breaks is_break (chars rest) → count ≡ 0
 none-left rest count none inside = omega (arith, inside, ap (λ bs. breaks is_break (chars bs)) none, no-breaks)
 
--- a walk that goes from one line to another inside what is left
--- the lines that end in what is left are not all
+-- the lines that end in the rest are not all
 pub rest-few : (text : List ℕ) (line byte : ℕ) (rest : List ℕ) → IsWalk text line byte rest → line < line_count text → line + breaks is_break (chars rest) < line_count text
 rest-few text line byte rest w below =
     let count = breaks is_break (chars rest) in
     let start = (skipped text line byte rest count (end_place (break_ends is_break (chars rest)) count (length rest)) w.utf8 (w.starts below) (omega arith) refl).2 in
     not-all text start.behind (line + count) start.lines
 
--- a break that ends before the end of what is left is one of its own
+-- a break that ends before the end of the rest is one of its own
 pub inside-rest : (rest : List ℕ) (count place : ℕ) → place ≡ end_place (break_ends is_break (chars rest)) count (length rest) → place < length rest → count ≤ breaks is_break (chars rest)
 inside-rest rest zero place is low = omega arith
 inside-rest rest (suc k) place is low = elim (cases_lt k (breaks is_break (chars rest))) [
@@ -382,7 +381,7 @@ skip-walk text line byte rest count place w inside is =
           }
     ]
 
--- a walk before a line, by what its chunk shows of it
+-- a walk before a line, from what its chunk shows of it
 pub walk-behind : (text : List ℕ) (line byte : ℕ) (rest : List ℕ) → all_scalars text ≡ true → line_count text < 2 ^ 64 → byte_len text < 2 ^ 63 → IsUtf8 rest → line < line_count text
     → (h : Behind text line (line_start text line)) → byte ≡ byte_len h.before → IsRestOfChunk h.behind (chars rest) → IsWalk text line byte rest
 walk-behind text line byte rest scalars fits bytes_fit utf8 below h place shown = record {
@@ -396,7 +395,7 @@ walk-behind text line byte rest scalars fits bytes_fit utf8 below h place shown 
   nothing = λ end. absurd (omega (arith, below, end));
 }
 
--- and one behind the last line
+-- and one after the last line
 pub walk-end : (text : List ℕ) (line byte : ℕ) → all_scalars text ≡ true → line_count text < 2 ^ 64 → byte_len text < 2 ^ 63 → line ≡ line_count text → byte ≡ line_start text line
     → IsWalk text line byte []
 walk-end text line byte scalars fits bytes_fit end place =
@@ -415,7 +414,7 @@ walk-end text line byte scalars fits bytes_fit end place =
 
 -- ---- the next line
 
--- the first of the lines behind a place
+-- the first of the lines after an offset
 pub first-text : (text behind : List ℕ) (line : ℕ) (own : List ℕ) (others : List (List ℕ)) → drop line (line_texts text) ≡ line_texts behind → line_texts behind ≡ own ∷ others
     → line_text text line ≡ own
 first-text text behind line own others lines is =
@@ -473,7 +472,7 @@ next-line text line byte rest start end walk below found =
       };
     }
 
--- ---- the lines that end in what is left
+-- ---- the lines that end in the rest
 
 pub shows-lines : (text : List ℕ) (line byte : ℕ) (rest : List ℕ) → IsWalk text line byte rest → (k : ℕ) → k < breaks is_break (chars rest)
     → line_text text (line + k) ≡ line_text (chars rest) k
@@ -493,9 +492,9 @@ shows-lines text line byte rest w k inside =
           absurd (omega (arith, inside, ap (λ bs. breaks is_break (chars bs)) (w.nothing end), no-breaks))
     ]
 
--- ---- what is shown of a rope's chunk from a place on
+-- ---- what is shown of a rope's chunk from an offset on
 
--- the place lies in the chunk, or at its end
+-- the offset is in the chunk, or at its end
 pub reaches : (pieces : List (List ℕ)) (place start char line : ℕ) (chunk : List ℕ) → (s : ShowsChunk pieces byte_len place chunk start char line) → place ≤ byte_len (text_of pieces)
     → (start ≤ place) × (place ≤ start + byte_len chunk)
 reaches pieces place start char line chunk s within =
@@ -532,7 +531,7 @@ shown-rest pieces bytes place start char line cut utf8 s before behind parts pla
       r.0,
     )
 
--- a line comes next where one came before the chunk was shown
+-- a line is next if one was before the chunk was shown
 pub shown-next : (fields shown old : WalkState) → fields ≡ shown → shown.text ≡ old.text → shown.line ≡ old.line → old.line < line_count old.text → fields.line < line_count fields.text
 shown-next fields shown old is text line below =
     subst (λ (w : WalkState). w.line < line_count w.text) (sym is) (omega (arith, below, line, ap line_count text))

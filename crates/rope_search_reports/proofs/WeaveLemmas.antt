@@ -21,7 +21,7 @@ use Rattle.rope_search_reports.proofs.ReportLaws.{AreRows-join}
 use Rattle.rope_search_reports.proofs.SpliceLemmas.{AreRows-take, AreRows-drop}
 use Rattle.rope_search_reports.proofs.ChangeLemmas.{changes_keep, tails_keep}
 
--- ---- a further patch
+-- ---- one more patch
 
 -- the rows up to the last patch's end, and where that is
 abbrev up_to : ℕ → List (List (ℕ × ℕ)) → List Patch → List (List (ℕ × ℕ))
@@ -65,8 +65,8 @@ turn-to at len len' (p ∷ ps) more turn = (turn.0, turn.1, turn-to p.end len le
 
 -- ---- the patches so far
 
--- Changes were met up to some place of both texts: these patches make the rows of the new text's
--- first lines, and the changes behind may have so many more lines searched.
+-- The changes up to an offset of both texts are done: these patches make the rows of the new text's
+-- first lines, and the other changes may have `n` more lines searched.
 pub record Woven (pattern old new : List ℕ) (changes : List Change) (n kept done : ℕ) (patches : List Patch) : Type 0 where
   pub before : List ℕ
   pub before' : List ℕ
@@ -187,7 +187,7 @@ next-rows pattern old new kept done start last gone patches p all ends lines fir
     subst (λ ls. AreRows pattern ls (up_to 0 all (patches ++ p ∷ []))) (sym lines.lines)
     (subst (λ rs. AreRows pattern (take done (line_texts new) ++ between ++ anew) rs) (sym rows-are) whole)
 
--- one patch more
+-- one more patch
 pub Woven-step : (pattern old new : List ℕ) (c : Change) (left : List Change) (n kept done : ℕ) (patches patches' : List Patch) (p : Patch)
     → (w : Woven pattern old new (c ∷ left) n kept done patches) → (next : Next old new c left n kept done)
     → p.first ≡ kept + (max (line_at new c.new_start) done - done) → p.end ≡ line_at old c.old_end + 1
@@ -217,8 +217,7 @@ Woven-step pattern old new c left n kept done patches patches' p w next first-is
       rows = λ all are. next-rows pattern old new kept done start (line_at new c.new_end) (line_at old c.old_end) patches p all w.ends next.lines first-is made are (w.rows all are);
     })
 
--- no change is left
--- a patch that goes into the last one changes nothing
+-- merging a patch into the last one doesn't change the rows
 turn-joined : (at len : ℕ) (others : List Patch) (last joined p : Patch) → joined.first ≡ last.first → joined.end ≡ p.end
     → AreInTurn at len ((others ++ last ∷ []) ++ p ∷ []) → AreInTurn at len (others ++ joined ∷ [])
 turn-joined at len [] last joined p first ends turn =
@@ -304,7 +303,7 @@ pub next-at : (pattern old new : List ℕ) (changes : List Change) (i n kept don
 next-at pattern old new changes i n kept done patches l w =
     next-of pattern old new (change_at changes i) (drop (i + 1) changes) n kept done patches (Woven-at pattern old new changes i n kept done patches l w)
 
--- behind the last one both texts are alike
+-- after the last one both texts are alike
 pub last-alike : (old new : List ℕ) (c : Change) (left : List Change) (n kept done : ℕ) → (next : Next old new c left n kept done) → left ≡ []
     → (end : ℕ) → end ≡ line_at new c.new_end → GoOnAlike old new c.old_end (end + 1)
 last-alike old new c left n kept done next none end end_is =
@@ -335,7 +334,7 @@ pub few-at : (made made' count all n b others start last start' last' : ℕ) →
     → made' ≡ made + count → count ≡ last' + 1 - start' → made' + others ≤ all
 few-at made made' count all n b others start last start' last' total counts few a e more own = omega (arith, total, counts, few, a, e, more, own)
 
--- each line is searched once at most
+-- each line is searched at most once
 pub once-at : (tick tick' first done start last : ℕ) {start' last' : ℕ} → tick ≤ first + done → done ≤ start → start ≤ last + 1 → start' ≡ start → last' ≡ last
     → tick' ≤ tick + (last' + 1 - start') → tick' ≤ first + (last' + 1)
 once-at tick tick' first done start last sofar low high a e made = omega (arith, sofar, low, high, a, e, made)

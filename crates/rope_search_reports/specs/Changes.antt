@@ -1,4 +1,4 @@
--- What several changes do to the lines of a text.
+-- The effect of several changes on the lines of a text.
 use Rattle.std.specs.Prelude.{◌≡◌, ℕ, ◌+◌, ◌-◌, ◌≤◌, ◌⊎◌, List, [], ◌++◌, length, take, drop, max}
 use Rattle.str_indices.specs.Text.{byte_len, breaks}
 use Rattle.ropey.specs.Chunks.{is_break}
@@ -6,8 +6,8 @@ use Rattle.rope_search_reports.specs.Report.{line_texts}
 use Rattle.rope_search_reports.specs.Position.{line_at}
 pub use Rattle.rope_search_changes.specs.Changes.{IsChange, AreChanges}
 
--- Two texts up to where they go on alike, and how many of their lines are done with: none where no
--- change was met yet, and else those up to the one in which the last change ends.
+-- Two texts up to an offset after which they are alike, and how many of their lines are done: none
+-- before the first change, afterwards those up to the one in which the last change ends.
 pub record IsAtStart (before before' : List ℕ) (kept done : ℕ) : Type 0 where
   pub old : before ≡ []
   pub new : before' ≡ []
@@ -24,8 +24,8 @@ IsInStep before before' after after' kept done =
     ⊎ StandsAtLines (before ++ after) (before' ++ after')
     (byte_len before) (byte_len before') kept done
 
--- One change more. Lines `done` to `start` of the new text are those of the old one from `kept` on;
--- lines `start` to `last` are made anew; those up to `gone` of the old text are gone.
+-- One more change. Lines `done` to `start` of the new text are those of the old one from `kept` on;
+-- lines `start` to `last` are new; those up to `gone` of the old text are removed.
 pub record IsFurther (old new : List ℕ) (kept done start last gone : ℕ) : Type 0 where
   pub lines : take (last + 1) (line_texts new) ≡ take done (line_texts new)
       ++ take (start - done) (drop kept (line_texts old))
@@ -36,9 +36,9 @@ pub record IsFurther (old new : List ℕ) (kept done start last gone : ℕ) : Ty
   pub inside : gone + 1 ≤ length (line_texts old)
   pub inside_new : last + 1 ≤ length (line_texts new)
 
--- Whatever breaks meet at the ends of the changes: the lines that begin behind a change and end
--- before the next one are as they were. A change makes its own text's breaks plus one lines anew
--- at most.
+-- Lines that begin after a change and end before the next one are unchanged, whatever breaks are at
+-- the ends of the changes. A change replaces at most one line plus one for each break that it
+-- inserts.
 abbrev pub ChangesKeepLines : Type 0
 ChangesKeepLines = (before before' gap removed inserted after after' : List ℕ) (kept done : ℕ)
     → IsInStep before before' (gap ++ removed ++ after) (gap ++ inserted ++ after') kept done
@@ -50,7 +50,7 @@ ChangesKeepLines = (before before' gap removed inserted after after' : List ℕ)
     IsFurther old new kept done start last gone
     × (last + 1 - start ≤ breaks is_break inserted + 1)
 
--- behind the last change
+-- after the last change
 abbrev pub TailsKeepLines : Type 0
 TailsKeepLines = (before before' tail : List ℕ) (kept done : ℕ)
     → IsInStep before before' tail tail kept done

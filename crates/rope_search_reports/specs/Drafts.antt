@@ -1,4 +1,4 @@
--- Words of the code that makes a report line by line, for its own contracts.
+-- Words for the contracts of the code that makes a report line by line.
 use Rattle.std.specs.Prelude.{◌≡◌, ◌⊎◌, ◌+◌, ◌-◌, ◌^◌, ◌<◌, ◌≤◌, List, ℕ, [], ◌∷◌, ◌++◌, None, length, take, drop, IfSome}
 use Rattle.std.specs.Str.{NonePass, IsUtf8, IsCharBoundary, chars}
 use Rattle.ropey.specs.Chunks.{is_break}
@@ -17,36 +17,36 @@ use Rattle.rope_search_reports.specs.declared.line_start.LineStart.{LineStart}
 use Rattle.rope_search_reports.specs.declared.line.Line.{Line}
 use Rattle.rope_search_reports.specs.declared.line.Line.TheVariants.{Whole, Parted}
 
--- a line with the break that ends it, if one does: this is its text, the break left off
+-- the text of a line, given with the break that ends it, if one does
 pub record HasOwnText (line own : List ℕ) : Type 0 where
   pub one : List ℕ
   pub parts : line ≡ own ++ one
   pub plain : NonePass is_break own
   pub ended : (one ≡ []) ⊎ IsBreak is_break one []
 
--- no part of a content from one place up to another has a match, searched by itself
+-- no part of a haystack between two offsets has a match, searched separately
 abbrev pub FindsNoneBetween : List ℕ → List ℕ → ℕ → ℕ → Type 0
 FindsNoneBetween pattern content from to =
     (start end : ℕ) → from ≤ start → end ≤ to
     → FindsMatch pattern (between start end content) 0 None
 
--- no line of a text from one up to another has a match
+-- no line of a text in a range has a match
 abbrev pub HaveNoMatches : List ℕ → List ℕ → ℕ → ℕ → Type 0
 HaveNoMatches pattern text first end =
     (line : ℕ) → first ≤ line → line < end → IsRow pattern (line_text text line) []
 
--- the lines of a text from one up to another
+-- the lines of a text in a range
 abbrev pub lines_between : List ℕ → ℕ → ℕ → List (List ℕ)
 lines_between text first end = take (end - first) (drop first (line_texts text))
 
--- behind the rows that were there stand those of these lines
+-- the rows of these lines are added after the old rows
 pub record AddsRows (pattern : List ℕ) (lines : List (List ℕ)) (old new : List (List (ℕ × ℕ)))
     : Type 0 where
   pub made : List (List (ℕ × ℕ))
   pub are : AreRows pattern lines made
   pub behind : new ≡ old ++ made
 
--- ---- a line where it lies
+-- ---- a line in place
 
 -- the text of a line
 abbrev pub own_text : Line → List ℕ
@@ -62,7 +62,7 @@ HoldsText (Parted slice) = IsText (slice_text slice)
 abbrev pub HasNarrowText : Line → Type 0
 HasNarrowText line = units (own_text line) ≡ byte_len (own_text line)
 
--- a place in a line's text that so many code units stand before, up to its end
+-- an offset in a line's text, up to its end, with this number of code units before it
 pub record HasColumn (own : List ℕ) (column : ℕ) (place : Place) : Type 0 where
   pub front : List ℕ
   pub back : List ℕ
@@ -71,14 +71,14 @@ pub record HasColumn (own : List ℕ) (column : ℕ) (place : Place) : Type 0 wh
   pub char_is : place.char_idx ≡ length front
   pub column_is : column ≡ units front
 
--- there is none: so many stand behind its end, or inside a surrogate pair
+-- there is none: the column is after its end, or inside a surrogate pair
 abbrev pub HasNoColumn : List ℕ → ℕ → Type 0
 HasNoColumn own column = (front back : List ℕ) → own ≡ front ++ back → column ≡ units front → ⊥
 
 -- ---- where a line starts
 
--- a chunk of a text, with what stands before it, and where a line starts in it, or at its end; no
--- CR LF is cut behind it
+-- a chunk of a text with its offsets, and where a line starts in it, or at its end; no CR LF is
+-- split at its end
 pub record StartsIn (text : List ℕ) (line : ℕ) (start : LineStart) : Type 0 where
   pub first : List ℕ
   pub others : List ℕ
@@ -92,7 +92,7 @@ pub record StartsIn (text : List ℕ) (line : ℕ) (start : LineStart) : Type 0 
   pub scalars : IsText text
   pub fits : byte_len text < 2 ^ 63
 
--- a line of a text, with what stands before it, and its text where that is told
+-- a line of a text with its offsets, and its text if that is known
 pub record IsOwnLine (text : List ℕ) (line : ℕ) (own : OwnLine) : Type 0 where
   pub inside : line < line_count text
   pub whole_is : slice_text own.whole ≡ text
@@ -106,20 +106,19 @@ pub record IsOwnLine (text : List ℕ) (line : ℕ) (own : OwnLine) : Type 0 whe
 
 -- ---- a walk over lines
 
--- what is seen of a walk: the text, the line that comes next, and what is left of the chunk in which
--- that starts
+-- the view of a walk: the text, the next line, and the rest of the chunk in which that starts
 pub record WalkState : Type 0 where
   pub text : List ℕ
   pub line : ℕ
   pub rest : List ℕ
 
--- a text begins with what is left of a chunk, and no CR LF is cut behind that
+-- a text begins with the rest of a chunk, and no CR LF is split at the end of that
 pub record IsRestOfChunk (text rest : List ℕ) : Type 0 where
   pub after : List ℕ
   pub parts : text ≡ rest ++ after
   pub whole : NoCrLfBetween rest after
 
--- a line of a text starts at this place: behind it stand the lines from that one on
+-- a line of a text starts at this offset: it is followed by the lines from that one on
 pub record StartsLine (text : List ℕ) (line byte : ℕ) (rest : List ℕ) : Type 0 where
   pub before : List ℕ
   pub behind : List ℕ
@@ -129,7 +128,7 @@ pub record StartsLine (text : List ℕ) (line byte : ℕ) (rest : List ℕ) : Ty
   pub lines : drop line (line_texts text) ≡ line_texts behind
   pub shown : IsRestOfChunk behind rest
 
--- such a walk: behind the last line nothing is left
+-- such a walk: after the last line nothing is left
 pub record IsWalk (text : List ℕ) (line byte : ℕ) (rest : List ℕ) : Type 0 where
   pub text_is : IsText text
   pub fits : line_count text < 2 ^ 64
@@ -140,20 +139,20 @@ pub record IsWalk (text : List ℕ) (line byte : ℕ) (rest : List ℕ) : Type 0
   pub starts : line < line_count text → StartsLine text line byte (chars rest)
   pub nothing : line ≡ line_count text → rest ≡ []
 
--- the lines that end in what is left are those of the text from the next one on
+-- the lines that end in the rest are those of the text from the next one on
 abbrev pub ShowsLines : WalkState → Type 0
 ShowsLines walk = (k : ℕ) → k < breaks is_break walk.rest
     → line_text walk.text (walk.line + k) ≡ line_text walk.rest k
 
--- ---- lines of places
+-- ---- lines of offsets
 
--- what is seen of what tells them: the text, and where what is left of a chunk starts and ends
+-- the view of a `LineTeller`: the text, and where the rest of a chunk starts and ends
 pub record TellerState : Type 0 where
   pub text : List ℕ
   pub start : ℕ
   pub end : ℕ
 
--- what is left of a chunk from a place on, which is in this line; no CR LF is cut behind it
+-- the rest of a chunk from an offset on, which is in this line; no CR LF is split at its end
 pub record IsTeller (text rest : List ℕ) (start line : ℕ) : Type 0 where
   pub before : List ℕ
   pub after : List ℕ
@@ -165,13 +164,13 @@ pub record IsTeller (text rest : List ℕ) (start line : ℕ) : Type 0 where
   pub fits : line_count text < 2 ^ 64
   pub bytes_fit : byte_len text < 2 ^ 63
 
--- so many places from one on are in the same line
+-- this number of offsets from one on are in the same line
 abbrev pub StaysInLine : List ℕ → ℕ → ℕ → ℕ → Type 0
 StaysInLine text start line count = (k : ℕ) → k < count → line_at text (start + k) ≡ line
 
--- ---- behind the last change
+-- ---- after the last change
 
--- two texts are alike behind a place of the old one, up to which the new one has so many lines
+-- two texts are alike after an offset of the old one; the new one has `done` lines before that
 pub record GoOnAlike (old new : List ℕ) (old_end done : ℕ) : Type 0 where
   pub before : List ℕ
   pub before' : List ℕ
@@ -181,9 +180,9 @@ pub record GoOnAlike (old new : List ℕ) (old_end done : ℕ) : Type 0 where
   pub end_is : old_end ≡ byte_len before
   pub done_is : done ≡ line_at new (byte_len before') + 1
 
--- ---- a patch behind others
+-- ---- a patch after others
 
--- it begins where the last of them ends, and goes into that
+-- it begins where the last of them ends, and is merged into that
 pub record GoesInto (old : List Patch) (patch : Patch) (new : List Patch) : Type 0 where
   pub others : List Patch
   pub last : Patch
@@ -195,6 +194,6 @@ pub record GoesInto (old : List Patch) (patch : Patch) (new : List Patch) : Type
   pub ends : joined.end ≡ patch.end
   pub rows : joined.made.items ≡ last.made.items ++ patch.made.items
 
--- so it does, or it stands behind them
+-- it is merged, or it is added after them
 abbrev pub IsPatchAdded : List Patch → Patch → List Patch → Type 0
 IsPatchAdded old patch new = (new ≡ old ++ patch ∷ []) ⊎ GoesInto old patch new

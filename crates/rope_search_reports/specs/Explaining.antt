@@ -1,5 +1,4 @@
--- Why a text is refused as a pattern: the words of the crate below, for crates that stand on this
--- one.
+-- Why a text is refused as a pattern: words of `regex_cursor`, for the crates above.
 pub use Rattle.regex_cursor.specs.Explaining.{IsRefusedAs, SpellsSome}
 pub use Rattle.regex_cursor.specs.Explaining.{Settings, default_settings}
 pub use Rattle.regex_cursor.specs.Explaining.{Refusal, Reason, TooLong, Nesting, Outside}

@@ -1,6 +1,6 @@
--- The matches of a pattern in a content, one after the other: the first is found from the content's
--- start, each further one from the end of the one before, or one place on where an empty match is
--- found there.
+-- The matches of a pattern in a haystack, in order: the first is searched for from the haystack's
+-- start, each further one from the end of the one before, or one byte further on if that finds an
+-- empty match at that end.
 use Rattle.std.specs.Prelude.{◌≡◌, ℕ, ◌+◌, ◌*◌, List, ◌∷◌, Option, None, Some, map}
 use Rattle.std.specs.List.{range_with_len}
 use Rattle.regex_cursor.specs.Patterns.{Tree, SpellsTree, FoundMatch, TreeMatches, slot_of}
@@ -20,17 +20,17 @@ pub record IsMatches (pattern content : List ℕ) (spans : List (ℕ × ℕ)) : 
 
 -- ---- groups
 
--- both places, where both are there
+-- both offsets, if both exist
 abbrev pub both : Option ℕ → Option ℕ → Option (ℕ × ℕ)
 both None end = None
 both (Some start) None = None
 both (Some start) (Some end) = Some (start, end)
 
--- the span of a match's group, if that takes part in the match
+-- the span of a match's group, if it takes part in the match
 abbrev pub group_of : FoundMatch → ℕ → Option (ℕ × ℕ)
 group_of found k = both (slot_of found.notes (2 * k)) (slot_of found.notes (2 * k + 1))
 
--- the spans of groups 0 to 9, of which group 0 is the whole match
+-- the spans of groups 0 to 9; group 0 is the whole match
 abbrev pub groups_of : FoundMatch → List (Option (ℕ × ℕ))
 groups_of found = Some (span_of found) ∷ map (group_of found) (range_with_len 1 9)
 

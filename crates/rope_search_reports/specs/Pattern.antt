@@ -1,4 +1,4 @@
--- Which texts are patterns, and what a search for one finds. A pattern is a regular expression, with
+-- Which texts are patterns, and what a search for one finds. A pattern is a regular expression with
 -- the default settings of a regex.
 use Rattle.std.specs.Prelude.{◌≡◌, ℕ, ◌<◌, ◌≤◌, List, Option, option_map}
 use Rattle.regex_cursor.specs.Patterns.{Tree, SpellsTree, FoundMatch, TreeFinds, pattern_weight, start_of, end_of}
@@ -10,7 +10,7 @@ pub use Rattle.regex_cursor.specs.Patterns.{SpellsNone, weight_limit}
 abbrev pub pattern_limit : ℕ
 pattern_limit = 65536
 
--- the text, of at most so many bytes, spells this tree, which weighs at most 262,144
+-- the text, within that limit, spells this tree, whose weight is at most 262,144
 pub record IsPatternOf (text : List ℕ) (tree : Tree) : Type 0 where
   pub spells : SpellsTree text tree
   pub light : pattern_weight tree ≤ weight_limit
@@ -25,20 +25,20 @@ pub record IsTooHeavy (text : List ℕ) : Type 0 where
   pub spells : SpellsTree text tree
   pub heavy : weight_limit < pattern_weight tree
 
--- ---- what a pattern finds in a content, which is a list of bytes
+-- ---- what a pattern finds in a haystack, which is a list of bytes
 
--- a match's span: the places where it starts and where it ends
+-- a match's span: the offsets where it starts and where it ends
 abbrev pub span_of : FoundMatch → ℕ × ℕ
 span_of found = (start_of found, end_of found)
 
--- what a search for a pattern finds from a place on, in the content as a whole: looks see what
--- stands before the place
+-- what a search for a pattern finds from an offset on, in the whole haystack: look-around
+-- assertions see the text before the offset
 pub record FindsMatch (pattern content : List ℕ) (from : ℕ) (found : Option FoundMatch) : Type 0 where
   pub tree : Tree
   pub spells : SpellsTree pattern tree
   pub finds : TreeFinds tree content from found
 
--- its span alone
+-- the span only
 pub record FindsSpan (pattern content : List ℕ) (from : ℕ) (span : Option (ℕ × ℕ)) : Type 0 where
   pub found : Option FoundMatch
   pub is : FindsMatch pattern content from found

@@ -1,4 +1,5 @@
--- Positions: a line and a column, for a place in a text. A place is a number of bytes of its UTF-8.
+-- Positions: a line and a column, for an offset in a text. An offset is a number of bytes of its
+-- UTF-8.
 use Rattle.std.specs.Prelude.{◌≡◌, ℕ, ◌+◌, ◌-◌, ◌<◌, ◌≤◌, ◌⊎◌, List, [], ◌++◌, length, take, drop, slice_index_or, chars}
 use Rattle.std.specs.Str.{IsCharBoundary, NonePass}
 use Rattle.str_indices.specs.Text.{byte_len, break_ends, ends_up_to, end_place, units, NoCrLfBetween}
@@ -8,7 +9,7 @@ use Rattle.rope_search_reports.specs.declared.positions.Place.{Place}
 use Rattle.rope_search_reports.specs.Text.{bytes_of, line_count}
 use Rattle.rope_search_reports.specs.Report.{line_texts}
 
--- the line that a place is in: how many breaks end there or before
+-- the line that contains an offset: the number of breaks that end there or before
 abbrev pub line_at : List ℕ → ℕ → ℕ
 line_at text place = ends_up_to place (break_ends is_break text)
 
@@ -16,7 +17,7 @@ line_at text place = ends_up_to place (break_ends is_break text)
 abbrev pub line_start : List ℕ → ℕ → ℕ
 line_start text line = end_place (break_ends is_break text) line (length (bytes_of text))
 
--- how many code units there are from where the place's line starts up to the place
+-- the number of code units from the start of the offset's line up to the offset
 abbrev pub column_at : List ℕ → ℕ → ℕ
 column_at text place =
     let start = line_start text (line_at text place) in
@@ -34,25 +35,25 @@ line_text text line = slice_index_or (line_texts text) line []
 abbrev pub text_end : List ℕ → ℕ → ℕ
 text_end text line = line_start text line + byte_len (line_text text line)
 
--- the position is at this place: a boundary, in the line's text or at its end
+-- the offset of the position: a boundary, in the line's text or at its end
 pub record IsAt (text : List ℕ) (spot : ℕ × ℕ) (place : ℕ) : Type 0 where
   pub boundary : IsCharBoundary (bytes_of text) place
   pub same : spot ≡ position text place
   pub within : place ≤ text_end text spot.0
 
--- the position is at no place: inside a character or a break, behind its line's text, or past the
--- last line
+-- the position has no offset: it is inside a character or a break, after its line's text, or past
+-- the last line
 abbrev pub IsNowhere : List ℕ → ℕ × ℕ → Type 0
 IsNowhere text spot = (place : ℕ) → IsAt text spot place → ⊥
 
--- the place in bytes and in characters at which a position is
+-- the offset of a position, in bytes and in characters
 pub record IsPlaceOf (text : List ℕ) (spot : ℕ × ℕ) (place : Place) : Type 0 where
   pub at : IsAt text spot place.byte_idx
   pub within : place.char_idx ≤ length text
   pub bytes : byte_len (take place.char_idx text) ≡ place.byte_idx
 
--- a match in a line, told by two columns: it starts at a boundary of the text and ends at one, and
--- each is at its column of that line
+-- a match in a line, given by two columns, starts and ends at a boundary of the text, and each is
+-- at its column of that line
 pub record StandsAtBoundaries (text : List ℕ) (line : ℕ) (shown : ℕ × ℕ) : Type 0 where
   pub start : ℕ
   pub end : ℕ
@@ -60,15 +61,15 @@ pub record StandsAtBoundaries (text : List ℕ) (line : ℕ) (shown : ℕ × ℕ
   pub ends : IsAt text (line, shown.1) end
   pub ordered : start ≤ end
 
--- ---- where a line lies in its text
+-- ---- a line in its text
 
--- the last line: nothing stands behind its text, which ends where the whole text does
+-- the last line: its text ends where the whole text ends
 pub record IsLastLine (text : List ℕ) (line : ℕ) (behind : List ℕ) : Type 0 where
   pub last : line + 1 ≡ line_count text
   pub nothing : behind ≡ []
   pub ends : text_end text line ≡ byte_len text
 
--- another line: one break stands behind its text, and behind that the next line starts
+-- another line: its text is followed by one break, and then the next line starts
 pub record EndsInBreak (text : List ℕ) (line : ℕ) (behind : List ℕ) : Type 0 where
   pub more : line + 1 < line_count text
   pub one : List ℕ
@@ -77,9 +78,9 @@ pub record EndsInBreak (text : List ℕ) (line : ℕ) (behind : List ℕ) : Type
   pub is : IsBreak is_break one rest
   pub next : line_start text (line + 1) ≡ text_end text line + byte_len one
 
--- From where a line starts to where its text ends stand that text's bytes, and then comes what ends
--- the line. No line starts between the CR and the LF of a break, and no character of the break set
--- is in a line's text.
+-- From where a line starts to where its text ends are the bytes of that text, followed by the
+-- line's break, if it has one. No line starts between the CR and the LF of a break, and no
+-- character of the break set is in a line's text.
 pub record LiesInPlace (text : List ℕ) (line : ℕ) : Type 0 where
   pub before : List ℕ
   pub behind : List ℕ

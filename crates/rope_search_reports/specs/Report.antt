@@ -12,8 +12,8 @@ abbrev pub with_first : ℕ → List (List ℕ) → List (List ℕ)
 with_first c [] = (c ∷ []) ∷ []
 with_first c (line ∷ lines) = (c ∷ line) ∷ lines
 
--- The text of each line. No character of the break set is in it, so the CR of a CR LF isn't either.
--- A break has a line before it and one behind it, so there is one more line than breaks.
+-- The text of each line. It has no character of the break set, so the CR of a CR LF isn't in it
+-- either. Each break ends a line, so there is one more line than breaks.
 unfoldable pub line_texts : List ℕ → List (List ℕ)
 line_texts [] = [] ∷ []
 line_texts (c ∷ rest) =
@@ -24,14 +24,14 @@ line_texts (c ∷ rest) =
 -- ---- rows
 -- A row is the matches in one line, each as two columns: UTF-16 code units from the line's start.
 
--- the column of a place in a line's UTF-8
+-- the column of an offset in a line's UTF-8
 abbrev pub column : List ℕ → ℕ → ℕ
 column content place = units (chars (take place content))
 
 abbrev pub columns : List ℕ → ℕ × ℕ → ℕ × ℕ
 columns content span = (column content span.0, column content span.1)
 
--- the row of a pattern in a line: its matches in that line's text as the whole content
+-- the row of a pattern in a line: its matches, with the line's text as the whole haystack
 pub record IsRow (pattern line : List ℕ) (row : List (ℕ × ℕ)) : Type 0 where
   pub spans : List (ℕ × ℕ)
   pub are : IsMatches pattern (bytes_of line) spans

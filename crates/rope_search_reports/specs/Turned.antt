@@ -7,17 +7,17 @@ use Rattle.rope_search_changes.specs.declared.Change.{Change}
 use Rattle.rope_search_reports.specs.declared.changes.Changes.{Changes}
 use Rattle.rope_search_reports.specs.declared.changes.Changes.TheVariants.{One, Many}
 
--- the changes make the new text of the old one
+-- the changes turn the old text into the new one
 abbrev pub Lead : List Change → List ℕ → List ℕ → Type 0
 Lead changes old new = (n : ℕ) × AreChanges changes 0 0 old new n
 
--- the changes that are kept
+-- the changes as a list
 abbrev pub listed : Changes → List Change
 listed (One change) = change ∷ []
 listed (Many changes) = changes.items
 
--- A change turned about: what it put into the new text goes, and what it took out of the old one
--- comes back. What is left of both texts starts at these places.
+-- The reverse of a change: it removes what the change inserts into the new text, and inserts what
+-- it removes from the old one. The rest of both texts starts at these offsets.
 abbrev pub turned_from : ℕ → ℕ → Change → Change
 turned_from at_old at_new change = record {
   old_end = change.new_end;
@@ -25,30 +25,30 @@ turned_from at_old at_new change = record {
   new_end = change.old_end;
 }
 
--- the changes turned about, from two places on
+-- the reversed changes, from two offsets on
 abbrev pub turned_changes : ℕ → ℕ → List Change → List Change
 turned_changes at_old at_new [] = []
 turned_changes at_old at_new (change ∷ changes) =
     turned_from at_old at_new change ∷ turned_changes change.old_end change.new_end changes
 
--- how many lines the changes may have searched in the new text, of this content: for each the lines
--- of what it puts there, which are its breaks plus one
+-- the number of lines that the changes may have searched in the new text: for each change the
+-- number of breaks that it inserts plus one
 abbrev pub lines_put : List ℕ → List Change → ℕ
 lines_put content changes =
     sum_by (λ (change : Change). line_count (between content change.new_start change.new_end))
     changes
 
--- changes turned about lead from the new text to the old one
+-- reversed changes lead from the new text to the old one
 abbrev pub ChangesLeadBack : Type 0
 ChangesLeadBack = (changes : List Change) (old new : List ℕ)
     → Lead changes old new → Lead (turned_changes 0 0 changes) new old
 
--- and turned about again they are the changes that they were
+-- reversing changes twice gives them back
 abbrev pub ChangesTurnTwice : Type 0
 ChangesTurnTwice = (changes : List Change) (old new : List ℕ)
     → Lead changes old new → turned_changes 0 0 (turned_changes 0 0 changes) ≡ changes
 
--- the lines that changes may have searched are those of what they put
+-- the lines that changes may have searched are those of what they insert
 abbrev pub ChangesPutLines : Type 0
 ChangesPutLines = (changes : List Change) (old new : List ℕ) (n : ℕ) → IsText new
     → AreChanges changes 0 0 old new n → n ≡ lines_put (bytes_of new) changes

@@ -1,4 +1,4 @@
-//! Changes of a text, the way back from them, and the rows that they make anew.
+//! Changes of a text, their reversal, and the rows that they replace.
 ghost use Rattle.std.specs.Prelude.{◌≡◌, ℕ, ◌+◌, ◌-◌, ◌^◌, ◌<◌, ◌≤◌, List, true, IfOk, IfErr};
 ghost use Rattle.std.specs.Prelude.{length, slice_index_or};
 ghost use Rattle.rope_search_reports.specs.Report.{IsReport};
@@ -23,7 +23,7 @@ use ropey::Rope;
 use std::alloc::Global;
 use std::slice;
 
-/// Changes of a text, one after the other. One alone takes no memory beside its own.
+/// Changes of a text, in order. A single one takes no memory besides its own.
 #[derive(Debug, Drop)]
 pub enum Changes {
     /// One change.
@@ -32,8 +32,9 @@ pub enum Changes {
     Many(Vec<Change>),
 }
 
-/// The change that takes out of the new text what this one puts in, and puts back what it takes
-/// out. The one before it ends at these places of the old text and the new one.
+/// Returns the reverse of a change: it removes from the new text what this one inserts, and inserts
+/// what it removes. `at_old` and `at_new` are where the change before it ends in the old and the
+/// new text.
 fn turned_from(change: Change, at_old: usize, at_new: usize) -> Change
     requires behind { at_new ≤ change.new_start }
     requires ordered { at_old + (change.new_start - at_new) ≤ change.old_end }
@@ -46,7 +47,7 @@ fn turned_from(change: Change, at_old: usize, at_new: usize) -> Change
     }
 }
 
-/// Changes turned about, in a list of their own.
+/// Returns the reversed changes in a list of their own.
 fn turned(alloc: Global, changes: &[Change]) -> Result<Vec<Change>, Fault>
     requires { (old : List ℕ) × (new : List ℕ) × Lead changes.now old new }
     ensures changes { IfOk result (λ back. back.items ≡ turned_changes 0 0 changes.now) }
@@ -64,7 +65,7 @@ fn turned(alloc: Global, changes: &[Change]) -> Result<Vec<Change>, Fault>
 }
 
 impl Changes {
-    /// Returns the changes, from the first on.
+    /// Returns the changes in order.
     pub fn as_slice(&self) -> &[Change]
         ensures { result.now ≡ listed self.now }
     {
@@ -74,9 +75,15 @@ impl Changes {
         }
     }
 
-    /// Returns the changes that lead from the new text back to the old one. `O(k)` for k changes.
+    /// Returns the changes that lead from the new text back to the old one.
     ///
-    /// Errors: `Fault::Memory`, which one change never meets.
+    /// # Errors
+    ///
+    /// `Fault::Memory`, which never occurs for a single change.
+    ///
+    /// # Complexity
+    ///
+    /// `O(k)` for k changes.
     pub fn turned(&self, alloc: Global) -> Result<Changes, Fault>
         requires { (old : List ℕ) × (new : List ℕ) × Lead (listed self.now) old new }
         ensures changes { IfOk result (λ back. listed back ≡ turned_changes 0 0 (listed self.now)) }
@@ -89,8 +96,8 @@ impl Changes {
     }
 }
 
-/// The number of lines up to the end of a change in the old text, by that in the new one. Behind
-/// the last change there are as many in both, so nothing is looked up.
+/// Returns the number of lines of the old text up to the end of a change, given that number in the
+/// new one. After the last change both texts have equally many lines left, so it needs no look-up.
 fn lines_kept(
     old: &Rope,
     new: &Rope,
@@ -114,7 +121,7 @@ fn lines_kept(
     old_lines.line(old_end) + 1
 }
 
-/// Where the first of some changes starts in the new text, or 0 where there is none.
+/// Returns where the first change starts in the new text, or 0 if there is none.
 fn first_start(changes: &[Change]) -> usize
     ensures first { (d : Change) → 0 < length changes.now
         → result ≡ (slice_index_or changes.now 0 d).new_start }
@@ -126,14 +133,23 @@ fn first_start(changes: &[Change]) -> usize
     }
 }
 
-/// Returns the patches that make a report that of the text after some changes. Each line of the new
-/// text is searched once at most, and at most as many as the changes' new parts have breaks, and
-/// one more for each change. Requires changes that lead from the old text to the new one.
-/// Changes that come side by side take no look-up but for each chunk of both texts, and their rows
-/// come in one patch; time is linear in the lines that are searched, and in what lies between
-/// changes in a chunk.
+/// Returns the patches that turn the report of the old text into that of the new one. Changes next
+/// to each other come in one patch.
 ///
-/// Errors: `Fault::Memory`; the finder serves on.
+/// # Requires
+///
+/// The changes lead from the old text to the new one.
+///
+/// # Errors
+///
+/// `Fault::Memory`; the finder remains usable.
+///
+/// # Complexity
+///
+/// Each line of the new text is searched at most once, and in all at most one line for each change
+/// plus one for each break that it inserts. Changes next to each other need one look-up for each
+/// chunk of both texts. Time is linear in the lines searched and in the text between changes of a
+/// chunk.
 pub fn patches_of(
     tick: &mut Lines,
     alloc: Global,
@@ -161,7 +177,7 @@ pub fn patches_of(
     ensures each { IfOk result (λ patches.
         MakesAsMany (made_by patches.items) tick.old tick.new) }
 
-    // Nor does it look through more lines.
+    // Nor does it scan more lines.
     ensures looks { (n : ℕ) → AreChanges changes.now 0 0 (text_of old.now) (text_of new.now) n
         → LooksAtMost n tick.old tick.new }
     ensures looks_once { LooksAtMost (line_count (text_of new.now)) tick.old tick.new }
@@ -172,8 +188,8 @@ pub fn patches_of(
     let mut walk = Walk::at_place(new.slice(..), first_start(changes));
     let mut old_lines = LineTeller::of(old.slice(..));
     let mut new_lines = walk.teller();
-    // The lines of both texts up to the last change: the old one's that are kept or gone, and the
-    // new one's that have a row.
+    // The number of lines up to the last change: of the old text those kept or removed, of the new
+    // text those that have a row.
     let (mut kept, mut done) = (0, 0);
     let mut left = changes.len();
     for change in changes {

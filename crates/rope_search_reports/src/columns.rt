@@ -9,8 +9,15 @@ ghost use Rattle.rope_search_reports.specs.Report.{column, columns};
 use rope_search_changes::Groups;
 use ropey::RopeSlice;
 
-/// The column of a place in a line, which is a character boundary up to its length. `O(1)` where
-/// the line is ASCII alone, else two conversions, `O(log n)`.
+/// Returns the column of a byte offset in a line.
+///
+/// # Requires
+///
+/// `byte_idx` is a character boundary of the line, at most its length.
+///
+/// # Complexity
+///
+/// `O(1)` if the line is ASCII, otherwise two conversions, `O(log n)`.
 pub fn column_at(line: &RopeSlice<'_>, byte_idx: usize) -> usize
     requires { IsCharBoundary (slice_bytes line.now) byte_idx }
     ensures { result ≡ column (slice_bytes line.now) byte_idx }
@@ -22,7 +29,7 @@ pub fn column_at(line: &RopeSlice<'_>, byte_idx: usize) -> usize
     line.char_to_utf16_cu(line.byte_to_char(byte_idx))
 }
 
-/// The columns of a span of a line, where there is one.
+/// Returns the columns of a span of a line, if there is a span.
 fn columns_at(line: &RopeSlice<'_>, span: Option<(usize, usize)>) -> Option<(usize, usize)>
     requires { IfSome span (IsSpanIn (slice_bytes line.now)) }
     ensures { result ≡ option_map (columns (slice_bytes line.now)) span }
@@ -33,7 +40,8 @@ fn columns_at(line: &RopeSlice<'_>, span: Option<(usize, usize)>) -> Option<(usi
     }
 }
 
-/// The groups of a match in a line, each by its columns. Two conversions a place, as `column_at`.
+/// Returns the groups of a match in a line as columns. Each offset takes two conversions, as
+/// `column_at` does.
 pub fn groups_by_columns(line: &RopeSlice<'_>, groups: &Groups) -> Groups
     requires { HasSpansIn (slice_bytes line.now) groups.now }
     ensures { result ≡ in_columns (slice_bytes line.now) groups.now }

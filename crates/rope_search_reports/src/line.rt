@@ -1,4 +1,4 @@
-//! A line's text, where it lies: searches of it copy nothing.
+//! The text of a line, in place: searches copy nothing.
 ghost use Rattle.std.specs.Prelude.{◌≡◌, ◌+◌, ◌≤◌, true};
 ghost use Rattle.std.specs.Str.{IsCharBoundary};
 ghost use Rattle.str_indices.specs.Text.{byte_len};
@@ -11,22 +11,22 @@ use crate::columns::column_at;
 use ropey::RopeSlice;
 use str_indices::utf16;
 
-/// A line's text, its break left off.
+/// The text of a line without its break.
 #[derive(Clone, Copy)]
 pub(crate) enum Line<'a> {
-    /// It lies in one chunk.
+    /// It is in one chunk.
     Whole(&'a str),
-    /// It lies in any number of chunks.
+    /// It is split into chunks.
     Parted(RopeSlice<'a>),
 }
 
 impl<'a> Line<'a> {
-    /// A slice's text, in one chunk where it lies in one.
+    /// Returns a slice's text, as one chunk if it is in one.
     pub(crate) fn of(slice: RopeSlice<'a>) -> Line<'a>
         ensures text { own_text result ≡ slice_text slice.entry }
         ensures holds { HoldsText result }
     {
-        // The slice's facts, for the proof alone.
+        // For the proof: the slice's facts.
         let _ = slice.len_bytes();
         match slice.as_str() {
             Some(text) => Line::Whole(text),
@@ -34,7 +34,7 @@ impl<'a> Line<'a> {
         }
     }
 
-    /// How many bytes it takes.
+    /// Returns the number of bytes.
     pub(crate) fn len_bytes(&self) -> usize
         requires { HoldsText self.now }
         ensures { result ≡ byte_len (own_text self.now) }
@@ -45,9 +45,9 @@ impl<'a> Line<'a> {
         }
     }
 
-    /// Whether it is known that its columns are byte offsets, since each of its characters takes
-    /// one byte and one code unit. In one chunk it takes time in proportion to its length; over
-    /// chunks that isn't asked, since its slice knows the columns there.
+    /// Returns whether it is known that columns are byte offsets, because each character takes one
+    /// byte and one code unit. For one chunk this takes time linear in its length. For several
+    /// chunks it returns `false` at once: their slice converts columns itself.
     fn is_narrow(&self) -> bool
         requires { HoldsText self.now }
         ensures { result ≡ true → HasNarrowText self.now }
@@ -58,7 +58,8 @@ impl<'a> Line<'a> {
         }
     }
 
-    /// The same, which is looked up with its first match, and known with all others.
+    /// Returns whether columns are byte offsets. It is computed for the first match; `before` is
+    /// the result for the others.
     pub(crate) fn is_narrow_at(&self, number: usize, before: bool) -> bool
         requires holds { HoldsText self.now }
         requires before { before ≡ true → HasNarrowText self.now }
@@ -70,9 +71,9 @@ impl<'a> Line<'a> {
         before
     }
 
-    /// The column of a place, counted on from that of a place before it. Where the line is known to
-    /// be narrow, nothing is counted; else it takes, in one chunk, time in proportion to what
-    /// stands between the two.
+    /// Returns the column of an offset, counted from an earlier offset and its column. If the line
+    /// is known to be narrow, nothing is counted. Otherwise, in one chunk, time is linear in the
+    /// text between the two.
     #[inline(always)]
     pub(crate) fn column_from(
         &self,

@@ -1,4 +1,4 @@
-//! Where a line of a text starts, told by one way down the tree.
+//! The start of a line, found by one descent of the tree.
 ghost use Rattle.std.specs.Prelude.{◌≡◌, ℕ, ◌+◌, ◌<◌, ◌≤◌, ◌==◌, ◌&&◌, drop, length, slice_index, IfSome};
 ghost use Rattle.std.specs.Str.{chars, IsUtf8};
 ghost use Rattle.str_indices.specs.Text.{break_ends, char_ends, end_place, ends_up_to};
@@ -13,21 +13,21 @@ use memchr::memrchr2;
 use ropey::{RopeSlice, breaks};
 use str_indices::chars;
 
-/// Where a line of a text starts: a chunk, what stands before that, and the place in it, which may
-/// be its end.
+/// The start of a line: a chunk, its offsets in the text, and the line's offset in the chunk, which
+/// may be the chunk's end.
 #[derive(Clone, Copy)]
 pub(crate) struct LineStart<'a> {
     /// The chunk.
     pub(crate) chunk: &'a str,
-    /// The byte of the text at which the chunk starts.
+    /// The byte offset of the chunk in the text.
     pub(crate) byte_idx: usize,
-    /// The character at which it starts.
+    /// The character offset of the chunk in the text.
     pub(crate) char_idx: usize,
-    /// The byte of the chunk at which the line starts.
+    /// The byte offset of the line in the chunk.
     pub(crate) at: usize,
 }
 
-/// Whether a byte is the CR of a CR LF.
+/// Returns whether a byte is the CR of a CR LF.
 fn is_cr_of_cr_lf(bytes: &[u8], at: usize) -> bool
     requires { at < length bytes.now }
     ensures { result
@@ -36,9 +36,9 @@ fn is_cr_of_cr_lf(bytes: &[u8], at: usize) -> bool
     bytes[at] == b'\r' && bytes.get(at + 1) == Some(&b'\n')
 }
 
-/// Where the line starts that a place of a text is in: behind the last break that ends there or
-/// before. That is looked for backwards from the place, so it takes time linear in what lies
-/// between the two.
+/// Returns where the line that contains an offset starts: after the last break that ends at the
+/// offset or before it. Searches backward from the offset, in time linear in the text between the
+/// two.
 pub(crate) fn line_start_before(text: &str, place: usize) -> usize
     requires { place ≤ length text.now }
     ensures { result ≡ end_place (break_ends is_break (chars text.now))
@@ -49,19 +49,20 @@ pub(crate) fn line_start_before(text: &str, place: usize) -> usize
         return 0;
     };
     if is_cr_of_cr_lf(bytes, last) {
-        // The place is between the two, and so in the line that they end.
+        // The offset is between the two breaks, so it is in the line between them.
         return breaks::to_byte_idx(text, breaks::from_byte_idx(text, place));
     }
     last + 1
 }
 
 impl<'a> LineStart<'a> {
-    /// The start of a line, or the text's end behind the last one. `O(log n)`.
+    /// Returns the start of a line, or the text's end for the index after the last line.
+    /// `O(log n)`.
     pub(crate) fn of(text: &RopeSlice<'a>, line_idx: usize) -> LineStart<'a>
         requires { line_idx ≤ line_count (slice_text text.now) }
         ensures { StartsIn (slice_text text.now) line_idx result }
     {
-        // The text's facts, for the proof alone.
+        // For the proof: the text's facts.
         let _ = text.len_bytes();
         let (chunk, byte_idx, char_idx, first) = text.chunk_at_line_break(line_idx);
         LineStart {
@@ -72,8 +73,8 @@ impl<'a> LineStart<'a> {
         }
     }
 
-    /// How many characters stand before the line. In a text of characters of one byte none is
-    /// counted, else those of the chunk up to there.
+    /// Returns the number of characters before the line. If each character of the text takes one
+    /// byte, it counts none, otherwise those of the chunk up to the line.
     pub(crate) fn chars_before(&self, text: &RopeSlice<'a>, line_idx: usize) -> usize
         requires starts { StartsIn (slice_text text.now) line_idx self.now }
         requires below { line_idx < line_count (slice_text text.now) }
@@ -86,8 +87,8 @@ impl<'a> LineStart<'a> {
         self.char_idx + chars::from_byte_idx(self.chunk, self.at)
     }
 
-    /// The text of the line that starts there, its break left off, where the line ends in the same
-    /// chunk, else `None`. It takes no look-up.
+    /// Returns the line's text without its break if the line ends in the same chunk, otherwise
+    /// `None`. Needs no look-up.
     pub(crate) fn line(&self, text: &RopeSlice<'a>) -> Option<&'a str>
         requires { (line : ℕ) × StartsIn (slice_text text.now) line self.now }
         ensures own { (line : ℕ) → StartsIn (slice_text text.now) line self.now

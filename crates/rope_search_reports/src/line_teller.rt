@@ -1,4 +1,4 @@
-//! The lines in which places of a text are, each told from the place before.
+//! The lines that contain given offsets, each found from the offset before.
 ghost use Rattle.std.specs.Prelude.{◌≡◌, ◌+◌, ◌<◌, ◌≤◌, ℕ, length};
 ghost use Rattle.std.specs.Str.{chars};
 ghost use Rattle.str_indices.specs.Text.{break_ends, byte_len, ends_up_to};
@@ -11,22 +11,23 @@ ghost use Rattle.rope_search_reports.specs.Drafts.{IsTeller};
 use ropey::{RopeSlice, breaks};
 use std::marker::Model;
 
-/// Tells the lines of places in a text. It keeps what is left of a chunk from a place on, and how
-/// far that place's line goes there; behind that it counts breaks from the place, and a place
-/// before it or in another chunk is looked up. Contracts see the text, and where what is left
-/// starts and ends.
+/// Finds the lines of offsets in a text. It keeps the rest of a chunk after the last offset, and
+/// where the line of that offset ends in it. For an offset further on in the chunk it counts
+/// breaks; an earlier one, or one in another chunk, is looked up. Contracts see the text, and where
+/// the rest of the chunk starts and ends.
 #[derive(Drop)]
 pub(crate) struct LineTeller<'a> {
     text: RopeSlice<'a>,
     rest: &'a str,
-    // Where that starts, and the line of this place.
+    // The offset where the rest starts, and its line.
     start: usize,
     line_idx: usize,
-    // How many places from there on are known to be in the same line.
+    // How many bytes from there on are known to be in the same line.
     same: usize,
 }
 
-/// How many places of a text are in its first line: those before the end of its first break.
+/// Returns the number of offsets in the first line of a text: those before the end of its first
+/// break.
 fn len_of_first_line(text: &str) -> usize
     ensures within { result ≤ length text.now }
     ensures first { (place : ℕ) → place < result
@@ -56,11 +57,11 @@ impl<'a> Model for LineTeller<'a> {
 }
 
 impl<'a> LineTeller<'a> {
-    /// One for the places of a text, which has looked nothing up yet.
+    /// Returns one for the offsets of a text, before the first look-up.
     pub(crate) fn of(text: RopeSlice<'a>) -> LineTeller<'a>
         ensures { result.text ≡ slice_text text.entry }
     {
-        // The slice's facts, for the proof alone.
+        // For the proof: the slice's facts.
         let _ = text.len_bytes();
         LineTeller {
             text,
@@ -71,7 +72,7 @@ impl<'a> LineTeller<'a> {
         }
     }
 
-    /// One that shows what is left of a chunk from a place on, which is in this line.
+    /// Returns one that shows the rest of a chunk from an offset on, which is in this line.
     pub(crate) fn with_rest(
         text: RopeSlice<'a>,
         rest: &'a str,
@@ -90,14 +91,14 @@ impl<'a> LineTeller<'a> {
         }
     }
 
-    /// One that shows the chunk in which a place is. `O(log n)`.
+    /// Returns one that shows the chunk of an offset. `O(log n)`.
     fn at(text: RopeSlice<'a>, byte_idx: usize) -> LineTeller<'a>
         requires { byte_idx ≤ byte_len (slice_text text) }
         ensures text { result.text ≡ slice_text text.entry }
         ensures start { result.start ≤ byte_idx }
         ensures end { byte_idx ≤ result.end }
     {
-        // The slice's facts, for the proof alone.
+        // For the proof: the slice's facts.
         let _ = text.len_bytes();
         let (rest, start, _, line_idx) = text.chunk_at_byte(byte_idx);
         LineTeller {
@@ -109,7 +110,7 @@ impl<'a> LineTeller<'a> {
         }
     }
 
-    /// Shows the chunk in which a place is, unless that is in what is left of one.
+    /// Shows the chunk of an offset, unless the offset is in the rest of the current one.
     fn show(&mut self, byte_idx: usize)
         requires { byte_idx ≤ byte_len self.old.text }
         ensures text { self.new.text ≡ self.old.text }
@@ -121,7 +122,8 @@ impl<'a> LineTeller<'a> {
         }
     }
 
-    /// `line` where that isn't known yet. Then it is known up to the line's end, or the chunk's.
+    /// Finds the line if it isn't known yet. Then it is known up to the end of the line or of the
+    /// chunk.
     fn count_to(&mut self, byte_idx: usize) -> usize
         requires { byte_idx ≤ byte_len self.old.text }
         ensures line { result ≡ line_at self.old.text byte_idx }
@@ -143,9 +145,9 @@ impl<'a> LineTeller<'a> {
         line_idx
     }
 
-    /// The line that a place is in. From the place before on, in the same line and chunk, it takes
-    /// nothing; in the same chunk no look-up, and time linear in what lies between and in the
-    /// place's line.
+    /// Returns the line of an offset. Later in the same line and chunk as the last offset, it takes
+    /// constant time. Later in the same chunk it needs no look-up, and takes time linear in the
+    /// text between the two offsets and in the offset's line.
     #[inline(always)]
     pub(crate) fn line(&mut self, byte_idx: usize) -> usize
         requires { byte_idx ≤ byte_len self.old.text }

@@ -1,4 +1,4 @@
-//! Rows put in the place of others, at several places of a list.
+//! Rows replaced at several positions of a list.
 ghost use Rattle.std.specs.Prelude.{◌≡◌, ◌+◌, ◌-◌, ◌^◌, ◌<◌, ◌≤◌, ◌↔◌, ◌++◌, []};
 ghost use Rattle.std.specs.Prelude.{length, take, drop};
 ghost use Rattle.std.specs.Prelude.{vec_capacity, IsTrue, OnOk, IfErr};
@@ -14,19 +14,19 @@ use std::alloc::Global;
 use std::mem;
 use std::vec::IntoIter;
 
-/// Rows that are made anew, and those in whose place they go.
+/// New rows, and the range of rows that they replace.
 #[derive(Drop)]
 pub struct Patch {
-    /// The first row that is gone.
+    /// The first row that is removed.
     pub first: usize,
-    /// The row behind those that are gone.
+    /// The row after those that are removed.
     pub end: usize,
     /// The new rows.
     pub made: Vec<Row>,
 }
 
 impl Patch {
-    /// How many rows it brings more than it takes.
+    /// Returns by how many rows the list grows, or 0.
     fn growth(&self) -> usize
         ensures { result ≡ growth_of self.now }
     {
@@ -34,7 +34,7 @@ impl Patch {
         self.made.len().saturating_sub(gone)
     }
 
-    /// Whether the rows behind it move: it doesn't bring as many as it takes.
+    /// Returns whether the following rows move: the numbers of removed and of new rows differ.
     fn shifts(&self) -> bool
         ensures { result ≡ shifts self.now }
     {
@@ -45,10 +45,12 @@ impl Patch {
     }
 }
 
-/// Adds a patch behind others. Where it begins at the row at which the last of them ends, it goes
-/// into that one, so rows that are made anew side by side come in one patch.
+/// Adds a patch after others. One that begins at the row where the last of them ends is merged into
+/// it, so adjacent new rows come in one patch.
 ///
-/// Errors: `Fault::Memory`.
+/// # Errors
+///
+/// `Fault::Memory`.
 pub(crate) fn add_patch(patches: &mut Vec<Patch>, patch: Patch) -> Result<(), Fault>
     ensures added { OnOk result (IsPatchAdded patches.old.items patch patches.new.items) }
     ensures fault { IfErr result (λ fault. fault ≡ Fault.Memory) }
@@ -73,7 +75,11 @@ pub(crate) fn add_patch(patches: &mut Vec<Patch>, patch: Patch) -> Result<(), Fa
     Ok(())
 }
 
-/// Returns whether at most one of the patches moves the rows behind it. `O(k)` for k patches.
+/// Returns whether at most one of the patches moves the rows after it.
+///
+/// # Complexity
+///
+/// `O(k)` for k patches.
 pub fn shift_once(patches: &[Patch]) -> bool
     ensures { IsTrue result ↔ shift_count patches.now ≤ 1 }
 {
@@ -86,8 +92,12 @@ pub fn shift_once(patches: &[Patch]) -> bool
     count <= 1
 }
 
-/// Returns how many rows the patches bring more than they take, each for itself: one that brings
-/// fewer counts as none. `O(k)` for k patches.
+/// Returns the sum of the rows by which each patch makes the list grow; one that makes it shrink
+/// counts as 0.
+///
+/// # Complexity
+///
+/// `O(k)` for k patches.
 pub fn growth(patches: &[Patch]) -> usize
     requires { growth_by patches.now < 2 ^ 64 }
     ensures { result ≡ growth_by patches.now }
@@ -99,7 +109,7 @@ pub fn growth(patches: &[Patch]) -> usize
     count
 }
 
-/// Moves the first `count` rows that are left behind those of a list, which has room for them.
+/// Moves the next `count` rows to the end of a list, which has room for them.
 fn move_rows(left: &mut IntoIter<Row, Global>, count: usize, rows: &mut Vec<Row>)
     requires within { count ≤ length (into_iter_items left.old) }
     requires room { length rows.old.items + count ≤ vec_capacity rows.old }
@@ -114,7 +124,7 @@ fn move_rows(left: &mut IntoIter<Row, Global>, count: usize, rows: &mut Vec<Row>
     }
 }
 
-/// Drops the first `count` rows that are left.
+/// Drops the next `count` rows.
 fn drop_rows(left: &mut IntoIter<Row, Global>, count: usize)
     requires within { count ≤ length (into_iter_items left.old) }
     ensures { into_iter_items left.new ≡ drop count (into_iter_items left.old) }
@@ -124,9 +134,15 @@ fn drop_rows(left: &mut IntoIter<Row, Global>, count: usize)
     }
 }
 
-/// Puts patches in their places: each one's rows come in the place of those that are gone. The new
-/// list is built in `room`. Requires an empty `room` with capacity for all of it, and patches in
-/// turn. Allocates nothing; time is linear in both lists.
+/// Applies patches to a list of rows. The new list is built in `room`. Allocates nothing.
+///
+/// # Requires
+///
+/// `room` is empty and has capacity for the whole new list; the patches are in order.
+///
+/// # Complexity
+///
+/// Linear in the lengths of both lists.
 pub fn put_patches(rows: &mut Vec<Row>, patches: Vec<Patch>, room: Vec<Row>)
     requires in_turn { AreInTurn 0 (length rows.old.items) patches.items }
     requires empty { room.items ≡ [] }
@@ -143,7 +159,7 @@ pub fn put_patches(rows: &mut Vec<Row>, patches: Vec<Patch>, room: Vec<Row>)
         } = patch;
         move_rows(&mut left, first - at, rows);
         drop_rows(&mut left, end - first);
-        // There is room, so it isn't refused.
+        // There is room, so this can't fail.
         let _ = rows.append(&mut made);
         at = end;
     }
@@ -151,10 +167,17 @@ pub fn put_patches(rows: &mut Vec<Row>, patches: Vec<Patch>, room: Vec<Row>)
     move_rows(&mut left, count, rows);
 }
 
-/// Puts patches in their places in a list. Requires capacity for the rows by which they make it
-/// grow beside its own, and patches in turn. Allocates nothing; time is linear in these rows and
-/// those that are gone, and in the rows behind for each patch that doesn't bring as many as it
-/// takes.
+/// Applies patches to a list of rows in place. Allocates nothing.
+///
+/// # Requires
+///
+/// The list has spare capacity for the rows by which the patches make it grow, as `growth` returns;
+/// the patches are in order.
+///
+/// # Complexity
+///
+/// Linear in the new and the removed rows, and in the following rows for each patch that moves
+/// them.
 pub fn put_in_place(rows: &mut Vec<Row>, mut patches: Vec<Patch>)
     requires in_turn { AreInTurn 0 (length rows.old.items) patches.items }
     requires room { length rows.old.items + growth_by patches.items ≤ vec_capacity rows.old }

@@ -1,14 +1,14 @@
-//! The text of a pattern that only contracts read.
+//! The text of a pattern, readable by contracts only.
 use std::marker::Model;
 use std::snapshot::Snapshot;
 
-/// The text of a pattern. It takes no bytes at run time, and only a contract can read it.
+/// The text of a pattern. It takes no bytes at run time, and only contracts can read it.
 #[derive(Drop)]
 pub struct PatternText {
     text: Snapshot<Text>,
 }
 
-// A text, character by character. No value of it is kept.
+// A text, character by character. No value of it exists at run time.
 #[derive(Drop)]
 enum Text {
     Start,
@@ -27,7 +27,7 @@ impl Model for PatternText {
 impl PatternText {
     ghost use Rattle.std.specs.Prelude.{◌≡◌, chars};
 
-    /// These characters.
+    /// Returns the text of a pattern.
     pub fn new(pattern: &str) -> PatternText
         ensures { result ≡ chars pattern.now }
     {

@@ -14,8 +14,8 @@ use crate::line_start::LineStart;
 use ropey::{By, Rope, RopeSlice, breaks};
 use str_indices::{chars, utf16};
 
-/// A line, and a column in it: how many UTF-16 code units stand between the line's start and the
-/// place. Both begin at 0.
+/// A line and a column in it: the number of UTF-16 code units between the line's start and the
+/// position. Both begin at 0.
 #[repr(C)]
 #[derive(Clone, Copy, Debug, PartialEq, Eq, Hash)]
 pub struct Position {
@@ -25,13 +25,13 @@ pub struct Position {
     pub column: usize,
 }
 
-/// How many code units stand before a line. `O(log n)`.
+/// Returns the number of code units before a line. `O(log n)`.
 fn units_before(text: &RopeSlice<'_>, line_idx: usize) -> usize
     requires { line_idx < line_count (slice_text text.now) }
     ensures { result ≡ ends_up_to (line_start (slice_text text.now) line_idx)
         (unit_ends (slice_text text.now)) }
 {
-    // The text's facts, for the proof alone.
+    // For the proof: the text's facts.
     let _ = text.len_bytes();
     if line_idx == 0 {
         return 0;
@@ -41,14 +41,22 @@ fn units_before(text: &RopeSlice<'_>, line_idx: usize) -> usize
     chunk.start.units + utf16::from_byte_idx(chunk.text, at)
 }
 
-/// Returns the position of a byte index; between the CR and the LF of a break that is one past the
-/// end of the line's text. Requires a character boundary up to `len_bytes()`. `O(log n)`: two ways
-/// down the tree at most, and one where the line starts behind a break of the same chunk.
+/// Returns the position of a byte index. The position between the CR and the LF of a break is one
+/// past the end of the line's text.
+///
+/// # Requires
+///
+/// `byte_idx` is a character boundary, at most `len_bytes()`.
+///
+/// # Complexity
+///
+/// `O(log n)`: at most two descents of the tree, and one if the line starts after a break of the
+/// same chunk.
 pub fn position_of(text: &Rope, byte_idx: usize) -> Position
     requires { IsCharBoundary (bytes_of (text_of text.now)) byte_idx }
     ensures { (result.line, result.column) ≡ position (text_of text.now) byte_idx }
 {
-    // The text's facts, for the proof alone.
+    // For the proof: the text's facts.
     let _ = text.len_bytes();
     let whole = text.slice(..);
     let chunk = whole.chunk(By::Bytes, byte_idx);
@@ -69,17 +77,17 @@ pub fn position_of(text: &Rope, byte_idx: usize) -> Position
     }
 }
 
-/// A place in a text, between two characters.
+/// An offset in a text between two characters, in bytes and in characters.
 #[derive(Clone, Copy, Debug, PartialEq, Eq)]
 pub struct Place {
-    /// How many bytes stand before it.
+    /// The number of bytes before it.
     pub byte_idx: usize,
-    /// How many characters stand before it.
+    /// The number of characters before it.
     pub char_idx: usize,
 }
 
-/// The place in a text that has so many code units before it, or `None` where the text ends before,
-/// or they end inside a surrogate pair. In time linear in what stands before the place.
+/// Returns the offset in a text that has this number of code units before it, or `None` if that is
+/// after the text's end or inside a surrogate pair. Time is linear in the text before the offset.
 fn place_in_str(text: &str, column: usize) -> Option<Place>
     ensures { MatchOption result (HasNoColumn (chars text.now) column)
         (λ place. HasColumn (chars text.now) column place) }
@@ -94,8 +102,8 @@ fn place_in_str(text: &str, column: usize) -> Option<Place>
     })
 }
 
-/// The place of the text at which a column of a line is, wherever the line lies, or `None` where it
-/// is nowhere. `O(log n)`: two ways down the tree at most.
+/// Returns the offset in the text of a column of a line, whether or not the line is in one chunk,
+/// or `None` if the line has no such column. `O(log n)`: at most two descents of the tree.
 fn place_across(text: &RopeSlice<'_>, line_idx: usize, column: usize) -> Option<Place>
     requires { line_idx < line_count (slice_text text.now) }
     ensures { MatchOption result (IsNowhere (slice_text text.now) (line_idx, column))
@@ -109,7 +117,7 @@ fn place_across(text: &RopeSlice<'_>, line_idx: usize, column: usize) -> Option<
     let own = place_in_str(chunk.text, unit_idx - chunk.start.units)?;
     let ended = chunk.start.breaks + breaks::count_breaks(&chunk.text[..own.byte_idx]);
     if ended != line_idx {
-        // The line's break stands before the place, or the CR of it does.
+        // The line's break is before the offset, or the CR of it is.
         return None;
     }
     Some(Place {
@@ -118,7 +126,7 @@ fn place_across(text: &RopeSlice<'_>, line_idx: usize, column: usize) -> Option<
     })
 }
 
-/// A line of a text in which positions are looked up.
+/// A line of a text, for looking up positions in it.
 #[derive(Clone, Copy)]
 pub(crate) struct OwnLine<'a> {
     /// The text.
@@ -127,18 +135,18 @@ pub(crate) struct OwnLine<'a> {
     pub(crate) line_idx: usize,
     /// Where the line starts.
     pub(crate) start: Place,
-    /// The line's text, where the line ends in the chunk in which it starts.
+    /// The line's text, if the line ends in the chunk in which it starts.
     pub(crate) text: Option<&'a str>,
 }
 
 impl<'a> OwnLine<'a> {
-    /// A line of a text, or `None` past the last one. `O(log n)`: one way down the tree.
+    /// Returns a line of a text, or `None` past the last one. `O(log n)`: one descent of the tree.
     fn of(text: &'a Rope, line_idx: usize) -> Option<OwnLine<'a>>
         ensures line { IfSome result (λ line. IsOwnLine (text_of text.now) line_idx line) }
         ensures none { IfNone result (line_count (text_of text.now) ≤ line_idx) }
         ensures scalars { IsText (text_of text.now) }
     {
-        // The text's facts, for the proof alone.
+        // For the proof: the text's facts.
         let _ = text.len_bytes();
         if line_idx >= text.len_lines() {
             return None;
@@ -156,9 +164,9 @@ impl<'a> OwnLine<'a> {
         })
     }
 
-    /// The place of the text at which a column of the line is, or `None` where it is nowhere. In
-    /// time linear in the column where the line ends in the chunk in which it starts, else
-    /// `O(log n)`: two ways down the tree at most.
+    /// Returns the offset in the text of a column of the line, or `None` if there is no such
+    /// column. Time is linear in the column if the line ends in the chunk in which it starts;
+    /// otherwise it is `O(log n)`, at most two descents of the tree.
     fn place_at(&self, column: usize) -> Option<Place>
         requires { (text : List ℕ) × (line : ℕ) × IsOwnLine text line self.now }
         ensures { (text : List ℕ) (line : ℕ) → IsOwnLine text line self.now
@@ -175,9 +183,12 @@ impl<'a> OwnLine<'a> {
     }
 }
 
-/// Returns the byte index at which a position is, or `None` where it is nowhere: inside a surrogate
-/// pair, behind its line's text, between the CR and the LF of a break, or past the last line.
-/// `O(log n)`: three ways down the tree at most, and one where the line lies in one chunk.
+/// Returns the byte index of a position. Returns `None` for a position inside a surrogate pair,
+/// after its line's text, between the CR and the LF of a break, or past the last line.
+///
+/// # Complexity
+///
+/// `O(log n)`: at most three descents of the tree, and one if the line is in one chunk.
 pub fn byte_of(text: &Rope, position: Position) -> Option<usize>
     ensures { MatchOption result
         (IsNowhere (text_of text.now) (position.line, position.column))
@@ -187,8 +198,11 @@ pub fn byte_of(text: &Rope, position: Position) -> Option<usize>
     Some(place.byte_idx)
 }
 
-/// Returns the place at which a position is, in bytes and in characters, or `None` as `byte_of`
-/// does, by as many ways down the tree.
+/// Returns the byte and character offset of a position, or `None` as `byte_of` does.
+///
+/// # Complexity
+///
+/// That of `byte_of`.
 pub fn place_of(text: &Rope, position: Position) -> Option<Place>
     ensures at { MatchOption result
         (IsNowhere (text_of text.now) (position.line, position.column))
@@ -202,8 +216,12 @@ pub fn place_of(text: &Rope, position: Position) -> Option<Place>
     line.place_at(position.column)
 }
 
-/// Returns the places at which two positions are, or `None` where one of them is nowhere. Two in
-/// one line take one look-up. `O(log n)`.
+/// Returns the byte and character offsets of two positions, or `None` if either has none, as for
+/// `byte_of`. Two in one line take one look-up.
+///
+/// # Complexity
+///
+/// `O(log n)`.
 pub fn places_of(text: &Rope, from: Position, to: Position) -> Option<(Place, Place)>
     ensures starts { IfSome result (λ places.
         IsPlaceOf (text_of text.now) (from.line, from.column) places.0) }

@@ -1,9 +1,9 @@
-//! Rows put in the place of others in a list.
+//! Rows of a list replaced by others.
 ghost use Rattle.std.specs.Prelude.{◌≡◌, ◌+◌, ◌-◌, ◌≤◌, ◌++◌, take, drop, vec_len, vec_capacity};
 
 use crate::rows::Row;
 
-/// Swaps as many rows of two lists: in one from `first` on, in the other from the start on.
+/// Swaps `count` rows of two lists: in `rows` from `first` on, in `made` from the start.
 fn swap_rows(rows: &mut Vec<Row>, first: usize, made: &mut Vec<Row>, count: usize)
     requires within { first + count ≤ vec_len rows.old }
     requires made_within { count ≤ vec_len made.old }
@@ -19,7 +19,7 @@ fn swap_rows(rows: &mut Vec<Row>, first: usize, made: &mut Vec<Row>, count: usiz
     place.swap_with_slice(made.slice_mut(0..count));
 }
 
-/// Moves `count` rows from `at` on behind all others.
+/// Moves `count` rows from `at` on to the end.
 fn move_to_end(rows: &mut Vec<Row>, at: usize, count: usize)
     requires within { at + count ≤ vec_len rows.old }
     ensures rows { rows.new.items ≡ take at rows.old.items ++ drop (at + count) rows.old.items
@@ -40,8 +40,8 @@ fn remove_rows(rows: &mut Vec<Row>, at: usize, count: usize)
     rows.truncate(rows.len() - count);
 }
 
-/// Moves the rows of `made` from `from` on to the place before row `at`, and drops the others. It
-/// takes no memory. Requires capacity for those that are moved beside the list's own.
+/// Inserts the rows of `made` from `from` on before row `at`, and drops the others. Allocates
+/// nothing. Requires spare capacity for the inserted rows.
 fn insert_rows(rows: &mut Vec<Row>, at: usize, mut made: Vec<Row>, from: usize)
     requires at_within { at ≤ vec_len rows.old }
     requires within { from ≤ vec_len made }
@@ -51,17 +51,23 @@ fn insert_rows(rows: &mut Vec<Row>, at: usize, mut made: Vec<Row>, from: usize)
     ensures capacity { vec_capacity rows.old ≤ vec_capacity rows.new }
 {
     remove_rows(&mut made, 0, from);
-    // The rows behind the place go behind the ones that come.
+    // The rows after `at` go after the inserted ones.
     let behind = rows.len() - at;
-    // There is room, so it isn't refused.
+    // There is room, so this can't fail.
     let _ = rows.append(&mut made);
     move_to_end(rows, at, behind);
 }
 
-/// Puts rows in the place of rows `first..end`, which are dropped. Requires `first <= end`,
-/// `end <= rows.len()`, and capacity for the rows that come beyond those that go. Allocates
-/// nothing. Where as many rows come as go, no other row is moved, and time is linear in these; else
-/// those behind them are moved once.
+/// Replaces rows `first..end` by other rows. Allocates nothing.
+///
+/// # Requires
+///
+/// `first <= end`, `end <= rows.len()`, and spare capacity for the rows by which the list grows.
+///
+/// # Complexity
+///
+/// Linear in the replaced and the new rows if there are equally many; otherwise the rows after them
+/// are moved once.
 pub fn replace_rows(rows: &mut Vec<Row>, first: usize, end: usize, mut made: Vec<Row>)
     requires ordered { first ≤ end }
     requires within { end ≤ vec_len rows.old }

@@ -1,4 +1,4 @@
-//! The report of a text: its lines, each searched by itself.
+//! The report of a text: its lines, each searched separately.
 ghost use Rattle.std.specs.Prelude.{◌≡◌, ◌+◌, ◌-◌, ◌^◌, ◌<◌, ◌≤◌, ◌++◌, [], take, drop, replicate, IfOk, IfErr, OnOk};
 ghost use Rattle.ropey.specs.Chunks.{text_of};
 ghost use Rattle.rope_search_reports.specs.Text.{line_count};
@@ -13,14 +13,19 @@ use rope_search_io::Fault;
 use ropey::Rope;
 use std::alloc::Global;
 
-/// How many lines are searched at most before it is asked again where a match may begin.
+/// Maximum number of lines searched between literal scans.
 const MOST: usize = 1_024;
 
-/// Returns the report of a text and a finder's pattern: a row for each line, from the first, made
-/// as `rows_of_lines` does. A row a line is counted, or fewer after an error. Time is linear in the
-/// text, times the pattern's weight for the lines that are searched.
+/// Returns the report of a text for a finder's pattern: a row for each line, from the first, as
+/// `rows_of_lines` does. Counts one row for each line, or fewer after an error.
 ///
-/// Errors: `Fault::Memory`; the finder serves on.
+/// # Errors
+///
+/// `Fault::Memory`; the finder remains usable.
+///
+/// # Complexity
+///
+/// Linear in the text, times the pattern's weight for the lines that are searched.
 pub fn report_of(
     tick: &mut Lines,
     alloc: Global,
@@ -35,15 +40,15 @@ pub fn report_of(
     ensures each { OnOk result (MakesAsMany (line_count (text_of text.now)) tick.old tick.new) }
     ensures looks { LooksAtMost (line_count (text_of text.now)) tick.old tick.new }
 {
-    // The text's facts, for the proof alone.
+    // For the proof: the text's facts.
     let _ = text.len_bytes();
     rows_of_lines(tick, alloc, finder, text, 0, text.len_lines())
 }
 
-/// Adds the rows of the next `count` lines behind others, each line searched by itself, where it
-/// lies. A row for each of them is counted, or for fewer after an error.
+/// Adds the rows of the next `count` lines, each searched separately and in place. Counts a row for
+/// each of them, or fewer after an error.
 ///
-/// Errors: `Fault::Memory`; the finder serves on.
+/// Errors: `Fault::Memory`; the finder remains usable.
 fn push_rows(
     tick: &mut Lines,
     finder: &mut Finder,
@@ -69,10 +74,10 @@ fn push_rows(
     Ok(())
 }
 
-/// Adds the rows of so many lines in which nothing matches behind others. A row for each of them is
-/// counted, or for fewer after an error. Requires that the pattern doesn't match the empty text.
+/// Adds empty rows for the next lines, in which nothing matches. Counts a row for each of them, or
+/// fewer after an error. Requires that the pattern doesn't match the empty text.
 ///
-/// Errors: `Fault::Memory`; the finder serves on.
+/// Errors: `Fault::Memory`; the finder remains usable.
 fn push_bare(
     tick: &mut Lines,
     finder: &mut Finder,
@@ -93,12 +98,12 @@ fn push_bare(
     Ok(())
 }
 
-/// Passes over the next lines up to `end`, before the one in which a match may begin, and adds
-/// their rows behind others. A row for each of them is counted, or for fewer after an error; and as
-/// looked through each of them, and the line behind them where one is left. Returns how many they
-/// are. Requires that the walk has no line behind these, but for an empty one.
+/// Skips the next lines up to `end`, before the one in which a match may begin, and adds their
+/// rows. Counts a row for each of them, or fewer after an error; counts as scanned each of them,
+/// and the line after them if one is left. Returns their number. Requires that the walk has no line
+/// after these, except an empty one.
 ///
-/// Errors: `Fault::Memory`; the finder serves on.
+/// Errors: `Fault::Memory`; the finder remains usable.
 fn pass_over(
     tick: &mut Lines,
     finder: &mut Finder,
@@ -131,10 +136,10 @@ fn pass_over(
     Ok(passed)
 }
 
-/// Returns the rows of lines `first..end` of a text as `rows_of_lines` does. A line by itself comes
-/// by a walk that goes on to it: in the chunk where that is it takes no look-up.
+/// Returns the rows of lines `first..end` of a text as `rows_of_lines` does. A single line is
+/// reached by a walk that advances to it, without a look-up if it is in the walk's chunk.
 ///
-/// Errors: `Fault::Memory`; the finder serves on.
+/// Errors: `Fault::Memory`; the finder remains usable.
 pub(crate) fn rows_ahead(
     tick: &mut Lines,
     alloc: Global,
@@ -167,8 +172,8 @@ pub(crate) fn rows_ahead(
     Ok(rows)
 }
 
-/// How many lines are searched before it is asked again where a match may begin, by how many there
-/// were last time and how many were then passed over: twice as many where that were none.
+/// Returns the number of lines to search before the next literal scan, from the number searched
+/// last time and the number that the scan then skipped: twice as many if it skipped none.
 fn lines_before_asking(last: usize, passed: usize) -> usize
     requires { 1 ≤ last }
     ensures { 1 ≤ result }
@@ -180,13 +185,22 @@ fn lines_before_asking(last: usize, passed: usize) -> usize
     }
 }
 
-/// Returns the rows of lines `first..end` of a text, each searched by itself, where it lies, or
-/// passed over where it lies before the next place at which a match may begin, by the literals that
-/// each match begins with. A row for each of them is counted, or for fewer after an error. Requires
-/// `first <= end` and `end <= len_lines()`. Time is linear in these lines, times the pattern's
-/// weight for those that are searched, and `O(log n)` for each chunk.
+/// Returns the rows of lines `first..end` of a text. Each line is searched separately and in place,
+/// or skipped if a scan for the literals that each match begins with finds none up to its end.
+/// Counts a row for each line, or fewer after an error.
 ///
-/// Errors: `Fault::Memory`; the finder serves on.
+/// # Requires
+///
+/// `first <= end` and `end <= len_lines()`.
+///
+/// # Errors
+///
+/// `Fault::Memory`; the finder remains usable.
+///
+/// # Complexity
+///
+/// Linear in these lines, times the pattern's weight for those that are searched, plus `O(log n)`
+/// for each chunk.
 pub fn rows_of_lines(
     tick: &mut Lines,
     alloc: Global,
@@ -205,7 +219,7 @@ pub fn rows_of_lines(
     ensures each { OnOk result (MakesAsMany (end - first) tick.old tick.new) }
     ensures looks { LooksAtMost (end - first) tick.old tick.new }
 {
-    // Room for all of them comes before the first one is searched.
+    // All memory for the rows is reserved before the first search.
     let mut rows = Vec::with_capacity(alloc, end - first)?;
     if first == end {
         return Ok(rows);

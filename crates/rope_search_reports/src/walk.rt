@@ -1,4 +1,4 @@
-//! A walk over the lines of a text, forwards alone: chunk by chunk, and line by line in a chunk.
+//! A forward walk over the lines of a text: chunk by chunk, and line by line in a chunk.
 ghost use Rattle.std.specs.Prelude.{◌≡◌, ◌+◌, ◌-◌, ◌^◌, ◌<◌, ◌≤◌, ℕ, List, ◌++◌, take};
 ghost use Rattle.std.specs.Str.{chars, IsUtf8, IsCharBoundary};
 ghost use Rattle.str_indices.specs.Text.{breaks, break_ends, byte_len, ends_up_to};
@@ -16,16 +16,16 @@ use crate::line_teller::LineTeller;
 use ropey::{Rope, RopeSlice, breaks};
 use std::marker::Model;
 
-/// A walk over the lines of a text. Contracts see the text, the line that comes next, and what is
-/// left of the chunk in which that starts.
+/// A walk over the lines of a text. Contracts see the text, the next line, and the rest of the
+/// chunk in which that starts.
 #[derive(Drop)]
 pub(crate) struct Walk<'a> {
     text: RopeSlice<'a>,
-    // The line that comes next, or the number of lines behind the last one.
+    // The next line, or the number of lines after the last one.
     line_idx: usize,
-    // Where it starts.
+    // The byte offset where it starts.
     byte_idx: usize,
-    // What is left of the chunk from there on; nothing behind the last line.
+    // The rest of the chunk from there on; empty after the last line.
     rest: &'a str,
 }
 
@@ -45,7 +45,7 @@ impl<'a> Model for Walk<'a> {
     ghost invariant = { λ w. IsWalk (slice_text w.text) w.line_idx w.byte_idx w.rest.now };
 }
 
-/// A line's text: the line without the break that ends it, where it has one. `O(log n)`.
+/// Returns a line's text: the line without its break, if it ends in one. `O(log n)`.
 pub(crate) fn without_break(line: RopeSlice<'_>) -> RopeSlice<'_>
     ensures { (own : List ℕ) → HasOwnText (slice_text line.entry) own → slice_text result ≡ own }
 {
@@ -63,7 +63,7 @@ pub(crate) fn without_break(line: RopeSlice<'_>) -> RopeSlice<'_>
     line.slice(..len - 1)
 }
 
-/// What stands from a place on in the chunk that holds it. `O(log n)`.
+/// Returns the rest, from an offset on, of the chunk that contains it. `O(log n)`.
 fn chunk_from<'a>(text: &RopeSlice<'a>, byte_idx: usize) -> &'a str
     requires { IsCharBoundary (slice_bytes text.now) byte_idx }
     ensures utf8 { IsUtf8 result.now }
@@ -74,8 +74,8 @@ fn chunk_from<'a>(text: &RopeSlice<'a>, byte_idx: usize) -> &'a str
     &chunk[byte_idx - start..]
 }
 
-/// A text up to the end of a line, which ends in a break or is the text's last one: the lines up to
-/// there are its lines, and behind the break it has an empty one. `O(log n)`.
+/// Returns a text up to the end of a line, which ends in a break or is the text's last one. The
+/// lines up to there are its lines; after the break it has an empty one. `O(log n)`.
 pub(crate) fn lines_up_to(text: &Rope, end: usize) -> RopeSlice<'_>
     requires { end ≤ line_count (text_of text.now) }
     ensures lines { take end (line_texts (slice_text result))
@@ -86,13 +86,14 @@ pub(crate) fn lines_up_to(text: &Rope, end: usize) -> RopeSlice<'_>
     if end == text.len_lines() {
         return text.slice(..);
     }
-    // The text's facts, for the proof alone.
+    // For the proof: the text's facts.
     let _ = text.len_bytes();
     text.slice(..).byte_slice(..text.line_to_byte(end))
 }
 
 impl<'a> Walk<'a> {
-    /// The walk over the lines of a slice from one of them on, or behind the last one. `O(log n)`.
+    /// Returns the walk over the lines of a slice from one of them on, or after the last one.
+    /// `O(log n)`.
     pub(crate) fn at(text: RopeSlice<'a>, line_idx: usize) -> Walk<'a>
         requires { line_idx ≤ line_count (slice_text text) }
         ensures text { result.text ≡ slice_text text.entry }
@@ -107,14 +108,14 @@ impl<'a> Walk<'a> {
         }
     }
 
-    /// The walk over the lines of a slice from the one that a place is in. `O(log n)`: it goes down
-    /// the tree once where that line starts in the chunk of the place, else twice.
+    /// Returns the walk over the lines of a slice from the one that contains an offset. `O(log n)`:
+    /// one descent of the tree if that line starts in the offset's chunk, otherwise two.
     pub(crate) fn at_place(text: RopeSlice<'a>, byte_idx: usize) -> Walk<'a>
         requires { byte_idx ≤ byte_len (slice_text text) }
         ensures text { result.text ≡ slice_text text.entry }
         ensures line { result.line ≡ line_at (slice_text text.entry) byte_idx }
     {
-        // The slice's facts, for the proof alone.
+        // For the proof: the slice's facts.
         let _ = text.len_bytes();
         let (chunk, start, _, first) = text.chunk_at_byte(byte_idx);
         let within = byte_idx - start;
@@ -131,7 +132,7 @@ impl<'a> Walk<'a> {
         }
     }
 
-    /// What tells the lines of places from the next line on. It looks nothing up.
+    /// Returns a `LineTeller` for offsets from the next line on. Needs no look-up.
     pub(crate) fn teller(&self) -> LineTeller<'a>
         requires { self.now.line < line_count self.now.text }
         ensures { result.text ≡ self.now.text }
@@ -139,14 +140,14 @@ impl<'a> Walk<'a> {
         LineTeller::with_rest(self.text, self.rest, self.byte_idx, self.line_idx)
     }
 
-    /// The text whose lines these are.
+    /// Returns the text.
     pub(crate) fn text(&self) -> RopeSlice<'a>
         ensures { slice_text result ≡ self.now.text }
     {
         self.text
     }
 
-    /// The line that comes next.
+    /// Returns the next line's index.
     pub(crate) fn line_idx(&self) -> usize
         ensures line { result ≡ self.now.line }
         ensures within { result ≤ line_count self.now.text }
@@ -154,7 +155,7 @@ impl<'a> Walk<'a> {
         self.line_idx
     }
 
-    /// Where the next line starts.
+    /// Returns the byte offset where the next line starts.
     pub(crate) fn byte_idx(&self) -> usize
         requires { self.now.line < line_count self.now.text }
         ensures { result ≡ line_start self.now.text self.now.line }
@@ -162,8 +163,8 @@ impl<'a> Walk<'a> {
         self.byte_idx
     }
 
-    /// What is left of the chunk in which the next line starts: the lines that end in it are the
-    /// text's.
+    /// Returns the rest of the chunk in which the next line starts. The lines that end in it are
+    /// lines of the text.
     pub(crate) fn rest(&self) -> &'a str
         ensures rest { chars result.now ≡ self.now.rest }
         ensures utf8 { IsUtf8 result.now }
@@ -175,7 +176,7 @@ impl<'a> Walk<'a> {
         self.rest
     }
 
-    /// Passes over the next `count` lines. Inside a chunk it takes no look-up.
+    /// Skips the next `count` lines. Inside a chunk it needs no look-up.
     pub(crate) fn pass(&mut self, count: usize)
         requires { self.old.line + count ≤ line_count self.old.text }
         ensures text { self.new.text ≡ self.old.text }
@@ -191,8 +192,8 @@ impl<'a> Walk<'a> {
         self.rest = &self.rest[place..];
     }
 
-    /// Passes over the next lines that end before a place in what is left of the chunk, or there,
-    /// and returns how many they are. It takes no look-up.
+    /// Skips the next lines that end at an offset of the rest of the chunk or before it, and
+    /// returns their number. Needs no look-up.
     pub(crate) fn pass_in_chunk(&mut self, place: usize) -> usize
         requires within { place < byte_len self.old.rest }
         requires below { self.old.line < line_count self.old.text }
@@ -209,8 +210,8 @@ impl<'a> Walk<'a> {
         count
     }
 
-    /// Passes over the next lines that end before a place of the text, or there, and returns how
-    /// many they are. `O(log n)`.
+    /// Skips the next lines that end at an offset of the text or before it, and returns their
+    /// number. `O(log n)`.
     pub(crate) fn pass_to(&mut self, byte_idx: usize) -> usize
         requires { byte_idx ≤ byte_len self.old.text }
         ensures count { result ≡ line_at self.old.text byte_idx - self.old.line }
@@ -225,7 +226,7 @@ impl<'a> Walk<'a> {
         count
     }
 
-    /// Shows the chunk in which the next line starts, where nothing is left of the one before.
+    /// Shows the chunk in which the next line starts, if nothing is left of the one before.
     fn show(&mut self)
         requires { self.old.line < line_count self.old.text }
         ensures text { self.new.text ≡ self.old.text }
@@ -236,7 +237,7 @@ impl<'a> Walk<'a> {
         }
     }
 
-    /// The next line, which goes on behind its chunk or is the last one.
+    /// Returns the next line, which goes past the end of its chunk or is the last one.
     fn next_across(&mut self) -> Line<'a>
         requires { self.old.line < line_count self.old.text }
         ensures own { own_text result ≡ line_text self.old.text self.old.line }
@@ -249,7 +250,7 @@ impl<'a> Walk<'a> {
         Line::of(line)
     }
 
-    /// The next line, its break left off. Inside a chunk it takes no look-up.
+    /// Returns the next line without its break. Inside a chunk it needs no look-up.
     pub(crate) fn next(&mut self) -> Line<'a>
         requires { self.old.line < line_count self.old.text }
         ensures own { own_text result ≡ line_text self.old.text self.old.line }

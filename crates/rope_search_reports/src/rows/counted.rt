@@ -1,6 +1,6 @@
-//! A regex whose searches are counted as they begin, and go forward alone. Nothing else of the crate
-//! has a regex, an input or a cache: a search that isn't begun here can't be made. What else the
-//! crate takes of `regex_cursor` is handed on from here.
+//! A regex that counts its searches as they begin, and searches forward only. No other module of
+//! the crate has a regex, an input or a cache, so no search is made that isn't counted. What else
+//! the crate needs of `regex_cursor` is reexported here.
 ghost use Rattle.std.specs.Prelude.{◌≡◌, ℕ, Option, ◌+◌, ◌-◌, ◌*◌, ◌^◌, min, ◌<◌, ◌≤◌, List, length, Some, None, true, false, IfOk, IfErr, IfSome, IfNone, OnErr};
 ghost use Rattle.str_indices.specs.Text.{byte_len};
 ghost use Rattle.ropey.specs.Slices.{slice_bytes, slice_text};
@@ -22,12 +22,12 @@ use std::alloc::Global;
 use std::marker::Model;
 use std::snapshot::Snapshot;
 
-/// The places in the slots of a search, as it notes them.
+/// A slot of a search: an offset, or `None`.
 pub type Slot = Option<NonMaxUsize>;
 
-/// A regex that is ready to search, with what its searches keep from one to the next. There are
-/// three ways to search by it, of a line, of a whole text and for the first match in one: each is
-/// counted as it begins, and goes over that content once.
+/// A regex that is ready to search, with its cache. It searches in three ways: a line, a whole
+/// text, and for the first match in a whole text. Each is counted as it begins, and reads its
+/// haystack once.
 #[derive(Drop)]
 pub struct CountedRegex {
     regex: Regex,
@@ -46,12 +46,12 @@ impl Model for CountedRegex {
         IsCacheOf r.regex r.cache };
 }
 
-/// A search that was begun, and goes on behind the last match. Contracts see what it goes over,
-/// where the last match ended, if there was one, whether no more come, and the regex that began it.
+/// A search that has begun, and continues after the last match. Contracts see its haystack, where
+/// the last match ended, if there was one, whether it has ended, and the regex that began it.
 #[derive(Drop)]
 pub struct Pass<C: Cursor> {
     matches: LinearMatches<C>,
-    // For contracts alone.
+    // For contracts only.
     by: Snapshot<Regex>,
 }
 
@@ -76,8 +76,8 @@ impl<C: Cursor> Model for Pass<C> {
         (start_behind p.matches.last_end ≤ length p.matches.input.cursor.content)) };
 }
 
-/// An input over a content of this length, in which matches are searched from a place on; looks see
-/// all of the content, and nothing outside of it.
+/// Returns an input over a haystack of this length, to be searched from an offset on. Look-around
+/// assertions see all of the haystack, and nothing outside of it.
 fn input_over<C: Cursor>(cursor: C, len: usize, from: usize) -> Input<C>
     requires len { len ≡ length (C.state cursor).content }
     requires within { from ≤ len }
@@ -89,7 +89,7 @@ fn input_over<C: Cursor>(cursor: C, len: usize, from: usize) -> Input<C>
     input
 }
 
-/// A group's span, by the places in its two slots.
+/// Returns a group's span, from the offsets in its two slots.
 pub fn group_in(slots: &[Slot], group: usize) -> Option<(usize, usize)>
     requires { 2 * group + 1 < length slots.now }
     ensures { result ≡ group_told slots.now group }
@@ -100,9 +100,9 @@ pub fn group_in(slots: &[Slot], group: usize) -> Option<(usize, usize)>
     }
 }
 
-/// The span of what is found in an input's content from a place on. The places of its groups are
-/// put into the slots, of which there are two or more. One search of a whole text is counted as it
-/// begins.
+/// Returns the span of the first match in an input's haystack from an offset on. Writes the offsets
+/// of its groups into the slots, of which there are at least two. Counts one search of a whole text
+/// as it begins.
 fn find<C: Cursor>(
     tick: &mut Lines,
     regex: &Regex,
@@ -132,7 +132,7 @@ fn find<C: Cursor>(
 }
 
 impl CountedRegex {
-    /// The regex of a pattern, by the default settings. Errors: as those of `Regex::new`.
+    /// Builds the regex of a pattern with default settings. Errors: as for `Regex::new`.
     pub fn new(alloc: Global, pattern: &str) -> Result<CountedRegex, BuildError>
         ensures built { IfOk result (λ re. IsRegexOf pattern.now re) }
         ensures refused { IfErr result (SaysOfText pattern.now) }
@@ -144,9 +144,9 @@ impl CountedRegex {
         }
     }
 
-    /// A place of a content up to which, from another one on, nothing matches, as far as the
-    /// literals tell that each match begins with, and by no search; `None` where no such literals
-    /// are known. Time is linear in what lies between.
+    /// Returns an offset such that nothing matches from `from` up to it, found by a scan for the
+    /// literals that each match begins with, not by a search. Returns `None` if no such literals
+    /// are known. Time is linear in the text between the two.
     pub fn no_match_before<C: Cursor + Drop>(
         &self,
         cursor: C,
@@ -164,8 +164,8 @@ impl CountedRegex {
             .no_match_before(&mut input_over(cursor, len, from))
     }
 
-    /// The span of the first match in a whole text from a place on. One search of a whole text is
-    /// counted as it begins. Errors: `Fault::Memory`.
+    /// Returns the span of the first match in a whole text from an offset on. Counts one search of
+    /// a whole text as it begins. Errors: `Fault::Memory`.
     pub fn first_in(
         &mut self,
         tick: &mut Lines,
@@ -194,7 +194,7 @@ impl CountedRegex {
         )
     }
 
-    /// The search of an input, of which no match has come yet.
+    /// Returns the search of an input, before its first match.
     fn begun<C: Cursor>(&self, input: Input<C>) -> Pass<C>
         requires { AsksFrom input.cursor.content 0 input }
         ensures { result ≡ record {
@@ -210,7 +210,7 @@ impl CountedRegex {
         }
     }
 
-    /// Begins the search of a line, of so many bytes, which the cursor shows. One row is counted.
+    /// Begins the search of a line of `len` bytes, which the cursor shows. Counts one row.
     pub fn in_line<C: Cursor>(&self, tick: &mut Lines, cursor: C, len: usize) -> Pass<C>
         requires { len ≡ length (C.state cursor).content }
         ensures begins { result ≡ record {
@@ -228,7 +228,7 @@ impl CountedRegex {
         self.begun(input_over(cursor, len, 0))
     }
 
-    /// Begins the search of a whole text. One such search is counted.
+    /// Begins the search of a whole text. Counts one search of a whole text.
     pub fn in_text<'t>(&self, tick: &mut Lines, text: RopeSlice<'t>) -> Pass<RopeyCursor<'t>>
         ensures begins { result ≡ record {
           content = slice_bytes text.entry;
@@ -247,11 +247,11 @@ impl CountedRegex {
         self.begun(input_over(RopeyCursor::new(text), len, 0))
     }
 
-    /// The span of the match that comes next in a search that was begun: the first, or the one
-    /// behind the last, where an empty match right behind that is passed over. The places of its
-    /// groups are put into the slots, of which there are two or more. Behind the last match, and
-    /// after an error, no more come. All calls together take time linear in the content, times the
-    /// pattern's weight. Requires the regex that began the search. Errors: `Fault::Memory`.
+    /// Returns the span of the next match of a search: the first, or the one after the last, except
+    /// an empty match at the end of the last. Writes the offsets of its groups into the slots, of
+    /// which there are at least two. After the last match and after an error it returns `None`. All
+    /// calls together take time linear in the haystack, times the pattern's weight. Requires the
+    /// regex that began the search. Errors: `Fault::Memory`.
     pub fn next<C: Cursor>(
         &mut self,
         pass: &mut Pass<C>,

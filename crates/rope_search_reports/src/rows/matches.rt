@@ -6,20 +6,20 @@ use std::alloc::{AllocError, Global};
 use std::slice;
 
 /// The matches of a row, each as two columns. A report has a row for each line, and most lines have
-/// none or one, so it takes two words, and a single match as much memory as it needs.
+/// no match or one; so it takes two words, and a single match only the memory it needs.
 #[derive(Drop)]
 pub(crate) enum Found {
     /// None.
     Nothing,
-    /// One.
+    /// One match.
     One(Box<(usize, usize)>),
-    /// More, from the left.
+    /// At least two, from left to right.
     Many(Box<Vec<(usize, usize)>>),
 }
 
 const _: () = prove!(size_of::<Found>() == 16);
 
-/// A list of them, with no room beside.
+/// Returns a list of them without spare capacity.
 fn many(alloc: Global, matches: &[(usize, usize)]) -> Result<Found, AllocError>
     ensures { IfOk result (λ found. matches_in found ≡ matches.now) }
 {
@@ -29,7 +29,7 @@ fn many(alloc: Global, matches: &[(usize, usize)]) -> Result<Found, AllocError>
 }
 
 impl Found {
-    /// These matches.
+    /// Returns these matches.
     pub(super) fn of(alloc: Global, matches: &[(usize, usize)]) -> Result<Found, AllocError>
         ensures { IfOk result (λ found. matches_in found ≡ matches.now) }
     {
@@ -40,7 +40,7 @@ impl Found {
         }
     }
 
-    /// The matches.
+    /// Returns the matches as a slice.
     pub(super) fn as_slice(&self) -> &[(usize, usize)]
         ensures { result.now ≡ matches_in self.now }
     {

@@ -1,5 +1,5 @@
-//! All matches of a content, in the order of a search that was begun: those of a line by their
-//! columns, those of a whole text with their groups or their spans alone.
+//! All matches of a haystack, in order: those of a line as columns, those of a whole text with
+//! their groups or as spans only.
 ghost use Rattle.std.specs.Prelude.{◌≡◌, ◌+◌, ◌-◌, ◌^◌, ◌≤◌, min, ℕ, List, [], IfOk, IfErr, OnOk, map};
 ghost use Rattle.std.specs.List.{range_with_len};
 ghost use Rattle.ropey.specs.Slices.{slice_bytes};
@@ -17,10 +17,10 @@ use rope_search_io::Fault;
 use ropey::RopeSlice;
 use std::alloc::Global;
 
-/// How many slots `Groups` have.
+/// The number of slots of `Groups`.
 pub const SLOT_COUNT: usize = 20;
 
-/// The spans of groups 0 to 9, by the places in their slots.
+/// Returns the spans of groups 0 to 9, from the offsets in their slots.
 pub fn groups_in(slots: &[Slot; SLOT_COUNT]) -> Groups
     ensures { result ≡ map (group_told slots.now) (range_with_len 0 10) }
 {
@@ -31,7 +31,8 @@ pub fn groups_in(slots: &[Slot; SLOT_COUNT]) -> Groups
     groups
 }
 
-/// The groups of all matches in a whole text. One search of a whole text is counted as it begins.
+/// Returns the groups of all matches in a whole text. Counts one search of a whole text as it
+/// begins.
 pub fn all_groups(
     tick: &mut Lines,
     alloc: Global,
@@ -58,7 +59,8 @@ pub fn all_groups(
     Ok(groups)
 }
 
-/// The spans of all matches in a whole text. One search of a whole text is counted as it begins.
+/// Returns the spans of all matches in a whole text. Counts one search of a whole text as it
+/// begins.
 pub fn all_spans(
     tick: &mut Lines,
     alloc: Global,
@@ -86,7 +88,7 @@ pub fn all_spans(
     Ok(spans)
 }
 
-/// Puts the columns of all matches in a line into a list, which is empty. One row is counted.
+/// Writes the columns of all matches in a line into an empty list. Counts one row.
 pub fn columns_in_line(
     tick: &mut Lines,
     columns: &mut Vec<(usize, usize)>,
@@ -111,8 +113,8 @@ pub fn columns_in_line(
     }
 }
 
-/// Puts the columns of all matches in a line, which the cursor shows, into a list, which is empty.
-/// One row is counted as it begins.
+/// Writes the columns of all matches in a line, which the cursor shows, into an empty list. Counts
+/// one row as it begins.
 fn columns_in<C: Cursor + Drop>(
     tick: &mut Lines,
     columns: &mut Vec<(usize, usize)>,
@@ -135,7 +137,7 @@ fn columns_in<C: Cursor + Drop>(
 {
     let mut pass = regex.in_line(tick, cursor, line.len_bytes());
     let mut slots = [None; 2];
-    // Where the last match ended, and its column there.
+    // Where the last match ended, and the column of that.
     let (mut place, mut column) = (0, 0);
     let mut is_narrow = false;
     while let Some((start, end)) = regex.next(&mut pass, &mut slots)? {

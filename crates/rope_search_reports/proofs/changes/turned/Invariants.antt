@@ -1,4 +1,4 @@
--- The changes that are turned about so far.
+-- The changes reversed so far.
 use Rattle.std.proofs.Common.{◌≡◌, length, drop, vec_len, vec_capacity}
 use Rattle.rope_search_reports.specs.Turned.{turned_changes}
 use Rattle.rope_search_reports.proofs.TurnLemmas.{TurnsOn}

@@ -1,4 +1,4 @@
--- The groups so far, by their columns.
+-- The groups so far, as columns.
 use Rattle.std.proofs.Common.{◌≡◌, length, take}
 use Rattle.ropey.specs.Slices.{slice_bytes}
 use Rattle.rope_search_reports.specs.LineGroups.{in_columns}

@@ -1,4 +1,4 @@
--- So many rows are dropped.
+-- The rows dropped so far.
 use Rattle.std.proofs.Common.{◌≡◌, ◌≤◌, drop}
 use Rattle.std.specs.Vec.Iter.{into_iter_items}
 use Rattle.rope_search_reports.proofs.patches.drop_rows.Given as goal

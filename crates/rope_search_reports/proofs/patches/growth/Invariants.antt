@@ -1,4 +1,4 @@
--- The growth by the patches so far is counted.
+-- The growth by the patches so far.
 use Rattle.std.proofs.Common.{◌≡◌, ◌+◌, drop}
 use Rattle.rope_search_reports.specs.Patches.{growth_by}
 use Rattle.rope_search_reports.proofs.patches.growth.Given as goal

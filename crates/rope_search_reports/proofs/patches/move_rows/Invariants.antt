@@ -1,4 +1,4 @@
--- So many rows are moved.
+-- The rows moved so far.
 use Rattle.std.proofs.Common.{◌≡◌, ◌≤◌, ◌++◌, take, drop, vec_capacity}
 use Rattle.std.specs.Vec.Iter.{into_iter_items}
 use Rattle.rope_search_reports.proofs.patches.move_rows.Given as goal

@@ -1,4 +1,4 @@
--- The last patches are in their places, and there is room for the first ones.
+-- The last patches are applied, and there is room for the first ones.
 use Rattle.std.proofs.Common.{length, vec_capacity}
 use Rattle.rope_search_reports.proofs.PutLemmas.{IsPutDown}
 use Rattle.rope_search_reports.proofs.patches.put_in_place.Given as goal

@@ -1,4 +1,4 @@
--- The patches so far are in the list, and so are the rows before the last of them.
+-- The patches so far are in the list, with the rows before the last of them.
 use Rattle.std.proofs.Common.{vec_capacity}
 use Rattle.std.specs.Vec.Iter.{into_iter_items}
 use Rattle.rope_search_reports.proofs.PutLemmas.{IsPut}

@@ -1,4 +1,4 @@
--- The patches so far that move the rows behind them are counted.
+-- The number of patches so far that move the rows after them.
 use Rattle.std.proofs.Common.{◌≡◌, ◌+◌, ◌≤◌, drop}
 use Rattle.rope_search_reports.specs.Patches.{shift_count}
 use Rattle.rope_search_reports.proofs.patches.shift_once.Given as goal

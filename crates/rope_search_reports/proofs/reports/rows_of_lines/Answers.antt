@@ -15,7 +15,7 @@ use Rattle.rope_search_reports.proofs.reports.rows_of_lines.Goals as goal
 min-is : (a b : ℕ) → ord_min nat_cmp a b ≡ min a b
 min-is a b = grind (arith, nat_tests)
 
--- some lines are searched where some are left
+-- some lines are searched if some are left
 some-count : (few left count : ℕ) → count ≡ min few left → 1 ≤ few → 1 ≤ left → 1 ≤ count
 some-count few left count is one more = omega (arith, is, one, more)
 

@@ -1,4 +1,4 @@
--- The rows of the lines so far, and how many lines were looked through.
+-- The rows of the lines so far, and the number of lines scanned.
 use Rattle.std.proofs.Common.{◌≡◌, ◌+◌, ◌-◌, ◌≤◌, min}
 use Rattle.ropey.specs.Chunks.{text_of}
 use Rattle.rope_search_reports.specs.Drafts.{lines_between}

@@ -1,4 +1,4 @@
--- The matches that are passed.
+-- The matches skipped so far.
 use Rattle.std.proofs.Common.{◌≡◌, ℕ, List, false, length}
 use Rattle.ropey.specs.Slices.{slice_bytes}
 use Rattle.regex_cursor.specs.Regexes.{IsRegexOf}

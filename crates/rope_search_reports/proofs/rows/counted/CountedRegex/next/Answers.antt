@@ -7,7 +7,7 @@ use Rattle.rope_search_reports.specs.Finders.{FinderTells, PassState}
 use Rattle.rope_search_reports.proofs.PassLemmas.{came-of, came-told, ends-then, goes-on, on-of, step-behind, step-of}
 use Rattle.rope_search_reports.proofs.rows.counted.CountedRegex.next.Goals as goal
 
--- the regex that began it is this one
+-- the search was begun by this regex
 pub next_slots-requires-clause-alike : goal.next_slots-requires-clause-alike
 next_slots-requires-clause-alike g c =
     let same = ap (λ p. p.by) c.pass.view_is ∙ c.requires.by ∙ sym c.self.view_is in
