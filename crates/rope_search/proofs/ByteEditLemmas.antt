@@ -1,4 +1,4 @@
--- The positions at two bytes, and the part of the text between them.
+-- The positions at two offsets, and the part of the text between them.
 use Rattle.std.proofs.Common.{◌≡◌, ℕ, ◌<◌, ◌≤◌, List, ◌++◌, ap, sym, subst, ◌∙◌, arith}
 use Rattle.str_indices.specs.Text.{byte_len}
 use Rattle.rope_search_io.specs.declared.faults.Fault.{Fault}
@@ -17,14 +17,14 @@ use Rattle.rope_search.specs.Session.{State, chosen_buffer, current_text}
 use Rattle.rope_search.specs.Step.{IsFirstRefusal, Refuses}
 use Rattle.rope_search.proofs.PartLaws.{byte_len-append, front_within}
 
--- ---- one position at a byte
+-- ---- one position at an offset
 
 one-spot : (text : List ℕ) (p q : Position) (byte : ℕ) → IsAt text (p.line, p.column) byte → IsAt text (q.line, q.column) byte → p ≡ q
 one-spot text p q byte at at' =
     let of : ℕ × ℕ → Position = λ s. record { line = s.0; column = s.1 } in
     ap of (at.same ∙ sym at'.same)
 
--- what holds of the two positions at two bytes holds of any
+-- what holds of the two positions at two offsets holds of any
 pub of-any : (text : List ℕ) (from to : ℕ) (p q p' q' : Position) (P : Position → Position → Type 0) → AreAtBytes text from to p q → AreAtBytes text from to p' q' → P p q → P p' q'
 of-any text from to p q p' q' P at at' holds =
     subst (λ s. P s q') (one-spot text p p' from at.starts at'.starts) (subst (P p) (one-spot text q q' to at.ends at'.ends) holds)
@@ -49,7 +49,7 @@ none-between text from to start stop scalars at none = λ before part behind h.
     let b = spot-one places text scalars (stop.line, stop.column) to (byte_len (before ++ part)) at.ends h.ends in
     none start stop at (omega (arith, a, b, byte_len-append before part))
 
--- an edit that runs backward is refused first for that
+-- an edit that runs backward is first refused for that
 pub refused-backward : (limit : ℕ) (old : State) (from to : ℕ) (start stop : Position) (payload : List ℕ) → IsText (current_text (chosen_buffer old))
     → AreAtBytes (current_text (chosen_buffer old)) from to start stop → to < from → IsFirstRefusal limit old (EditText start stop payload) Range
 refused-backward limit old from to start stop payload scalars at below = record {

@@ -1,4 +1,5 @@
--- Which rows of its report a buffer tells as replaced, and what the buffers of a session tell.
+-- The rows of its report that a buffer reports as replaced, and what the buffers of a session
+-- report.
 use Rattle.std.proofs.Common.{◌≡◌, ℕ, ◌+◌, ◌≤◌, List, [], length, map, refl, sym, ap, ◌∙◌, subst, arith, slice_index_or, slice_set, if◌then◌else◌}
 use Rattle.std.specs.Prelude.{Option, None, Some, is_some, option_map}
 use Rattle.std.specs.Str.{chars}
@@ -33,7 +34,7 @@ replaces-told old new pattern text text' stretch is is' here here' replaces =
     replaces-with old new pattern stretch is is'
     (subst (λ t. ReplacesIn t (current_text new) pattern stretch) here (subst (λ t. ReplacesIn text t pattern stretch) here' replaces))
 
--- as many rows as the text has lines, where there is a pattern
+-- the number of rows is that of the text's lines, if there is a pattern
 rows-counted : HasARowALine → (buffer : BufferState) (pattern : Option (List ℕ)) (rows : List (List (ℕ × ℕ))) → buffer.pattern ≡ pattern → IsReportIn buffer rows
     → length rows ≡ (if is_some pattern then line_count (current_text buffer) else 0)
 rows-counted law buffer None rows is are = ap length (MatchOption-at_none (rows ≡ []) (λ p. IsReport (current_text buffer) p rows) is are)
@@ -52,7 +53,7 @@ replaces-whole law old new removed added is is' = λ rows rows' are are'.
       within_new = omega (arith, all');
     }
 
--- where the pattern is dropped
+-- if the pattern is dropped
 pub replaces-off : HasARowALine → (texts : List (List ℕ)) (current : ℕ) (search : Option Search) (old : BufferState) (text : List ℕ) (removed : ℕ) (stretch : Stretch)
     → record { texts = texts; current = current; pattern = option_map (λ (s : Search). s.finder) search } ≡ old → text ≡ text_at texts current
     → removed ≡ (if is_some search then line_count text else 0) → stretch ≡ whole_stretch removed 0
@@ -67,7 +68,7 @@ replaces-off law texts current (Some s) old text removed stretch same here is to
 
 -- ---- the buffers of a session
 
--- what they tell, with another one in the chosen one's place
+-- what they report, with another buffer in place of the chosen one
 abbrev pub told_with : List LimitedBuffer → ℕ → LimitedBuffer → List Stretch
 told_with items k new = map (λ (b : LimitedBuffer). b.changed) (slice_set items k new)
 
@@ -77,7 +78,7 @@ told-set items k limit old new s c =
     let changed : LimitedBuffer → Stretch = λ b. b.changed in
     subst (λ (t : LimitedSession). told_with items k new ≡ slice_set t.changed t.state.chosen new.changed) c.seen (map-set changed items k new)
 
--- that tells what it did
+-- that reports what it did before
 pub told-kept : (items : List LimitedBuffer) (k limit : ℕ) (old new : LimitedBuffer) (s : LimitedSession) → Chosen items k limit old s → new.changed ≡ old.changed
     → told_with items k new ≡ s.changed
 told-kept items k limit old new s c same =
@@ -93,7 +94,7 @@ chosen-with items k limit old new s c =
     ap (λ (bs : List BufferState). slice_index_or bs k (fresh [])) (map-set state items k new)
     ∙ get_or-set_same (map state items) k new.state (fresh []) (omega (arith, c.inside, length-map items state))
 
--- that tells which rows a command replaced
+-- that reports the rows that a command replaced
 pub tells : (order : Order) (items : List LimitedBuffer) (k limit : ℕ) (old new : LimitedBuffer) (s : LimitedSession) → Chosen items k limit old s
     → Replaces old.state new.state new.changed → AddsFew s.state order (state_with items k new) new.changed
     → TellsRows s.state order (state_with items k new) s.changed (told_with items k new)

@@ -1,5 +1,5 @@
--- Positions by their lines' texts: a front of a line's text ends at a position, and each position of
--- the line ends a front.
+-- Positions in their lines' texts: a prefix of a line's text ends at a position, and each position
+-- of the line ends a prefix.
 use Rattle.std.proofs.Common.{◌≡◌, ℕ, ◌+◌, ◌-◌, ◌<◌, ◌≤◌, inl, inr, List, [], ◌∷◌, ◌++◌, length, take, refl, ap, sym, subst, ◌∙◌, arith, append_assoc}
 use Rattle.std.specs.Prelude.{All, slice_index_or}
 use Rattle.std.specs.Str.{IsCharBoundary}
@@ -28,13 +28,13 @@ use Rattle.rope_search.specs.declared.encodings.Encoding.TheVariants.{Utf8, Utf1
 use Rattle.rope_search.proofs.FrontLemmas.{is-column}
 use Rattle.rope_search.proofs.PartLaws.{fronts_one}
 
--- ---- a front of a line's text
+-- ---- a prefix of a line's text
 
 break_some : (one rest : List ℕ) → IsBreak is_break one rest → 0 < byte_len one
 break_some [] rest is = absurd is
 break_some (c ∷ cs) rest is = omega (arith, byte_len-one c cs, (len_utf8_bounds c).0)
 
--- a place up to the end of a line's text is in that line
+-- an offset up to the end of a line's text is in that line
 line-there : (text : List ℕ) (line place : ℕ) → line < line_count text → line_start text line ≤ place → place ≤ text_end text line → line_at text place ≡ line
 line-there text line place inside low high =
     let h = lines-in-place text line inside in
@@ -86,7 +86,7 @@ front-at text line front back scalars inside parts =
       within = high;
     }
 
--- the column at its end is how long it is
+-- the column at its end is its length
 pub column-of-front : (encoding : Encoding) (text : List ℕ) (line : ℕ) (front back : List ℕ) → IsText text → line < line_count text → line_text text line ≡ front ++ back
     → column_in encoding text (line_start text line + byte_len front) ≡ length_in encoding front
 column-of-front Utf8 text line front back scalars inside parts =
@@ -114,7 +114,7 @@ column-of-front Utf32 text line front back scalars inside parts =
 
 -- ---- a position of a line
 
--- a front of the line's text ends there
+-- a prefix of the line's text ends there
 pub record EndsFront (text : List ℕ) (line place : ℕ) : Type 0 where
   pub inside : line < line_count text
   pub front : List ℕ

@@ -1,4 +1,4 @@
--- Several edits as one: where they lie, what they leave, and why they are refused.
+-- Several edits as one: where they are, their result, and why they are refused.
 use Rattle.std.proofs.Common.{◌≡◌, ℕ, ◌+◌, ◌<◌, ◌≤◌, ◌⊎◌, inl, inr, true, false, Bool, List, [], ◌∷◌, ◌++◌, length, map, take, drop, get_or, sum_by, refl, sym, ap, ◌∙◌, subst, arith, append_assoc, append-nil, All, IsUtf8, Ok, Err}
 use Rattle.std.specs.Prelude.{Result, OnOk, OnErr, IfOk, IfErr}
 use Rattle.std.specs.Str.{chars}
@@ -27,9 +27,9 @@ use Rattle.rope_search.proofs.HoldLaws.{one_text, text_holds}
 use Rattle.rope_search.proofs.SessionLemmas.{Chosen, Chosen-state, Chosen-limit, Chosen-set, Chosen-kept, state_with}
 use Rattle.rope_search.proofs.ChangedLemmas.{told_with, told-set, chosen-with}
 
--- ---- where one lies
+-- ---- where one is
 
--- at one place
+-- at one pair of offsets
 one_span : HasOnePlace → (text : List ℕ) → IsText text → (at at' : ℕ) (edit : FullEdit) (start end start' end' : ℕ)
     → LiesBehind text at edit start end → LiesBehind text at' edit start' end' → (start ≡ start') × (end ≡ end')
 one_span law text is at at' edit start end start' end' one other = (
@@ -37,7 +37,7 @@ one_span law text is at at' edit start end start' end' one other = (
   law text (edit.to.line, edit.to.column) end end' is one.ends other.ends,
 )
 
--- at none where its positions are in no order
+-- at none if its positions are in no order
 pub lies_nowhere : HasOnePlace → (text : List ℕ) → IsText text → (at : ℕ) (edit : FullEdit) (start end : ℕ) → IsAt text (edit.from.line, edit.from.column) start
     → IsAt text (edit.to.line, edit.to.column) end → (at ≤ start → start ≤ end → ⊥) → (start' end' : ℕ) → LiesBehind text at edit start' end' → ⊥
 lies_nowhere law text is at edit start end starts ends apart start' end' lies =
@@ -45,12 +45,12 @@ lies_nowhere law text is at edit start end starts ends apart start' end' lies =
     let same' = law text (edit.to.line, edit.to.column) end end' is ends lies.ends in
     apart (omega (arith, same, lies.behind)) (omega (arith, same, same', lies.ordered))
 
--- ---- one behind the other
+-- ---- one after the other
 
 abbrev is_utf8 : FullEdit → Type 0
 is_utf8 edit = IsUtf8 edit.payload
 
--- They are known up to this place: those made and what is left of them make all, and whether all so
+-- They are known up to this offset: those made and the remaining ones are all, and whether all so
 -- far are UTF-8 is known.
 pub record AreSoFar (text : List ℕ) (at : ℕ) (left all : List FullEdit) (made : List Substitution) (utf8 : Bool) : Type 0 where
   pub good : utf8 ≡ true → (rest : List Substitution) → LieInOrder text at left rest → LieInOrder text 0 all (made ++ rest)
@@ -95,7 +95,7 @@ so_far-more law text is at edit left all made made' utf8 utf8' one so lies more 
     either (inl e) every = so.broken e every
     either (inr apart) every = apart (All-head is_utf8 edit left (so.keeps every))
 
--- at the next of those that are given, and behind the last
+-- at the next of the given ones, and after the last
 pub edit-next : (text : List ℕ) (at : ℕ) (given : List Edit) (i : ℕ) (one : Edit) (all : List FullEdit) (made : List Substitution) (utf8 : Bool) → i < length given
     → AreSoFar text at (drop i (map in_full given)) all made utf8
     → AreSoFar text at (in_full (get_or given i one) ∷ drop (i + 1) (map in_full given)) all made utf8
@@ -108,7 +108,7 @@ pub edit-last : (text : List ℕ) (at : ℕ) (given : List Edit) (i : ℕ) (all 
 edit-last text at given i all made utf8 none so =
     subst (λ es. AreSoFar text at es all made utf8) (drop_all i (map in_full given) (omega (arith, none, length-map given in_full))) so
 
--- where the next one lies nowhere, they don't
+-- if the next one has no offsets, they have none
 pub so_far-none : (text : List ℕ) (at : ℕ) (edit : FullEdit) (left all : List FullEdit) (made : List Substitution) (utf8 : Bool)
     → AreSoFar text at (edit ∷ left) all made utf8 → ((start end : ℕ) → LiesBehind text at edit start end → ⊥)
     → (whole : List Substitution) → LieInOrder text 0 all whole → ⊥
@@ -126,7 +126,7 @@ pub so_far-placed : (text : List ℕ) (at : ℕ) (all : List FullEdit) (made : L
     → (whole : List Substitution) × LieInOrder text 0 all whole
 so_far-placed text at all made utf8 so = so.back [] tt
 
--- they lie in one way
+-- they have one list of offsets
 pub one_order : HasOnePlace → (text : List ℕ) → IsText text → (at : ℕ) (edits : List FullEdit) (ones others : List Substitution) → LieInOrder text at edits ones
     → LieInOrder text at edits others → ones ≡ others
 one_order law text is at [] [] [] lie lie' = refl
@@ -142,7 +142,7 @@ one_order law text is at (e ∷ es) (o ∷ os) (p ∷ ps) lie lie' =
     let later = one_order law text is o.end es os ps lie.2 (subst (λ n. LieInOrder text n es ps) (sym same.1) lie'.2) in
     ap (λ s. s ∷ os) own ∙ ap (λ ss. p ∷ ss) later
 
--- ---- what they are to the text
+-- ---- their effect on the text
 
 pub follow_on : (text : List ℕ) (at : ℕ) (edits : List FullEdit) (ones : List Substitution) → LieInOrder text at edits ones → SubstitutionsFollow (bytes_of text) at ones
 follow_on text at [] [] lie = tt
@@ -151,7 +151,7 @@ follow_on text at (e ∷ es) [] lie = absurd lie
 follow_on text at (e ∷ es) (o ∷ os) lie =
     (lie.0.behind, lie.0.ordered, lie.0.starts.boundary, lie.0.ends.boundary, follow_on text o.end es os lie.2)
 
--- they may have as many lines searched as they put
+-- they may have this number of lines searched: that of the lines they insert
 abbrev lines_of_edit : FullEdit → ℕ
 lines_of_edit edit = line_count (chars edit.payload)
 
@@ -175,7 +175,7 @@ texts_put text at (e ∷ es) (o ∷ os) utf8 lie =
     All-cons (λ (one : Substitution). IsText one.text) o os (subst IsText (sym lie.1) (scalars-chars e.payload (All-head is_utf8 e es utf8)))
     (texts_put text o.end es os (All-tail is_utf8 e es utf8) lie.2)
 
--- the buffer holds texts then
+-- then the buffer holds texts
 pub holds_edits : SubstitutedIsText → (old new : BufferState) (edits : List FullEdit) → HoldsTexts old → AreEdits old edits new → HoldsTexts new
 holds_edits law old new edits h are =
     let text = current_text old in
@@ -271,13 +271,13 @@ module _ (items : List LimitedBuffer) (k limit : ℕ) (old new : LimitedBuffer) 
   tells_told (Ok tt) replaces few = tells_edits replaces few
   tells_told (Err fault) replaces few = tt
 
--- it holds texts then, however they are answered
+-- then it holds texts, whatever the answer
 pub holds_told : SubstitutedIsText → (old new : LimitedBuffer) (edits : List FullEdit) → HoldsTexts old.state → (result : Result (Unit {0}) Fault)
     → OnOk result (AreEdits old.state edits new.state) → OnErr result (new ≡ old) → HoldsTexts new.state
 holds_told law old new edits h (Ok tt) are same = holds_edits law old.state new.state edits h are
 holds_told law old new edits h (Err fault) are same = subst (λ (b : LimitedBuffer). HoldsTexts b.state) (sym same) h
 
--- ---- what is answered once they are put in their places
+-- ---- the answer once their offsets are known
 
 pub changes-told : SubstitutionsAreChanges → (text : List ℕ) → IsText text → (edits : List FullEdit) (ones : List Substitution) → LieInOrder text 0 edits ones
     → (result : Result Replacement Fault) → IfOk result (λ new. text_of new.text ≡ substituted (bytes_of text) 0 ones) → IfOk result (λ new. new.changes.items ≡ changes_by 0 0 ones)

@@ -20,7 +20,7 @@ use Rattle.rope_search.proofs.StepLaws.{accepted_edit, accepted_undo, accepted_r
 use Rattle.rope_search.proofs.SessionLemmas.{Chosen, state_with, Chosen-limit, Chosen-state, Chosen-with, Chosen-set}
 use Rattle.rope_search.proofs.TextLemmas.{Encodes-chars}
 
--- what is so of each payload is so of each command
+-- what holds of each payload holds of each command
 pub rows_for_edit : (limit : ℕ) (s : State) (from to : Position) (payload : Payload) (count before : ℕ)
     → ((bytes : List ℕ) (cost : ℕ) → StandsFor limit payload bytes → Costs limit s (EditText from to bytes) cost → count ≤ before + cost)
     → (order : Order) (cost : ℕ) → Stands limit (Edit from to payload) order → Costs limit s order cost → count ≤ before + cost
@@ -76,7 +76,7 @@ Step-edit_size old from to bytes s same limit utf8 long =
     subst (λ b. GetsTooLong old.limit (current_text b) from to (length bytes)) same long in
     (refused_edit_size s.limit s.state from to bytes utf8 (subst (λ n. GetsTooLong n (current_text (chosen_buffer s.state)) from to (length bytes)) limit here), refl)
 
--- a refusal of the chosen buffer is the session's
+-- a refusal of the chosen buffer is one of the session
 pub Step-edit_err : (old : LimitedBuffer) (from to : Position) (bytes : List ℕ) (s : LimitedSession) (fault : Fault) → old.state ≡ chosen_buffer s.state → old.limit ≡ s.limit
     → IsUtf8 bytes → (fault ≡ Range) ⊎ ((fault ≡ Size) ⊎ (fault ≡ Memory)) → (fault ≡ Range → HasNoneBetween (current_text old.state) from to)
     → (fault ≡ Size → GetsTooLong old.limit (current_text old.state) from to (length bytes)) → Step s.limit s.state (EditText from to bytes) (Err fault) s.state
@@ -87,7 +87,7 @@ Step-edit_err old from to bytes s fault same limit utf8 (inr (inl e)) none long 
 Step-edit_err old from to bytes s fault same limit utf8 (inr (inr e)) none long =
     subst (λ f. Step s.limit s.state (EditText from to bytes) (Err f) s.state) (sym e) (tt, refl)
 
--- a payload that isn't UTF-8 is refused for that, but where no part lies between the positions
+-- a payload that isn't UTF-8 is refused for that, unless no part is between the positions
 pub Step-edit_utf8 : (old : LimitedBuffer) (from to : Position) (bytes : List ℕ) (s : LimitedSession) (told : Fault) → old.state ≡ chosen_buffer s.state
     → TellsRangeOr (current_text old.state) from to Utf8 told → ¬ (IsUtf8 bytes) → Step s.limit s.state (EditText from to bytes) (Err told) s.state
 Step-edit_utf8 old from to bytes s told same (inl nowhere) broken =
@@ -97,7 +97,7 @@ Step-edit_utf8 old from to bytes s told same (inr part) broken =
     subst (λ f. Step s.limit s.state (EditText from to bytes) (Err f) s.state) (sym part.4)
     (refused_edit_utf8 s.limit s.state from to bytes part.0 part.1 part.2 here broken, refl)
 
--- one that is longer than the limit is refused for that, with the same exception
+-- one longer than the limit is refused for that, with the same exception
 pub Step-edit_long : (old : LimitedBuffer) (from to : Position) (bytes : List ℕ) (s : LimitedSession) (told : Fault) → old.state ≡ chosen_buffer s.state
     → TellsRangeOr (current_text old.state) from to Size told → IsUtf8 bytes → s.limit < length bytes → Step s.limit s.state (EditText from to bytes) (Err told) s.state
 Step-edit_long old from to bytes s told same (inl nowhere) utf8 long =
@@ -110,7 +110,7 @@ Step-edit_long old from to bytes s told same (inr part) utf8 long =
 
 -- ---- the rows of an edit
 
--- an edit leaves the pattern
+-- an edit doesn't change the pattern
 edited_pattern : (old : BufferState) (from to : Position) (inserted : List ℕ) (new : BufferState) → IsEdit old from to inserted new → new.pattern ≡ old.pattern
 edited_pattern old from to inserted new edit = ap (λ (b : BufferState). b.pattern) edit.changed
 

@@ -1,4 +1,4 @@
--- Places and how many characters stand before them.
+-- Offsets, and the number of characters before them.
 use Rattle.std.proofs.Common.{◌≡◌, ℕ, ◌+◌, ◌≤◌, true, List, [], ◌++◌, length, take, drop, refl, sym, ap, subst, ◌∙◌, arith, append-nil, take-append-drop}
 use Rattle.std.specs.Str.{IsCharBoundary, IsUtf8, all_scalars, chars}
 use Rattle.std.proofs.lemmas.List.{length-take-le}
@@ -16,7 +16,7 @@ use Rattle.rope_search.specs.Encodings.{CharLaws, IsAtIn, column_in}
 use Rattle.rope_search.specs.declared.encodings.Encoding.{Encoding}
 use Rattle.rope_search.specs.declared.encodings.Encoding.TheVariants.{Utf8, Utf16, Utf32}
 
--- how many characters end up to a place
+-- the number of characters that end up to an offset
 abbrev pub chars_up_to : List ℕ → ℕ → ℕ
 chars_up_to text place = ends_up_to place (char_ends text)
 
@@ -33,7 +33,7 @@ chars-within law text place low = omega (arith, law.rise text place (byte_len te
 enough : CharLaws → (text : List ℕ) → length text ≤ length (char_ends text)
 enough law text = omega (arith, all-chars law text, count_by-le-length (λ e. nat_le e (byte_len text)) (char_ends text))
 
--- where a character starts is in the text, and as many as its number stand before it
+-- the start of a character is in the text, and its number is that of the characters before it
 pub char-within : CharLaws → (text : List ℕ) (char : ℕ) → char ≤ length text → end_place (char_ends text) char (byte_len text) ≤ byte_len text
 char-within law text char low = (law.places text char (byte_len text) (omega (arith, low, enough law text))).1 (omega (arith, low, all-chars law text))
 
@@ -41,7 +41,7 @@ pub chars-before : CharLaws → (text : List ℕ) (char : ℕ) → char ≤ leng
     → ends_up_to (end_place (char_ends text) char (byte_len text)) (char_ends text) ≡ char
 chars-before law text char low = omega (arith, law.back text char, low, enough law text)
 
--- the parts of a text before a boundary and behind it
+-- the parts of a text before and after a boundary
 parts_at : (text : List ℕ) (place : ℕ) → all_scalars text ≡ true → IsCharBoundary (encode_utf8_all text) place
     → (before : List ℕ) × (after : List ℕ) × (text ≡ before ++ after) × (byte_len before ≡ place)
 parts_at text place scalars boundary =
@@ -71,7 +71,7 @@ char-starts law text place char scalars boundary is =
 
 -- ---- lines and columns
 
--- a place with this column is so many bytes, or characters, behind where its line starts
+-- an offset with this column is that number of bytes, or characters, after the start of its line
 pub bytes-sum : LastEndIsBefore (break_ends is_break) → (text : List ℕ) (line column place : ℕ) → IsAtIn Utf8 text line column place
     → place ≡ line_start text line + column
 bytes-sum lines text line column place at = omega (arith, at.column_is, ap (line_start text) at.line_is, lines text place)
@@ -102,7 +102,7 @@ units-only text line column None scalars nowhere place at = absurd (nowhere plac
 units-only text line column (Some found) scalars there place at =
     ap Some (spot-one places text scalars (line, column) found place there (at-units text line column place at))
 
--- the position of such a place is at it
+-- the position of such an offset has that offset
 pub position-at : (encoding : Encoding) (text : List ℕ) (line column place : ℕ) (spot : ℕ × ℕ) → IsAtIn encoding text line column place → spot ≡ position text place
     → IsAt text spot place
 position-at encoding text line column place spot at is = record {

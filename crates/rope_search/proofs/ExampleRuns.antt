@@ -19,7 +19,7 @@ use Rattle.rope_search.proofs.RefusalLaws.{accepted_text, accepted_print}
 
 -- ---- reading
 
--- the digit 2 spells two, and so do 02
+-- the digit 2 spells two, and so does 02
 pub IsNumber-two : IsNumber (codes "2") 2
 IsNumber-two = record { some = omega arith; few = omega arith; decimal = omega arith; value = refl; fits = omega arith }
 
@@ -40,7 +40,7 @@ Spells-zeros = record { line = codes "text 02"; is_line = (codes " 02", (codes "
 pub Spells-print : SpellsOrder PrintText (codes "print\n")
 Spells-print = record { line = codes "print"; is_line = refl; whole = refl }
 
--- the next command stands right behind a payload
+-- the next command starts right after a payload
 pub Reads-hi : Reads (codes "text 2\nhiprint\n") (SetText (codes "hi") ∷ PrintText ∷ []) Input
 Reads-hi = record {
   spelled = codes "text 2\nhiprint\n";
@@ -59,17 +59,17 @@ Ends-cr = inl (record { line = codes "print\r"; more = []; no_lf = omega arith; 
     none PrintText h = omega (arith, ap length h)
     none o h = omega (arith, IsLine-first o (codes "print\r") h, IsLine-third o (codes "print\r") h)
 
--- a command's line without its LF is cut off
+-- a command's line without its LF is incomplete
 pub Ends-part : Ends (codes "print") Cut
 Ends-part = inl (record { no_lf = omega arith; some = omega arith; short = omega arith })
 
--- so is one with too few bytes behind it
+-- so is one followed by too few bytes
 pub Ends-payload : Ends (codes "text 2\nh") Cut
 Ends-payload = inr (record { order = SetText (codes "hi"); line = codes "text 2"; part = codes "h"; is_line = (codes " 2", two_spelled, refl); whole = refl; short = omega arith })
 
 -- ---- refusals and runs
 
--- the first session has no buffer 1, and that is all that is wrong with choosing it
+-- the first session has no buffer 1, and that is the only reason to refuse choosing it
 pub Refuses-use : (limit : ℕ) (fault : Fault) → Refuses limit first_state (UseBuffer 1) fault ↔ fault ≡ Nothing
 Refuses-use limit Nothing = ((λ h. refl), (λ e. omega arith))
 Refuses-use limit Range = ((λ h. absurd h), (λ e. cc))

@@ -1,4 +1,4 @@
--- What the definitions say of a few small lines and sessions, each by computation.
+-- Examples of the definitions on a few small lines and sessions, each by computation.
 use Rattle.std.proofs.Common.{◌≡◌, ℕ, List, [], ◌∷◌, codes, refl, arith}
 use Rattle.std.specs.Prelude.{Ok, Err, None}
 use Rattle.std.specs.Str.{chars}
@@ -23,7 +23,7 @@ digits_many = refl
 
 -- ---- what is written
 
--- a session with one buffer, of this text
+-- a session with one buffer, with this text
 abbrev pub session_of : List ℕ → State
 session_of text = record { buffers = fresh text ∷ []; chosen = 0 }
 
@@ -34,7 +34,7 @@ pub shows_number : shows first_state [] (Ok (Number 12)) ≡ codes "ok 12\n"
 unfolding digits
 shows_number = refl
 
--- a text is shown after the number of its bytes, and has an LF behind it
+-- a text is shown after its number of bytes, and followed by an LF
 pub shows_print : shows (session_of (codes "hi")) [] (Ok Print) ≡ codes "text 2\nhi\n"
 unfolding digits encode
 shows_print = refl
@@ -80,19 +80,19 @@ closing_cut = refl
 
 -- ---- edits
 
--- an edit behind an undo drops what could be redone
+-- an edit after an undo drops the texts that could be redone
 pub edit_drops : with_edit (undone (with_edit (fresh (codes "a")) (codes "b"))) (codes "c")
     ≡ record { texts = codes "a" ∷ codes "c" ∷ []; current = 1; pattern = None }
 edit_drops = refl
 
--- a text undone is the current one, and what was there can be redone
+-- the text before the edit is current after an undo, and the other can be redone
 pub undo_goes_back : current_text (undone (with_edit (fresh (codes "a")) (codes "b"))) ≡ codes "a"
 undo_goes_back = refl
 
 pub redo_goes_on : current_text (redone (undone (with_edit (fresh (codes "a")) (codes "b")))) ≡ codes "b"
 redo_goes_on = refl
 
--- a CR LF stands between the end of a line's text and the start of the next line
+-- a CR LF is between the end of a line's text and the start of the next line
 pub crlf_between : IsBetween (codes "ab\r\ncd") (record { line = 0; column = 2 }) (record { line = 1; column = 0 }) (codes "ab") (codes "\r\n") (codes "cd")
 unfolding encode chars line_texts
 crlf_between = record {
@@ -102,6 +102,6 @@ crlf_between = record {
   ends = record { boundary = (omega arith, λ inside high. omega (arith, high)); same = refl; within = omega arith };
 }
 
--- what takes its place joins the two lines
+-- replacing it joins the two lines
 pub crlf_replaced : IsEdit (fresh (codes "ab\r\ncd")) (record { line = 0; column = 2 }) (record { line = 1; column = 0 }) (codes " ") (with_edit (fresh (codes "ab\r\ncd")) (codes "ab cd"))
 crlf_replaced = record { before = codes "ab"; part = codes "\r\n"; behind = codes "cd"; between = crlf_between; changed = refl }

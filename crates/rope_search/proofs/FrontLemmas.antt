@@ -1,4 +1,4 @@
--- Fronts of a line's text: which is the longest, and the columns at their ends.
+-- Prefixes of a line's text: which is the longest, and the columns at their ends.
 use Rattle.std.proofs.Common.{◌≡◌, ℕ, suc, nat_le, true, false, ◌+◌, ◌-◌, ◌≤◌, min, inl, inr, List, [], ◌∷◌, ◌++◌, length, take, drop, slice_index_or, refl, ap, sym, subst, ◌∙◌, arith, append-nil}
 use Rattle.std.proofs.lemmas.Bool.{cases_Bool, cond-true, cond-false}
 use Rattle.std.proofs.lemmas.Bool.Decides.{nat_tests}
@@ -13,7 +13,7 @@ use Rattle.rope_search_reports.proofs.PlaceLemmas.{IsFrontOf, front_of}
 use Rattle.rope_search.specs.LineColumns.{IsColumnOf, IsLongestFront, front_to}
 use Rattle.rope_search.specs.declared.encodings.Encoding.TheVariants.{Utf8, Utf16, Utf32}
 
--- ---- how many characters end up to a place
+-- ---- the number of characters that end up to an offset
 
 ends-are-chars : (at : ℕ) (text : List ℕ) → length (ends_from (λ _ _. 1) at text) ≡ length text
 ends-are-chars at [] = refl
@@ -22,17 +22,17 @@ ends-are-chars at (c ∷ cs) = ap suc (ends-are-chars (at + len_utf8 c) cs)
 pub few-chars : (text : List ℕ) (place : ℕ) → ends_up_to place (char_ends text) ≤ length text
 few-chars text place = omega (arith, count_by-le-length (λ e. nat_le e place) (char_ends text), ends-are-chars 0 text)
 
--- ---- fronts of so many characters
+-- ---- prefixes with a number of characters
 
 front-taken : (text : List ℕ) (k : ℕ) → IsFrontOf text (take k text)
 front-taken text k = front_of places text (take k text) (drop k text) (sym (take-append-drop k text))
 
--- of all fronts that end at a place or before it the longest
+-- the longest of all prefixes that end at an offset or before it
 pub record IsLastUpTo (text : List ℕ) (place : ℕ) (front : List ℕ) : Type 0 where
   pub fits : byte_len front ≤ place
   pub longest : (other rest : List ℕ) → text ≡ other ++ rest → byte_len other ≤ place → byte_len other ≤ byte_len front
 
--- has the characters that end there or before
+-- it has the characters that end there or before
 pub last-up-to : (text : List ℕ) (place k : ℕ) → k ≡ ends_up_to place (char_ends text) → IsLastUpTo text place (take k text)
 last-up-to text place k is =
     let low : k ≤ length text = omega (arith, is, few-chars text place) in
@@ -47,7 +47,7 @@ last-up-to text place k is =
           omega (arith, near, there);
     }
 
--- ---- the longest front by what a column counts
+-- ---- the longest prefix, by the units of a column
 
 pub longest-in-bytes : (text : List ℕ) (column place k : ℕ) → place ≡ min column (byte_len text) → k ≡ ends_up_to place (char_ends text)
     → IsLongestFront Utf8 text column (take k text)
@@ -126,14 +126,14 @@ before-column text column is =
       bytes_are = f.back_from_chars;
     }
 
--- code units before the character of so many characters
+-- the code units before character `k`
 pub units-of-chars : (text : List ℕ) (k : ℕ) → k ≤ length text → ends_up_to (end_place (char_ends text) k (byte_len text)) (unit_ends text) ≡ units (take k text)
 units-of-chars text k low =
     let f = front-taken text k in
     ap (λ n. ends_up_to (end_place (char_ends text) n (byte_len text)) (unit_ends text)) (sym (length-take-le k text low))
     ∙ ap (λ n. ends_up_to n (unit_ends text)) f.back_from_chars ∙ f.units_are
 
--- ---- the front up to a column is one of the text's fronts
+-- ---- the prefix up to a column is one of the text's prefixes
 
 some-units : (c : ℕ) → nat_le (units_of c) 0 ≡ false
 some-units c = elim (cases_Bool (nat_le 0x1_0000 c)) [

@@ -1,4 +1,4 @@
--- Numbers by their digits, from the left.
+-- Numbers by their digits, from left to right.
 use Rattle.std.proofs.Common.{◌≡◌, ◌↔◌, ℕ, ◌+◌, ◌-◌, ◌*◌, ◌^◌, ◌<◌, ◌≤◌, List, [], ◌∷◌, ◌++◌, length, take, drop, zero, suc, slice_index_or, inl, inr, get_or, codes, sym, ap, ◌∙◌, subst, refl, add-one, append_assoc, append-nil, length-append, arith}
 use Rattle.std.proofs.lemmas.List.{append_cancel_left, take_all, drop_all}
 use Rattle.rope_search_reports.specs.declared.positions.Position.{Position}
@@ -15,7 +15,7 @@ pub digits_after-le : (n : ℕ) (digits : List ℕ) → n ≤ digits_after n dig
 digits_after-le n [] = omega arith
 digits_after-le n (digit ∷ digits) = omega (arith, digits_after-le (10 * n + (digit - 48)) digits)
 
--- a digit that is there, and fits
+-- a digit that exists and fits
 pub Spelling-next : (before digit : ℕ) (digits : List ℕ) (n : ℕ) → IsDigit digit
     → Spelling before (digit ∷ digits) n ↔ Spelling (10 * before + (digit - 48)) digits n
 Spelling-next before digit digits n is = (
@@ -32,11 +32,11 @@ Spelling-none before digit digits n bad h =
 pub Spelling-nil : (n : ℕ) → n < 2 ^ 64 → Spelling n [] n
 Spelling-nil n fits = record { decimal = tt; value = refl; fits = fits }
 
--- a number is spelled by its digits from the left
+-- a number is spelled by its digits from left to right
 pub Spelling-number : (digits : List ℕ) (n : ℕ) → IsNumber digits n → Spelling 0 digits n
 Spelling-number digits n h = record { decimal = h.decimal; value = h.value; fits = h.fits }
 
--- what is left of a list at a place inside it
+-- the rest of a list from an index inside it
 pub rest_at : (xs : List ℕ) (i : ℕ) → i < length xs → drop i xs ≡ get_or xs i 0 ∷ drop (i + 1) xs
 rest_at xs i inside = drop-cons xs i 0 inside ∙ ap (λ n. get_or xs i 0 ∷ drop n xs) (sym (add-one i))
 
@@ -51,7 +51,7 @@ Spelling-step digits i value next inside is grown before n =
       λ h. (before n).1 (subst (λ ds. Spelling value ds n) (sym here) (both.1 (subst (λ v. Spelling v (drop (i + 1) digits) n) grown h))),
     )
 
--- a number whose next digit is none, or makes it too large
+-- a number whose next digit isn't one, or makes it too large
 pub Spelling-stop : (digits : List ℕ) (i value : ℕ) → i < length digits
     → (IsDigit (get_or digits i 0) × (10 * value + (get_or digits i 0 - 48) < 2 ^ 64) → ⊥)
     → ((n : ℕ) → Spelling 0 digits n ↔ Spelling value (drop i digits) n)
@@ -60,9 +60,9 @@ Spelling-stop digits i value inside bad before n number =
     Spelling-none value (get_or digits i 0) (drop (i + 1) digits) n bad
     (subst (λ ds. Spelling value ds n) (rest_at digits i inside) ((before n).0 (Spelling-number digits n number)))
 
--- ---- numbers behind spaces
+-- ---- numbers after spaces
 
--- a number that comes first
+-- a number at the start
 pub Begins-number : (bytes digits others : List ℕ) (n : ℕ) → HasNoSpace digits → EndsNumber others → bytes ≡ 32 ∷ digits ++ others → IsNumber digits n
     → SpellsFront bytes (n ∷ []) others
 Begins-number bytes digits others n clean ends whole number ns = (first ns, λ h. subst (λ ms. AreSpelled ms bytes) (sym h.1) (digits, others, number, h.2, whole))
@@ -73,7 +73,7 @@ Begins-number bytes digits others n clean ends whole number ns = (first ns, λ h
         let parts = AreSpelled-first m ms digits others bytes clean ends whole h in
         (ms, ap (λ k. k ∷ ms) (IsNumber-one digits m n parts.0 number), parts.1)
 
--- none comes first
+-- no number at the start
 pub Begins-none : (bytes digits others : List ℕ) → HasNoSpace digits → EndsNumber others → bytes ≡ 32 ∷ digits ++ others → ((n : ℕ) → IsNumber digits n → ⊥)
     → (n : ℕ) (ns : List ℕ) → AreSpelled (n ∷ ns) bytes → ⊥
 Begins-none bytes digits others clean ends whole none n ns h = none n (AreSpelled-first n ns digits others bytes clean ends whole h).0
@@ -118,7 +118,7 @@ IsWorded-more word line rest others ns whole begins some ms same h =
     no_more ns ms [] e same h = h
     no_more ns ms (x ∷ later) e same h = absurd (omega (arith, ap length e, same, length-append ns (x ∷ later)))
 
--- what follows the first of some numbers
+-- the bytes after the first of some numbers
 pub Begins-rest : (bytes xs rest ms ys : List ℕ) → SpellsFront bytes xs rest → length ms ≡ length xs → AreSpelled (ms ++ ys) bytes → AreSpelled ys rest
 Begins-rest bytes xs rest ms ys begins same h =
     let parts = (begins (ms ++ ys)).0 h in
@@ -130,7 +130,7 @@ pub nothing_left : (xs : List ℕ) → length xs ≡ 0 → xs ≡ []
 nothing_left [] none = refl
 nothing_left (x ∷ xs) none = absurd (omega arith)
 
--- ---- what a line's numbers tell of its command
+-- ---- the command that a line's numbers give
 
 -- the order has the word's payload or number
 pub header_text : (line : List ℕ) (len : ℕ) → ((ns : List ℕ) → IsWorded (codes "text") line ns ↔ ns ≡ len ∷ []) → (o : Order) → IsLine o line ↔ IsHeaderOf (SetText len) o

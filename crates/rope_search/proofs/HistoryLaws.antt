@@ -1,4 +1,4 @@
--- Edits are undone and redone, and what is shown depends on text and pattern alone.
+-- Edits are undone and redone, and what is shown depends only on text and pattern.
 use Rattle.std.proofs.Common.{◌≡◌, ℕ, zero, suc, ◌+◌, ◌-◌, ◌<◌, List, [], ◌∷◌, ◌++◌, length, take, slice_index_or, refl, sym, ap, ◌∙◌, subst, arith}
 use Rattle.std.specs.Prelude.{Option, None, Some, MatchOption, Ok, Err}
 use Rattle.std.proofs.lemmas.List.{get_or-set_same, length-set}
@@ -17,20 +17,20 @@ use Rattle.rope_search.specs.Laws.{HasCurrent, AreChosenAlike, UndoUndoesEdit, U
 
 -- ---- the chosen buffer of a session
 
--- a buffer in the chosen one's place is the chosen one
+-- a buffer in place of the chosen one is the chosen one
 pub chosen_set : (s : State) (buffer : BufferState) → s.chosen < length s.buffers → chosen_buffer (with_chosen s buffer) ≡ buffer
 chosen_set s buffer inside = get_or-set_same s.buffers s.chosen buffer (fresh []) inside
 
 -- ---- undo and redo
 
--- a text is found again behind those that an edit drops
+-- a text is still in the list without those that an edit drops
 kept_text : (texts : List (List ℕ)) (n m : ℕ) (more : List (List ℕ)) → n < length texts → n < m → slice_index_or (take m texts ++ more) n [] ≡ slice_index_or texts n []
 kept_text texts n zero more inside kept = absurd (omega arith)
 kept_text [] n (suc m) more inside kept = absurd (omega arith)
 kept_text (t ∷ ts) zero (suc m) more inside kept = refl
 kept_text (t ∷ ts) (suc n) (suc m) more inside kept = kept_text ts n m more (omega arith) (omega arith)
 
--- an undo directly after a further text gives back text and pattern
+-- an undo directly after a new text restores text and pattern
 undone_edit : (limit : ℕ) (old edited new : State) (text : List ℕ) (reply : Reply) → HasCurrent old → edited ≡ with_chosen old (with_edit (chosen_buffer old) text)
     → Step limit edited UndoEdit (Ok reply) new → AreChosenAlike new old
 undone_edit limit old edited new text Done current is step =
@@ -81,7 +81,7 @@ redo_undo limit old mid new reply other current first second = absurd first.1
 
 -- ---- what is shown
 
--- a report of one text and one pattern is one
+-- a text and a pattern have one report
 pub same_report : HasOneReport → (s t : BufferState) (rows rows' : List (List (ℕ × ℕ))) → current_text s ≡ current_text t → s.pattern ≡ t.pattern → IsReportIn s rows → IsReportIn t rows' → rows ≡ rows'
 same_report one s t rows rows' text pattern h k =
     told t.pattern rows rows'
@@ -92,7 +92,7 @@ same_report one s t rows rows' text pattern h k =
     told None rows rows' h k = h ∙ sym k
     told (Some q) rows rows' h k = one (current_text t) q rows rows' h k
 
--- what `print` is answered
+-- the answer to `print`
 print_shown : (limit : ℕ) (s s' : State) (answer : Answer) (bytes : List ℕ) → Step limit s PrintText answer s' → Shows s' answer bytes
     → bytes ≡ shown_text (bytes_of (current_text (chosen_buffer s)))
 print_shown limit s s' (Ok Print) bytes step shown = shown.shown ∙ ap (λ (t : State). shown_text (bytes_of (current_text (chosen_buffer t)))) step.1

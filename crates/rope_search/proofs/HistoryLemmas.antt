@@ -1,4 +1,4 @@
--- A history with a further text, and the changes that lead to it.
+-- A history with one more text, and the changes that lead to it.
 use Rattle.std.proofs.Common.{◌≡◌, ℕ, ◌+◌, ◌-◌, ◌<◌, ◌≤◌, inl, inr, List, [], ◌∷◌, ◌++◌, length, take, map, slice_index_or, ap, sym, subst, ◌∙◌, arith, length-append, length-take}
 use Rattle.std.specs.Prelude.{Result, Ok, Err, OnOk}
 use Rattle.std.proofs.lemmas.Bool.{cases_lt}
@@ -11,7 +11,7 @@ use Rattle.rope_search_changes.specs.declared.Change.{Change}
 use Rattle.rope_search.specs.declared.history.Version.{Version}
 use Rattle.rope_search.specs.Histories.{text_at, changes_at, LeadOn}
 
--- what is seen of a version
+-- the view of a version
 abbrev pub text_in : Version → List ℕ
 text_in v = text_of v.text
 
@@ -23,9 +23,9 @@ pub shown-more : {A : Type 0} (see : Version → A) (items : List Version) (vers
 shown-more see items version n new is =
     ap (map see) is ∙ map-append see (take n items) (version ∷ []) ∙ ap (λ l. l ++ see version ∷ []) (sym (take-map see n items))
 
--- ---- a further one
+-- ---- one more
 
--- what stands in a list of the first ones with one behind them
+-- the elements of a list of the first ones with one after them
 before-more : {A : Type 0} (xs : List A) (x d : A) (n k : ℕ) → n ≤ length xs → k < n → slice_index_or (take n xs ++ x ∷ []) k d ≡ slice_index_or xs k d
 before-more xs x d n k within low =
     let long : length (take n xs) ≡ n = omega (arith, length-take n xs, within) in
@@ -72,7 +72,7 @@ led-to texts changes current led later inside =
     let some : current - 1 + 1 ≡ current = omega (arith, later) in
     subst (λ k. Lead (changes_at changes k) (text_at texts (current - 1)) (text_at texts k)) some (led (current - 1) (omega (arith, some, inside)))
 
--- what holds in any case holds if a call is done
+-- what holds in any case holds if a call succeeds
 pub on_ok : {T E : Type 0} (result : Result T E) {P : Type 0} → P → OnOk result P
 on_ok (Ok done) holds = holds
 on_ok (Err fault) holds = tt

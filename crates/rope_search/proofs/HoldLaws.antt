@@ -27,7 +27,7 @@ text_holds b h = elim (cases_lt b.current (length b.texts)) [
   | inr past ↦ subst IsText (sym (get_or_past b.texts b.current [] past)) refl
 ]
 
--- the pattern that a buffer has is one
+-- the pattern of a buffer is one
 pub pattern_holds : (b : BufferState) (p : List ℕ) → HoldsTexts b → b.pattern ≡ Some p → IsPattern p
 pattern_holds b p h is =
     let told : IfSome (Some p) (λ q. IsText q × IsPattern q) = subst (λ o. IfSome o (λ q. IsText q × IsPattern q)) is h.pattern in

@@ -1,5 +1,5 @@
--- The buffers of a session hold texts and patterns, and have one limit, also where one of them is
--- changed or comes to them.
+-- The buffers of a session hold texts and patterns, and have one limit, also if one of them is
+-- changed or another one is added.
 use Rattle.std.proofs.Common.{◌≡◌, ℕ, ◌+◌, ◌<◌, List, [], ◌∷◌, ◌++◌, length, take, ap, sym, subst, ◌∙◌, All, slice_index_or, slice_set}
 use Rattle.std.specs.Prelude.{Some}
 use Rattle.std.proofs.lemmas.List.{get_or-set_same, get_or_append_left}
@@ -11,12 +11,12 @@ use Rattle.rope_search.specs.Laws.{HoldsTexts}
 use Rattle.rope_search.specs.UndoSteps.{first_kept, with_steps}
 use Rattle.rope_search.proofs.HoldLaws.{one_text, holds_fresh, text_holds}
 
--- what each buffer of a session has
+-- what holds of each buffer of a session
 pub record AllKept (items : List LimitedBuffer) (limit : ℕ) : Type 0 where
   pub limits : All (λ (b : LimitedBuffer). b.limit ≡ limit) items
   pub texts : All (λ (b : LimitedBuffer). HoldsTexts b.state) items
 
--- another one in the chosen one's place
+-- another one in place of the chosen one
 pub kept_set : (items : List LimitedBuffer) (k : ℕ) (new : LimitedBuffer) → k < length items → new.limit ≡ limit_in items k
     → HoldsTexts new.state → AllKept items (limit_in items k) → AllKept (slice_set items k new) (limit_in (slice_set items k new) k)
 kept_set items k new inside same holds kept =
@@ -27,7 +27,7 @@ kept_set items k new inside same holds kept =
       texts = All-set (λ (b : LimitedBuffer). HoldsTexts b.state) items k new holds kept.texts;
     }
 
--- one more, behind them
+-- one more, after them
 pub kept_push : (items : List LimitedBuffer) (k : ℕ) (new : LimitedBuffer) → k < length items → new.limit ≡ limit_in items k
     → HoldsTexts new.state → AllKept items (limit_in items k) → AllKept (items ++ new ∷ []) (limit_in (items ++ new ∷ []) k)
 kept_push items k new inside same holds kept =
@@ -47,7 +47,7 @@ pub kept_holds : (items : List LimitedBuffer) (k : ℕ) (old : LimitedBuffer) �
     → AllKept items (limit_in items k) → HoldsTexts old.state
 kept_holds items k old inside is kept = subst (λ (b : LimitedBuffer). HoldsTexts b.state) (sym is) (kept.texts k old inside)
 
--- a text, or a pattern, that is put in it
+-- a text, or a pattern, that is set
 pub holds_text : (old new : BufferState) (text : List ℕ) → HoldsTexts old → IsText text → new ≡ with_text old text → HoldsTexts new
 holds_text old new text holds is told = subst HoldsTexts (sym told) (record { texts = one_text text is; pattern = holds.pattern })
 
@@ -55,7 +55,7 @@ pub holds_pattern : (old new : BufferState) (pattern : List ℕ) → HoldsTexts 
     → new ≡ with_pattern old (Some pattern) → HoldsTexts new
 holds_pattern old new pattern holds is one told = subst HoldsTexts (sym told) (record { texts = holds.texts; pattern = (is, one) })
 
--- its current text alone
+-- its current text only
 pub holds_forked : (old new : BufferState) → HoldsTexts old → new ≡ fresh (current_text old) → HoldsTexts new
 holds_forked old new holds told = subst HoldsTexts (sym told) (holds_fresh (current_text old) (text_holds old holds))
 

@@ -1,4 +1,4 @@
--- The changes of two steps put together lead from the first text to the last.
+-- The composed changes of two steps lead from the first text to the last.
 use Rattle.std.proofs.Common.{◌≡◌, ℕ, ◌+◌, ◌-◌, ◌≤◌, inl, inr, List, [], ◌∷◌, ◌++◌, refl, sym, ap, subst, ◌∙◌, arith, append_assoc, append-nil}
 use Rattle.std.specs.Prelude.{max}
 use Rattle.std.proofs.lemmas.Bool.{cases_lt}
@@ -14,7 +14,7 @@ use Rattle.rope_search.specs.Joints.{AddsPart, change_to, part_end, place_past}
 use Rattle.rope_search_reports.proofs.LineLemmas.{byte_len-append, byte_len-one}
 use Rattle.rope_search_reports.proofs.PlaceLemmas.{front_within}
 
--- ---- a text from a place on
+-- ---- a text from an offset on
 
 pub record Cut (text : List ℕ) (place : ℕ) (behind : List ℕ) : Type 0 where
   pub before : List ℕ
@@ -34,7 +34,7 @@ cut-more text place further part behind cut is = record {
 pub cut-within : (text : List ℕ) (place : ℕ) (behind : List ℕ) → Cut text place behind → place ≤ byte_len text
 cut-within text place behind cut = omega (arith, cut.place_is, ap byte_len cut.is, byte_len-append cut.before behind)
 
--- what stands from one place to another
+-- the text from one offset to another
 pub record Part (place place' : ℕ) (behind behind' : List ℕ) : Type 0 where
   pub part : List ℕ
   pub is : behind ≡ part ++ behind'
@@ -53,9 +53,9 @@ no-part : (part : List ℕ) → byte_len part ≡ 0 → part ≡ []
 no-part [] none = refl
 no-part (c ∷ cs) none = absurd (omega (arith, none, byte_len-one c cs, (len_utf8_bounds c).0))
 
--- ---- changes from two places on
+-- ---- changes from two offsets on
 
--- they begin no earlier than a place of the new text
+-- they begin no earlier than an offset of the new text
 abbrev pub Begin : ℕ → List Change → Type 0
 Begin place [] = Unit {0}
 Begin place (c ∷ cs) = place ≤ c.new_start
@@ -101,7 +101,7 @@ next-begin_old : (c : Change) (cs : List Change) (at at' : ℕ) (old new : List 
 next-begin_old c [] at at' old new place cur low = tt
 next-begin_old c (d ∷ cs) at at' old new place cur low = omega (arith, low)
 
--- what stays before the first change may go
+-- text before the first change, which stays, may be left out
 shift : (c : Change) (cs : List Change) (at at' : ℕ) (old new : List ℕ) (n : ℕ) (part mid behind behind' : List ℕ) → (one : IsChange (AreChanges cs) at at' old new c n)
     → one.gap ≡ part ++ mid → old ≡ part ++ behind → new ≡ part ++ behind'
     → AreChanges (c ∷ cs) (at + byte_len part) (at' + byte_len part) behind behind' n
@@ -126,7 +126,7 @@ shift c cs at at' old new n part mid behind behind' one cut old_is new_is =
       further = one.further;
     }
 
--- by a part of the new text, which is one of the old text too
+-- a part of the new text, which is one of the old text too
 move-new : (changes : List Change) (at at' : ℕ) (old new : List ℕ) (n : ℕ) (part behind' : List ℕ) → AreChanges changes at at' old new n → new ≡ part ++ behind'
     → Begin (at' + byte_len part) changes → (behind : List ℕ) × (old ≡ part ++ behind) × AreChanges changes (at + byte_len part) (at' + byte_len part) behind behind' n
 move-new [] at at' old new n part behind' are is low = (behind', are.0 ∙ is, (refl, are.1))
@@ -137,7 +137,7 @@ move-new (c ∷ cs) at at' old new n part behind' one is low =
     one.old_is ∙ ap (λ g. g ++ one.removed ++ one.old_behind) mid.1 ∙ ap (λ t. t ++ one.old_behind) (append_assoc part mid.0 one.removed) ∙ append_assoc part (mid.0 ++ one.removed) one.old_behind in
     (behind, old_is, shift c cs at at' old new n part mid.0 behind behind' one mid.1 old_is is)
 
--- by one of the old text
+-- a part of the old text
 move-old : (changes : List Change) (at at' : ℕ) (old new : List ℕ) (n : ℕ) (part behind : List ℕ) → AreChanges changes at at' old new n → old ≡ part ++ behind
     → BeginOld at at' (at + byte_len part) changes → (behind' : List ℕ) × (new ≡ part ++ behind') × AreChanges changes (at + byte_len part) (at' + byte_len part) behind behind' n
 move-old [] at at' old new n part behind are is low = (behind, sym are.0 ∙ is, (refl, are.1))
@@ -148,7 +148,7 @@ move-old (c ∷ cs) at at' old new n part behind one is low =
     one.new_is ∙ ap (λ g. g ++ one.inserted ++ one.new_behind) mid.1 ∙ ap (λ t. t ++ one.new_behind) (append_assoc part mid.0 one.inserted) ∙ append_assoc part (mid.0 ++ one.inserted) one.new_behind in
     (behind', new_is, shift c cs at at' old new n part mid.0 behind behind' one mid.1 is new_is)
 
--- up to a place where the new text is cut
+-- up to an offset where the new text is split
 pub record Stop (changes : List Change) (old : List ℕ) (place place' : ℕ) (behind' : List ℕ) : Type 0 where
   pub behind : List ℕ
   pub n : ℕ
@@ -169,7 +169,7 @@ to-new changes at at' old new place rest cur cut low begin =
       are = subst (λ p. AreChanges changes p place moved.0 rest cur.n) here (subst (λ p. AreChanges changes (at + byte_len part.part) p moved.0 rest cur.n) there moved.2);
     }
 
--- where the old text is cut
+-- up to an offset where the old text is split
 pub record StopOld (changes : List Change) (new : List ℕ) (place place' : ℕ) (behind : List ℕ) : Type 0 where
   pub behind' : List ℕ
   pub n : ℕ
@@ -192,7 +192,7 @@ to-old changes at at' old new place rest cur cut low begin =
 
 -- ---- the changes that are made so far
 
--- With further ones behind two places they lead from the one text to the other.
+-- With further ones after two offsets they lead from the one text to the other.
 pub record LeadTo (old new : List ℕ) (out : List Change) (start start' : ℕ) (behind behind' : List ℕ) : Type 0 where
   pub at : ℕ
   pub at' : ℕ
@@ -401,7 +401,7 @@ adds-to old new joint end out out' behind behind' removed inserted rest rest' pa
     subst (λ cs. LeadTo old new cs (end.old + byte_len part) (end.new + byte_len part) left left') (sym some.1)
     (lead_to-push old new out joint.start.old joint.start.new behind behind' (change_to joint end) removed inserted rest rest' part left left' to is is' ends refl ends' goes goes')
 
--- the next part starts at or behind the end of this one
+-- the next part starts at the end of this one or after it
 pub joining-reach : (old middle new : List ℕ) (joint : Joint) (left right out out' : List Change) (place : ℕ) (rest : List ℕ) → Joining old middle new joint left right out
     → Cut middle place rest → part_end joint ≤ place → Begin place left → BeginOld joint.second.middle joint.second.outer place right
     → AddsPart joint (place_past joint (part_end joint)) out out'
@@ -452,7 +452,7 @@ joining-end old middle new joint out out' j adds =
     let same : at.first.behind ≡ at.second.behind' = at.first.are.0 ∙ at.second.are.0 in
     subst (λ cs. Lead cs old new) (append-nil out') (to.led [] 0 (ap (λ t. to.gap ++ t) same, refl))
 
--- ---- places that fit
+-- ---- offsets in range
 
 -- where the next change starts
 pub first-cut : (c : Change) (cs : List Change) (at at' : ℕ) (old new : List ℕ) → Cursor (c ∷ cs) at at' old new → (rest : List ℕ) × Cut new c.new_start rest

@@ -1,4 +1,4 @@
--- Two steps put together, change by change.
+-- Two steps composed, change by change.
 use Rattle.std.proofs.Common.{◌≡◌, ℕ, ◌+◌, ◌-◌, ◌^◌, ◌<◌, ◌≤◌, inl, inr, List, [], ◌∷◌, length, drop, refl, sym, ap, subst, arith}
 use Rattle.std.proofs.lemmas.Bool.{cases_lt}
 use Rattle.std.proofs.lemmas.List.{drop_all}
@@ -62,7 +62,7 @@ begin_old-at changes j at at' place low = elim (cases_lt j (length changes)) [
 cut-at : (changes : List Change) (i : ℕ) → i < length changes → drop i changes ≡ change_numbered changes i ∷ drop (i + 1) changes
 cut-at changes i some = drop-cons i changes (record { old_end = 0; new_start = 0; new_end = 0 }) some
 
--- ---- a part is gone on with, or the next one is begun
+-- ---- the part continues, or the next one begins
 
 reached : (old middle new : List ℕ) (joint joint' : Joint) (left right out out' : List Change) (place : ℕ) (rest : List ℕ) → Joining old middle new joint left right out
     → Cut middle place rest → Begin place left → BeginOld joint.second.middle joint.second.outer place right → GoesOnTo joint place out joint' out' → Joining old middle new joint' left right out'
@@ -101,7 +101,7 @@ same-second : (joint joint' : Joint) (out out' : List Change) (place : ℕ) (c :
 same-second joint joint' out out' place c (inl on) = ap (λ (k : Joint). middle_start k c) on.1
 same-second joint joint' out out' place c (inr past) = ap (λ (k : Joint). middle_start k c) past.1
 
--- all are taken where as many are as there are
+-- all are taken if their number is that of all
 pub all-taken : (first second : List Change) (joint : Joint) (i j n : ℕ) (out : List Change) → SoFar first second joint i j out → i + j ≡ n → length first + length second ≤ n
     → (i ≡ length first) × (j ≡ length second)
 all-taken first second joint i j n out s is all = (omega (arith, is, all, s.within, s.within'), omega (arith, is, all, s.within, s.within'))
@@ -174,7 +174,7 @@ so_far-second first second joint joint' i j out out' led some before s reaches =
       within' = omega (arith, some);
     }
 
--- ---- places that fit
+-- ---- offsets in range
 
 pub first-fits : (first second : List Change) (joint : Joint) (i j : ℕ) (out : List Change) → Led first second → i < length first
     → (j < length second → (change_numbered first i).new_start ≤ middle_start joint (change_numbered second j)) → SoFar first second joint i j out

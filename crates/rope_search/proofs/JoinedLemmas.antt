@@ -1,4 +1,4 @@
--- A history whose last steps are made one.
+-- A history whose last steps are joined.
 use Rattle.std.proofs.Common.{◌≡◌, ℕ, suc, ◌+◌, ◌-◌, ◌^◌, ◌<◌, ◌≤◌, inl, inr, Bool, true, false, List, [], ◌∷◌, ◌++◌, length, take, drop, map, min, slice_index_or, slice_set, refl, sym, ap, subst, ◌∙◌, arith, length-append, length-take, length-drop}
 use Rattle.std.specs.Prelude.{Option, None, Some, option_map}
 use Rattle.std.proofs.lemmas.Bool.{cases_lt}
@@ -17,7 +17,7 @@ use Rattle.rope_search.specs.Histories.{text_at, changes_at, changes_last, LeadO
 use Rattle.rope_search.specs.JoinedSteps.{AreApart, AreComposed, Stays, StaysThrough, last_steps, number_joined}
 use Rattle.rope_search.proofs.HistoryLemmas.{text_in, changes_in, led-to}
 
--- ---- a list of which some in the middle leave
+-- ---- a list without some elements in the middle
 
 at-front : {A : Type 0} (xs rest : List A) (f k : ℕ) (d : A) → f ≤ length xs → k < f → slice_index_or (take f xs ++ rest) k d ≡ slice_index_or xs k d
 at-front xs rest f k d within low =
@@ -66,7 +66,7 @@ led_joined texts changes composed current steps inside same some within led lead
       ]
     ]
 
--- the current text is the one that it was
+-- the current text is unchanged
 pub joined_current : (texts : List (List ℕ)) (current steps : ℕ) → current < length texts
     → text_at (take (number_joined current steps) texts ++ drop current texts) (number_joined current steps) ≡ text_at texts current
 joined_current texts current steps inside =
@@ -78,7 +78,7 @@ pub joined_none : {A : Type 0} (xs : List A) (current steps : ℕ) → steps ≤
 joined_none xs current steps few =
     ap (λ n. take n xs ++ drop current xs) (omega (arith, few)) ∙ take-append-drop current xs
 
--- the changes that were made last, or undone, are those that they were
+-- the changes that were made last, or undone, are unchanged
 pub last_joined : (apart apart' : Option Changes) (is_back : Bool) (led : Changes) (changes : List (List Change)) (composed : List Change) (current f : ℕ)
     → current < length changes → f ≤ current → listed led ≡ changes_at changes current
     → ((apart ≡ None → ⊥) → apart' ≡ apart) → (apart ≡ None → is_back ≡ true → apart' ≡ None) → (apart ≡ None → is_back ≡ false → apart' ≡ Some led)
@@ -96,7 +96,7 @@ last_joined None apart' false led changes composed current f inside low here kep
 
 -- ---- the versions of a list
 
--- what is seen of those that stay
+-- the view of those that stay
 pub texts_joined : (items kept : List Version) (current f : ℕ) (version d : Version) → kept ≡ take f (slice_set items current version) ++ drop current (slice_set items current version)
     → text_in version ≡ text_in (slice_index_or items current d)
     → map text_in kept ≡ take f (map text_in items) ++ drop current (map text_in items)
@@ -137,7 +137,7 @@ led_among texts changes n m led = λ k low.
     (subst (λ t. Lead (changes_at (take m (drop n changes)) (k + 1)) (text_at texts (n + k)) t) (sym two)
     (subst (λ cs. Lead cs (text_at texts (n + k)) (text_at texts (n + k + 1))) (sym three) (led (n + k) (omega (arith, low, long)))))
 
--- the versions that so many steps lead through
+-- the versions of the last steps
 abbrev pub among : List Version → ℕ → ℕ → List Version
 among items current steps = take (current + 1 - (current - steps)) (drop (current - steps) items)
 
@@ -176,7 +176,7 @@ part_steps items current steps within =
     ∙ ap (λ k. take (m - 1) (drop k changes)) (omega (arith, within))
     ∙ ap (λ k. take k (drop (current + 1 - steps) changes)) (omega (arith, within))
 
--- ---- the last steps made one
+-- ---- the last steps joined
 
 pub record AreJoined (items kept : List Version) (current steps : ℕ) (composed : List Change) : Type 0 where
   pub texts : map text_in kept ≡ take (number_joined current steps) (map text_in items) ++ drop current (map text_in items)
@@ -212,7 +212,7 @@ joined_versions items kept current steps version d some within inside led is sam
       inside = omega (arith, ap length told, length-append (take f set) (drop current set), length-take f set, length-drop current set, length-set items current version, inside);
     }
 
--- ---- one step more
+-- ---- one more step
 
 through-more : (steps : List (List Change)) (changes : List Change) (x z : ℕ) → StaysThrough (steps ++ changes ∷ []) x z → (y : ℕ) × StaysThrough steps x y × Stays changes y z
 through-more [] changes x z stays = (x, refl, subst (Stays changes x) stays.2 stays.1)

@@ -10,7 +10,7 @@ use Rattle.rope_search.specs.Places.{IsMarked, IsMarkedBetween}
 use Rattle.rope_search.specs.Histories.{with_changes, KeepsEdit}
 use Rattle.rope_search.proofs.PartLaws.{byte_len-append, take_between}
 
--- a change by its places
+-- a change by its offsets
 abbrev at_places : ℕ → ℕ → ℕ → Change
 at_places old_end new_start new_end = record { old_end = old_end; new_start = new_start; new_end = new_end }
 

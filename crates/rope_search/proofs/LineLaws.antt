@@ -44,7 +44,7 @@ worded_choice word line = elim (front_choice word line) [
   ]
 ]
 
--- behind one word one line has one list of numbers
+-- after one word one line has one list of numbers
 pub IsWorded-one : (word line ms ns : List ℕ) → IsWorded word line ms → IsWorded word line ns → ms ≡ ns
 IsWorded-one word line ms ns one other =
     AreSpelled-one ms ns one.0 one.1 (subst (AreSpelled ns) (append_cancel_left word other.0 one.0 (sym other.2 ∙ one.2)) other.1)
@@ -91,7 +91,7 @@ two_choice word line = elim (worded_choice word line) [ inr none ↦ inr (λ a b
     told (a ∷ []) h = inr (counted (a ∷ []) (λ e. omega arith) h)
     told [] h = inr (counted [] (λ e. omega arith) h)
 
--- a line that has the word of each command in vain is no command's
+-- a line that isn't one with the word of any command is no command's
 pub record IsNoLine (line : List ℕ) : Type 0 where
   pub no_text : (n : ℕ) → IsWorded (codes "text") line (n ∷ []) → ⊥
   pub no_edit : (a b c d n : ℕ) → IsWorded (codes "edit") line (five a b c d n) → ⊥
@@ -120,7 +120,7 @@ no_line line none (FindNext from) h = none.no_next from.line from.column h
 no_line line none (ReplaceAll payload) h = none.no_replace (length payload) h
 no_line line none (UseBuffer k) h = none.no_use k h
 
--- a payload of so many bytes
+-- a payload with this number of bytes
 abbrev bytes_for : ℕ → List ℕ
 bytes_for n = replicate n 0
 
@@ -189,9 +189,9 @@ line_choice line = elim (one_choice (codes "text") line) [
       ]
     ]
 
--- ---- a line is one command's, but for the payload
+-- ---- a line is one command's, except for the payload
 
--- the first and the third byte of a command's line, by which all words differ
+-- the first and the third byte of a command's line, in which all words differ
 abbrev pub first_byte : Order → ℕ
 first_byte (SetText payload) = 116
 first_byte (EditText from to payload) = 101
@@ -238,7 +238,7 @@ IsLine-third (ReplaceAll payload) line h = ap (λ l. get_or l 2 0) h.2
 IsLine-third (UseBuffer k) line h = ap (λ l. get_or l 2 0) h.2
 IsLine-third o line h = ap (λ l. get_or l 2 0) h
 
--- one number behind a word is told, and so are five
+-- one number after a word is determined, and so are five
 pub one_told : (word line : List ℕ) (m n : ℕ) → IsWorded word line (m ∷ []) → IsWorded word line (n ∷ []) → m ≡ n
 one_told word line m n one other = let e : m ∷ [] ≡ n ∷ [] = IsWorded-one word line (m ∷ []) (n ∷ []) one other in cc
 

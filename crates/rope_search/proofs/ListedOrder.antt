@@ -1,4 +1,4 @@
--- What a walk over the rows of a report has passed.
+-- The rows of a report that a walk has passed.
 use Rattle.std.proofs.Common.{◌≡◌, ℕ, ◌<◌, ◌≤◌, List}
 use Rattle.rope_search_reports.specs.declared.positions.Position.{Position}
 use Rattle.rope_search.specs.declared.listed.ListedMatch.{ListedMatch}
@@ -15,6 +15,6 @@ pub record IsColumnOf (position : Position) (line column : ℕ) : Type 0 where
 abbrev pub AllBefore : List (List (ℕ × ℕ)) → Position → ℕ → Type 0
 AllBefore rows position line = (match : ListedMatch) → IsListed rows match → match.line < line → StartsBefore position match
 
--- no match is listed in the lines from one up to another
+-- no match is listed in the lines of a range
 abbrev pub NoneBetween : List (List (ℕ × ℕ)) → ℕ → ℕ → Type 0
 NoneBetween rows line end = (match : ListedMatch) → IsListed rows match → line ≤ match.line → match.line < end → ⊥

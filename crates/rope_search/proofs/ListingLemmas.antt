@@ -19,7 +19,7 @@ shown_rows-append n (x ∷ xs) ys =
     ap (λ l. flat_map (shown_match n) x ++ l) (shown_rows-append (n + 1) xs ys ∙ ap (λ m. shown_rows (n + 1) xs ++ shown_rows m ys) (omega arith))
     ∙ sym (append_assoc (flat_map (shown_match n) x) (shown_rows (n + 1) xs) (shown_rows (n + length (x ∷ xs)) ys))
 
--- one row more
+-- one more row
 pub shown_rows-more : (rows : List (List (ℕ × ℕ))) (i : ℕ) (d : List (ℕ × ℕ)) → i < length rows
     → shown_rows 0 (take (i + 1) rows) ≡ shown_rows 0 (take i rows) ++ flat_map (shown_match i) (get_or rows i d)
 shown_rows-more rows i d inside =
@@ -28,7 +28,7 @@ shown_rows-more rows i d inside =
     ap (shown_rows 0) (take_more rows i d inside) ∙ shown_rows-append 0 (take i rows) (get_or rows i d ∷ [])
     ∙ ap (λ m. shown_rows 0 (take i rows) ++ shown_rows m (get_or rows i d ∷ [])) here ∙ ap (λ l. shown_rows 0 (take i rows) ++ l) one
 
--- a row between those before and those behind it
+-- a row between those before and those after it
 pub shown_rows-split : (rows : List (List (ℕ × ℕ))) (i : ℕ) (d : List (ℕ × ℕ)) (rest : List ℕ) → i < length rows
     → shown_rows 0 rows ++ rest ≡ shown_rows 0 (take i rows) ++ (flat_map (shown_match i) (get_or rows i d) ++ (shown_rows (i + 1) (drop (i + 1) rows) ++ rest))
 shown_rows-split rows i d rest inside =
@@ -42,14 +42,14 @@ shown_rows-split rows i d rest inside =
 
 -- ---- matches that are shown
 
--- one match more
+-- one more match
 pub shown_matches-more : (line : ℕ) (row : List (ℕ × ℕ)) (i : ℕ) (d : ℕ × ℕ) → i < length row
     → flat_map (shown_match line) (take (i + 1) row) ≡ flat_map (shown_match line) (take i row) ++ shown_match line (get_or row i d)
 shown_matches-more line row i d inside =
     ap (flat_map (shown_match line)) (take_more row i d inside) ∙ flat_map-append (shown_match line) (take i row) (get_or row i d ∷ [])
     ∙ ap (λ l. flat_map (shown_match line) (take i row) ++ l) (append-nil (shown_match line (get_or row i d)))
 
--- a match between those before and those behind it
+-- a match between those before and those after it
 pub shown_matches-split : (line : ℕ) (row : List (ℕ × ℕ)) (i : ℕ) (d : ℕ × ℕ) → i < length row
     → flat_map (shown_match line) row ≡ flat_map (shown_match line) (take i row) ++ (shown_match line (get_or row i d) ++ flat_map (shown_match line) (drop (i + 1) row))
 shown_matches-split line row i d inside =
@@ -60,7 +60,7 @@ shown_matches-split line row i d inside =
 
 -- ---- what was written of a report
 
--- one match more went behind what waited
+-- one more match was appended to the buffered bytes
 pub Puts-match : (line i : ℕ) (row : List (ℕ × ℕ)) (d : ℕ × ℕ) (old mid new : List ℕ) (a b c : SinkState) → i < length row
     → Puts old mid a b (flat_map (shown_match line) (take i row)) → Puts mid new b c (shown_match line (get_or row i d))
     → Puts old new a c (flat_map (shown_match line) (take (i + 1) row))
@@ -75,7 +75,7 @@ WritesUntil-match broken line i row d old mid a b c inside p q =
     subst (λ l. WritesUntil broken a c (old ++ l)) (sym (shown_matches-split line row i d inside))
     (WritesUntil-put broken old mid (flat_map (shown_match line) (take i row)) (shown_match line (get_or row i d)) (flat_map (shown_match line) (drop (i + 1) row)) a b c p q)
 
--- one row more went behind what waited
+-- one more row was appended to the buffered bytes
 pub Puts-row : (line i : ℕ) (rows : List (List (ℕ × ℕ))) (d : List (ℕ × ℕ)) (row : List (ℕ × ℕ)) (old mid new : List ℕ) (a b c : SinkState) → i < length rows → line ≡ i
     → row ≡ get_or rows i d → Puts old mid a b (shown_rows 0 (take i rows)) → Puts mid new b c (flat_map (shown_match line) row)
     → Puts old new a c (shown_rows 0 (take (i + 1) rows))
@@ -99,7 +99,7 @@ WritesUntil-row broken line i rows d row mid a b c inside is row-is p q =
     (WritesUntil-put broken [] mid (shown_rows 0 (take i rows)) (flat_map (shown_match i) (get_or rows i d)) (shown_rows (i + 1) (drop (i + 1) rows) ++ last) a b c p
     (subst (λ n. WritesUntil broken b c (mid ++ flat_map (shown_match n) (get_or rows i d))) is (subst (λ r. WritesUntil broken b c (mid ++ flat_map (shown_match line) r)) row-is q)))
 
--- all rows went on their way, and then their number was written, or a front of that
+-- all rows were put, and then their number was written, or a prefix of that
 pub Writes-report : (r : Result Unit Broken) (rows : List (List (ℕ × ℕ))) (count i : ℕ) (tail mid : List ℕ) (a b c : SinkState) → length rows ≤ i
     → count ≡ match_count (take i rows) → Puts [] mid a b (shown_rows 0 (take i rows)) → tail ≡ shown_number count
     → MatchResult r (λ _. Writes b c (mid ++ tail)) (λ broken. WritesUntil broken b c (mid ++ tail))

@@ -1,4 +1,4 @@
--- What is answered that asks for the edit of a match, in a buffer and in a session.
+-- The answer to a request for the edit of a match, in a buffer and in a session.
 use Rattle.std.proofs.Common.{◌≡◌, ◌≢◌, ◌↔◌, ℕ, ◌+◌, ◌<◌, ◌≤◌, ◌⊎◌, inl, inr, List, [], ◌∷◌, Option, None, Some, Result, Ok, Err, IfOk, IfErr, OnOk, OnErr, IsUtf8, length, refl, ap, sym, subst, ◌∙◌, arith, slice_set}
 use Rattle.std.specs.Prelude.{MatchOption, option_map, slice_get, string_bytes}
 use Rattle.std.specs.Str.{chars}
@@ -133,7 +133,7 @@ answers-none limit b line number template none = record {
   fault = inl refl;
 }
 
--- ---- a session as it was
+-- ---- an unchanged session
 
 pub session-same : (old new : LimitedSession) → new.limit ≡ old.limit → new.state ≡ old.state → new.changed ≡ old.changed → new.buffers ≡ old.buffers → new ≡ old
 session-same old new limit state changed buffers =

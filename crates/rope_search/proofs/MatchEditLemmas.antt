@@ -46,7 +46,7 @@ row-at p (l ∷ lines) [] k are low = absurd are
 row-at p (l ∷ lines) (r ∷ rows) zero are low = are.0
 row-at p (l ∷ lines) (r ∷ rows) (suc k) are low = row-at p lines rows k are.1 (omega (arith, low))
 
--- ---- the groups of a match that a row lists
+-- ---- the groups of a match in a row
 
 -- they begin with its columns
 pub record Picked (told : Option Groups) (first : ℕ × ℕ) : Type 0 where
@@ -113,7 +113,7 @@ module _ (pattern own : List ℕ) (row : List (ℕ × ℕ)) (is : IsRow pattern 
     told_is = pick-none (bytes_of own) groups_of span_of is.are.matches number (sym shown ∙ none);
   }
 
-  -- what is told of the match that is listed, whoever tells it
+  -- the groups of a listed match, from either source
   pub told-first : GroupsAreOfRows → (first : ℕ × ℕ) (groups : Groups) → slice_get row number ≡ Some first → TellsGroups pattern own number (Some groups) → whole groups ≡ first
   told-first law first groups listed tells =
       let same : Some (whole groups) ≡ Some first = law pattern own row number (Some groups) is tells ∙ listed in cc
@@ -122,7 +122,7 @@ module _ (pattern own : List ℕ) (row : List (ℕ × ℕ)) (is : IsRow pattern 
   not-none law first listed tells =
       let same : None ≡ Some first = law pattern own row number None is tells ∙ listed in absurd (cc)
 
--- ---- a match that a report lists
+-- ---- a match in a report
 
 -- it is in one of the lines
 listed-inside : (rows : List (List (ℕ × ℕ))) (line number : ℕ) (first : ℕ × ℕ) → slice_get (slice_index_or rows line []) number ≡ Some first → line < length rows
@@ -161,14 +161,14 @@ module _ (count : HasARowALine) (text pattern : List ℕ) (rows : List (List (�
   first-in law first groups listed tells =
       told-first pattern (line_text text line) (slice_index_or rows line []) (of-listed first listed) number law first groups listed tells.tells
 
--- told groups begin with the whole match
+-- groups that are found begin with the whole match
 pub told-some : (pattern own : List ℕ) (number : ℕ) (groups : Groups) → TellsGroups pattern own number (Some groups)
     → (first : ℕ × ℕ) × (others : Groups) × (groups ≡ Some first ∷ others)
 told-some pattern own number groups tells =
     pick-some (bytes_of own) groups_of span_of (λ m. map (group_of m) (range_with_len 1 9)) (λ m. refl) tells.are.matches number groups
     (tells.told_is ∙ ap (λ all. option_map (in_columns (bytes_of own)) (slice_get all number)) tells.are.groups_are)
 
--- a template that names no other group needs the whole match alone
+-- a template that names no other group needs only the whole match
 pub alike-alone : (own : List ℕ) (groups groups' : Groups) (first : ℕ × ℕ) (others others' : Groups) (template : List ℕ) → names_explicit_groups template ≡ false
     → groups ≡ Some first ∷ others → groups' ≡ Some first ∷ others' → expansion own groups template ≡ expansion own groups' template
 alike-alone own groups groups' first others others' template none some some' =
@@ -178,9 +178,9 @@ alike-alone own groups groups' first others others' template none some some' =
     sym (expand-alone content (in_bytes own groups) template none) ∙ ap (λ w. expand content (alone w) template) (a ∙ sym b)
     ∙ expand-alone content (in_bytes own groups') template none
 
--- ---- groups that serve
+-- ---- sufficient groups
 
--- those that are told
+-- those that are found
 pub serve-own : (text pattern : List ℕ) (line number : ℕ) (template : List ℕ) (groups : Groups) → TellsGroupsIn text pattern line number (Some groups)
     → ServeFor text pattern line number template groups
 serve-own text pattern line number template groups found =
@@ -194,7 +194,7 @@ serve-own text pattern line number template groups found =
       some = s.2 ∙ ap (λ v. Some v ∷ s.1) (sym (ap whole s.2));
     }
 
--- and the whole match alone, where the template names no other
+-- only the whole match, if the template names no other
 pub serve-alone : HasARowALine → (text pattern : List ℕ) (rows : List (List (ℕ × ℕ))) → IsReport text pattern rows → (line number : ℕ) (template : List ℕ) (first : ℕ × ℕ) (others : Groups)
     → slice_get (slice_index_or rows line []) number ≡ Some first → names_explicit_groups template ≡ false → ServeFor text pattern line number template (Some first ∷ others)
 serve-alone count text pattern rows report line number template first others listed none =
@@ -210,7 +210,7 @@ serve-alone count text pattern rows report line number template first others lis
       some = refl;
     }
 
--- ---- what stands in the match's place
+-- ---- the text in place of the match
 
 module _ (text template : List ℕ) (scalars : IsText text) (groups : Groups) (new : List ℕ) (spelled : IsText new) (span : IsSpanIn (bytes_of text) (whole groups))
     (is : new ≡ replaced (bytes_of text) template 0 (groups ∷ [])) where
@@ -237,7 +237,7 @@ module _ (text template : List ℕ) (scalars : IsText text) (groups : Groups) (n
   spell : bytes_of new ≡ (bytes_of front ++ bytes_of put) ++ bytes_of rest
   spell = ap bytes_of is ∙ encodes-append (front ++ put) rest ∙ ap (λ b. b ++ bytes_of rest) (encodes-append front put)
 
-  -- from where the match starts, so many bytes
+  -- from where the match starts, this number of bytes
   pub put-there : (start end : ℕ) → start ≡ (whole groups).0 → end ≡ (whole groups).0 + byte_len put
       → walk.between start end (bytes_of new) ≡ bytes_of put
   put-there start end starts ends =
@@ -261,13 +261,13 @@ module _ (text template : List ℕ) (scalars : IsText text) (groups : Groups) (n
         stops = subst (IsCharBoundary (bytes_of new)) high (IsCharBoundary-at_seam (bytes_of new) (bytes_of front ++ bytes_of put) (bytes_of rest) spell (rest, (last, refl)));
       })
 
--- ---- the edit is refused where the text gets too long
+-- ---- the edit is refused if the text gets too long
 
 module _ (text : List ℕ) (line : ℕ) (scalars : IsText text) (inside : line < line_count text) where
   abbrev own : List ℕ
   own = line_text text line
 
-  -- something stands between the columns of a listed match
+  -- the columns of a listed match have a text between them
   pub some-between : (first : ℕ × ℕ) → StandsAtBoundaries text line first
       → HasNoneBetween text (record { line = line; column = first.0 }) (record { line = line; column = first.1 }) → ⊥
   some-between first at none =
@@ -282,7 +282,7 @@ module _ (text : List ℕ) (line : ℕ) (scalars : IsText text) (inside : line <
         ends = subst (IsAt text (line, first.1)) (t.place_is ∙ ap byte_len mid.1) at.ends;
       })
 
-  -- a listed match lies between the places of its columns
+  -- a listed match is between the offsets of its columns
   pub too-long : (limit : ℕ) (groups : Groups) (first : ℕ × ℕ) (others : Groups) (template inserted : List ℕ) → StandsAtBoundaries text line first
       → groups ≡ Some first ∷ others → inserted ≡ expansion own groups template
       → limit < byte_len (replaced (bytes_of text) template 0 (map (option_map (placed text line)) groups ∷ []))
@@ -335,7 +335,7 @@ module _ (text : List ℕ) (line : ℕ) (scalars : IsText text) (inside : line <
         );
       }
 
--- ---- where a listed match stands
+-- ---- where a listed match is
 
 listed-among : (P : ℕ × ℕ → Type 0) (row : List (ℕ × ℕ)) (number : ℕ) (first : ℕ × ℕ) → All P row → slice_get row number ≡ Some first → P first
 listed-among P row number first all listed = subst P (there row number first listed) (all number first (inside row number first listed))
@@ -361,13 +361,13 @@ span-first content groups spans some =
     let all = subst (HasSpansIn content) some.2 spans in
     subst (IsSpanIn content) (sym (ap whole some.2)) (all 0 None (omega arith))
 
--- no match is missing, so want of memory alone is told
+-- no match is missing, so the only fault is out of memory
 pub memory-alone : {T : Type 0} (r : Result T Fault) → IfErr r (λ fault. (fault ≡ Range) ⊎ (fault ≡ Memory)) → (r ≡ Err Range → ⊥) → IfErr r (λ fault. fault ≡ Memory)
 memory-alone (Ok t) fault none = tt
 memory-alone (Err f) (inl range) none = absurd (none (ap Err range))
 memory-alone (Err f) (inr memory) none = memory
 
--- ---- what a template stands for is a text
+-- ---- the expansion of a template is a text
 
 group-scalars : (content : List ℕ) (groups : Groups) (number : ℕ) → IsUtf8 content → HasSpansIn content groups → IsText (group_text content groups number)
 group-scalars content groups number utf8 spans = elim (cases_lt number (length groups)) [

@@ -1,4 +1,4 @@
--- All matches in a text, by the groups that a search answers, and those of a buffer.
+-- All matches in a text, from the groups that a search returns, and those of a buffer.
 use Rattle.std.proofs.Common.{◌≡◌, ◌↔◌, ℕ, ◌<◌, false, List, [], ◌∷◌, length, map, refl, sym, ap, ◌∙◌, subst, arith}
 use Rattle.std.specs.Prelude.{Some}
 use Rattle.std.proofs.lemmas.List.{length-map}
@@ -16,9 +16,9 @@ use Rattle.rope_search.specs.Session.{BufferState, current_text}
 use Rattle.rope_search.specs.Histories.{AreReplacements}
 use Rattle.rope_search.specs.Replacing.{AreMatchesOfBuffer, AreEnough, GetsTooLongWith, RowsOfReplacement, GetsTooLongIn, RowsOfReplacementIn}
 
--- ---- of these matches all is known
+-- ---- everything is known of these matches
 
--- the text that replacing them leaves is too long, or none is
+-- the text with them replaced is too long, or none is
 pub long_in : HasOneListOfGroups → (limit : ℕ) (text pattern template : List ℕ) (matches : List Groups) → AreGroups pattern (bytes_of text) matches
     → limit < byte_len (replaced (bytes_of text) template 0 matches) ↔ GetsTooLongIn limit text pattern template
 long_in one limit text pattern template matches are = (
@@ -28,28 +28,28 @@ long_in one limit text pattern template matches are = (
       omega (arith, gets.long, same),
 )
 
--- so many rows and no other number
+-- this number of rows and no other
 pub rows_in : HasOneListOfGroups → (text pattern template : List ℕ) (matches : List Groups) (n : ℕ) → AreGroups pattern (bytes_of text) matches
     → RowsOfReplacementIn text pattern template n → searched (bytes_of text) template matches ≡ n
 rows_in one text pattern template matches n are rows =
     sym (rows.rows ∙ ap (searched (bytes_of text) template) (one pattern (bytes_of text) rows.matches matches rows.are are))
 
--- ---- matches that will do
+-- ---- sufficient matches
 
--- what they leave is what all matches do
+-- the result with them is that with all matches
 replaced_alike : (text pattern template told : List ℕ) (shown : List Groups) → told ≡ template → (enough : AreEnough text pattern told shown)
     → replaced (bytes_of text) told 0 shown ≡ replaced (bytes_of text) template 0 enough.groups
 replaced_alike text pattern template told shown same enough =
     enough.alike.text ∙ ap (λ t. replaced (bytes_of text) t 0 enough.groups) same
 
--- a text that is known not to be over the limit is none that is too long
+-- a text that is known to be within the limit isn't too long
 pub not_over : HasOneListOfGroups → (limit : ℕ) (text pattern template told : List ℕ) (shown : List Groups) → AreEnough text pattern told shown
     → told ≡ template → (limit < byte_len (replaced (bytes_of text) told 0 shown) → ⊥) → GetsTooLongIn limit text pattern template → ⊥
 not_over one limit text pattern template told shown enough same fits gets =
     let long = (long_in one limit text pattern template enough.groups enough.are).1 gets in
     fits (omega (arith, long, ap byte_len (replaced_alike text pattern template told shown same enough)))
 
--- what was made of them are changes
+-- their replacement is changes
 pub changed_by : ReplacementsAreChanges → (text pattern template told new : List ℕ) (shown : List Groups) (changes : List Change) → IsText text
     → (enough : AreEnough text pattern told shown) → told ≡ template → changes ≡ changes_of (bytes_of text) told 0 0 shown
     → new ≡ replaced (bytes_of text) told 0 shown → AreChanges changes 0 0 text new (searched (bytes_of text) template enough.groups)
@@ -59,7 +59,7 @@ changed_by law text pattern template told new shown changes is_text enough same 
     (subst (λ cs. AreChanges cs 0 0 text new (searched content told shown)) (sym changes_are)
     (subst (λ t. AreChanges (changes_of content told 0 0 shown) 0 0 text t (searched content told shown)) (sym new_is) (law text told shown is_text enough.stand.follow)))
 
--- and they are told
+-- and these are reported
 pub replacements_in : (text pattern template told : List ℕ) (shown : List Groups) (changes : List Change) → AreEnough text pattern told shown
     → told ≡ template → changes ≡ changes_of (bytes_of text) told 0 0 shown → AreReplacements text pattern template changes
 replacements_in text pattern template told shown changes enough same changes_are = record {
@@ -68,7 +68,7 @@ replacements_in text pattern template told shown changes enough same changes_are
   told = changes_are ∙ enough.alike.changes ∙ ap (λ t. changes_of (bytes_of text) t 0 0 enough.groups) same;
 }
 
--- the spans of all matches will do for a template that names no group
+-- the spans of all matches are sufficient for a template that names no group
 map-whole : {A : Type 0} (groups_of : A → Groups) (span_of : A → ℕ × ℕ) → ((a : A) → whole (groups_of a) ≡ span_of a) → (ms : List A)
     → map whole (map groups_of ms) ≡ map span_of ms
 map-whole groups_of span_of same [] = refl
@@ -88,7 +88,7 @@ enough_spans law text pattern template spans none are stand =
       alike = subst (λ ss. ReplaceAlike (bytes_of text) template (map alone ss) groups) same (law (bytes_of text) template groups none);
     }
 
--- and all groups do for each
+-- and all groups are for each template
 pub enough_groups : (text pattern template : List ℕ) (groups : List Groups) → AreGroups pattern (bytes_of text) groups → AreMatchesIn (bytes_of text) groups
     → AreEnough text pattern template groups
 enough_groups text pattern template groups are stand = record {
@@ -110,7 +110,7 @@ in_buffer b pattern text matches is here are = record {
   are = subst (λ t. AreGroups pattern (bytes_of t) matches) here are;
 }
 
--- and these are they
+-- and these are all
 in_text : (b : BufferState) (pattern text : List ℕ) (matches : List Groups) → b.pattern ≡ Some pattern → text ≡ current_text b
     → AreMatchesOfBuffer b matches → AreGroups pattern (bytes_of text) matches
 in_text b pattern text matches is here all =

@@ -1,5 +1,5 @@
--- What `next` replies depends on text and pattern alone, and its matches are at boundaries; and the
--- positions of an edit are those of its places.
+-- The reply to `next` depends only on text and pattern, and its matches are at boundaries; and the
+-- positions of an edit are those of its offsets.
 use Rattle.std.proofs.Common.{◌≡◌, ◌≢◌, ℕ, List, ◌++◌, length, refl, sym, ap, subst, ◌∙◌, arith}
 use Rattle.std.specs.Prelude.{Option, None, Some, Ok, Err, encode_utf8_all}
 use Rattle.std.proofs.lemmas.List.{length-append}
@@ -52,7 +52,7 @@ does_alike s t new from (Found a z) alike does = (tells_alike s t from (Some (a,
 does_alike s t new from NoMatch alike does = (tells_alike s t from None alike does.0, refl)
 does_alike s t new from reply alike does = absurd does
 
--- and it is refused here for the same
+-- and it is refused here for the same reason
 refuses_alike : (limit limit' : ℕ) (s t : State) (from : Position) (fault : Fault) → AreChosenAlike s t → Refuses limit' t (FindNext from) fault → Refuses limit s (FindNext from) fault
 refuses_alike limit limit' s t from Nothing alike refuses = alike.pattern ∙ refuses
 refuses_alike limit limit' s t from Range alike refuses = subst (λ x. IsNowhere x (from.line, from.column)) (sym alike.text) refuses
@@ -64,7 +64,7 @@ first_alike limit limit' s t from fault alike first = record {
   none_before = λ other below refuses. first.none_before other below (refuses_alike limit' limit t s from other (turned s t alike) refuses);
 }
 
--- what is shown of a reply is the same in each session
+-- a reply is shown alike in each session
 reply_shown : (s t old : State) (from : Position) (reply : Reply) (rows rows' : List (List (ℕ × ℕ))) → Does old (FindNext from) reply s → shows s rows (Ok reply) ≡ shows t rows' (Ok reply)
 reply_shown s t old from (Found a z) rows rows' does = refl
 reply_shown s t old from NoMatch rows rows' does = refl
@@ -103,7 +103,7 @@ next_bounds law limit old new from start end all step =
       told = told.2;
     }
 
--- ---- the places of an edit
+-- ---- the offsets of an edit
 
 between_places : (text : List ℕ) (from to : Position) (before part behind : List ℕ) → IsBetween text from to before part behind → HavePlaces text from to
 between_places text from to before part behind between = record {

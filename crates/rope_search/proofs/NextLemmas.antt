@@ -1,4 +1,4 @@
--- What a session is answered that looks for a match.
+-- The answer of a session to a search for a match.
 use Rattle.std.proofs.Common.{◌≡◌, ◌≢◌, ℕ, ◌⊎◌, inl, inr, List, sym, subst, ◌∙◌, refl, Ok, Err}
 use Rattle.std.specs.Prelude.{Option, None, Some}
 use Rattle.rope_search_io.specs.declared.faults.Fault.{Fault}
@@ -12,7 +12,7 @@ use Rattle.rope_search.specs.Step.{Step}
 use Rattle.rope_search.proofs.SessionLemmas.{Chosen, Chosen-state, Chosen-kept, state_with}
 use Rattle.rope_search.proofs.StepLaws.{accepted_next, refused_next, refused_astray}
 
--- what is found in the buffer's text for its pattern is what the buffer has next
+-- the match found in the buffer's text for its pattern is the next one of the buffer
 in_buffer : (b : BufferState) (p : List ℕ) (from : Position) (found : Option (ℕ × ℕ)) → b.pattern ≡ Some p → FindsIn (current_text b) p from found → FindsFromPosition b from found
 in_buffer b p from found is finds = record { pattern = p; place = finds.place; is_pattern = is; starts = finds.starts; finds = finds.finds }
 

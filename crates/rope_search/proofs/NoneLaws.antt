@@ -1,4 +1,4 @@
--- Between which positions nothing stands.
+-- Positions without text between them.
 use Rattle.std.proofs.Common.{◌≡◌, ℕ, ◌⊎◌, List, ◌++◌, length, take, drop, take-append-drop, length-take-le, refl, sym, ap, ◌∙◌, subst, inl, inr, arith, chars}
 use Rattle.std.specs.Str.{IsUtf8}
 use Rattle.std.proofs.lemmas.Bool.{cases_lt}
@@ -11,7 +11,7 @@ use Rattle.rope_search.specs.Places.{HasNoneBetween}
 use Rattle.rope_search.specs.Laws.{AreTurned, NoneIsNowhereOrTurned}
 use Rattle.rope_search.proofs.PartLaws.{ends_choice, front_within, byte_len-append}
 
--- where no front ends at a position, it is nowhere
+-- a position is nowhere if no prefix ends at it
 nowhere : (text : List ℕ) (line column : ℕ) → IsText text → ((x y : List ℕ) → text ≡ x ++ y → IsAt text (line, column) (byte_len x) → ⊥) → IsNowhere text (line, column)
 nowhere text line column scalars none place at =
     let bytes = bytes_of text in

@@ -1,4 +1,4 @@
--- Numbers behind spaces: bytes spell one list of them, or none.
+-- Numbers after spaces: bytes spell one list of them, or none.
 use Rattle.std.proofs.Common.{◌≡◌, ◌≢◌, ℕ, zero, suc, ◌*◌, ◌^◌, ◌≤◌, ◌⊎◌, List, [], ◌∷◌, ◌++◌, length, refl, sym, ap, ◌∙◌, subst, inl, inr, length-append, arith}
 use Rattle.std.specs.List.{AllByRecursion}
 use Rattle.std.proofs.lemmas.Bool.{cases_lt, cases_eq}
@@ -51,7 +51,7 @@ HasNoSpace-digits (d ∷ ds) h = ((λ e. omega (arith, h.0)), HasNoSpace-digits 
 pub HasNoSpace-number : (digits : List ℕ) (n : ℕ) → IsNumber digits n → HasNoSpace digits
 HasNoSpace-number digits n h = HasNoSpace-digits digits h.decimal
 
--- bytes before the first space are told, and so is what follows
+-- the bytes before the first space are determined, and so is what follows
 pub space_one : (a b x y : List ℕ) → HasNoSpace a → HasNoSpace b → EndsNumber x → EndsNumber y → a ++ x ≡ b ++ y → (a ≡ b) × (x ≡ y)
 space_one [] [] x y clean clean' ends ends' whole = (refl, whole)
 space_one [] (c ∷ b) x y clean clean' (inl none) ends' whole = let e : [] ≡ c ∷ (b ++ y) = sym none ∙ whole in absurd (cc)
@@ -70,7 +70,7 @@ space_one (c ∷ a) (d ∷ b) x y clean clean' ends ends' whole =
     let same : a ≡ b = others.0 in
     ((cc), others.1)
 
--- bytes cut at the first space, which stays with what follows
+-- bytes split before the first space
 pub record CutAtSpace (bytes : List ℕ) : Type 0 where
   pub front : List ℕ
   pub back : List ℕ
@@ -93,7 +93,7 @@ pub AreSpelled-ends : (ns bytes : List ℕ) → AreSpelled ns bytes → EndsNumb
 AreSpelled-ends [] bytes h = inl h
 AreSpelled-ends (n ∷ ns) bytes h = inr (h.0 ++ h.1, h.4)
 
--- the first of some numbers, where it is known which bytes come before the next space
+-- the first of some numbers, if it is known which bytes are before the next space
 pub AreSpelled-first : (n : ℕ) (ns digits others bytes : List ℕ) → HasNoSpace digits → EndsNumber others → bytes ≡ 32 ∷ digits ++ others
     → AreSpelled (n ∷ ns) bytes → IsNumber digits n × AreSpelled ns others
 AreSpelled-first n ns digits others bytes clean ends whole h =

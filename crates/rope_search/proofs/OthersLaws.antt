@@ -14,7 +14,7 @@ use Rattle.rope_search.specs.Step.{Does}
 abbrev buffer_of : State → ℕ → BufferState
 buffer_of s k = slice_index_or s.buffers k (fresh [])
 
--- it is the same where nothing changes, and where the chosen one is replaced that is another
+-- it is the same if nothing changes, and if the chosen one is replaced and is another one
 same : (old new : State) (k : ℕ) → new ≡ old → buffer_of new k ≡ buffer_of old k
 same old new k is = ap (λ s. buffer_of s k) is
 

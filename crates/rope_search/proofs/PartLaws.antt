@@ -1,4 +1,4 @@
--- What stands between two positions of a text: whether anything does, and that it is one part.
+-- The text between two positions: whether there is such a part, and that it is unique.
 use Rattle.std.proofs.Common.{◌≡◌, ℕ, zero, suc, ◌+◌, ◌-◌, ◌<◌, ◌≤◌, ◌⊎◌, ◌↔◌, List, [], ◌∷◌, ◌++◌, true, length, take, take-append-drop, get_or, slice_index, drop, refl, sym, ap, ◌∙◌, subst, inl, inr, append_assoc, append-nil, length-append, arith}
 use Rattle.std.specs.Str.{IsCharBoundary, all_scalars}
 use Rattle.std.specs.Char.{len_utf8}
@@ -26,7 +26,7 @@ byte_len-append xs ys = ap length (encodes-append xs ys) ∙ length-append (byte
 byte_len-one : (c : ℕ) (cs : List ℕ) → byte_len (c ∷ cs) ≡ len_utf8 c + byte_len cs
 byte_len-one c cs = omega (arith, length-append (encode c) (bytes_of cs), length-encode c)
 
--- of two fronts of a text the one with no more bytes is a front of the other
+-- of two prefixes of a text the one with no more bytes is a prefix of the other
 pub front_within : (l r f b : List ℕ) → l ++ r ≡ f ++ b → byte_len l ≤ byte_len f → (mid : List ℕ) × (f ≡ l ++ mid)
 front_within [] r f b e low = (f, refl)
 front_within (c ∷ cs) r [] b e low = absurd (omega (arith, low, byte_len-one c cs, (len_utf8_bounds c).0))
@@ -40,7 +40,7 @@ no_bytes : (xs : List ℕ) → byte_len xs ≡ 0 → xs ≡ []
 no_bytes [] none = refl
 no_bytes (c ∷ cs) none = absurd (omega (arith, byte_len-one c cs, (len_utf8_bounds c).0))
 
--- two fronts with as many bytes are the same, and so is what follows
+-- two prefixes with equally many bytes are the same, and so is what follows
 pub fronts_one : (l r f b : List ℕ) → l ++ r ≡ f ++ b → byte_len l ≡ byte_len f → (l ≡ f) × (r ≡ b)
 fronts_one l r f b e same =
     let mid = front_within l r f b e (omega (arith, same)) in
@@ -66,7 +66,7 @@ scalars_behind zero text h = h
 scalars_behind (suc n) [] h = h
 scalars_behind (suc n) (c ∷ cs) h = scalars_behind n cs (and_parts _ _ h).1
 
--- ---- whether a position is at a place
+-- ---- whether a position has an offset
 
 boundary_choice : (bs : List ℕ) (i : ℕ) → IsCharBoundary bs i ⊎ (IsCharBoundary bs i → ⊥)
 boundary_choice bs i = elim (cases_lt (length bs) i) [
@@ -102,14 +102,14 @@ at_choice text line column place = elim (boundary_choice (bytes_of text) place) 
   ]
 ]
 
--- a front of the text at whose end the position is
+-- a prefix of the text that ends at the position
 pub record EndsAt (text : List ℕ) (line column : ℕ) : Type 0 where
   pub front : List ℕ
   pub back : List ℕ
   pub parts : text ≡ front ++ back
   pub at : IsAt text (line, column) (byte_len front)
 
--- there is one, or none that goes on from a front that is known
+-- there is one, or none that continues a known prefix
 ends_from : (text : List ℕ) (line column : ℕ) (done rest : List ℕ) → text ≡ done ++ rest
     → EndsAt text line column ⊎ ((x y : List ℕ) → rest ≡ x ++ y → IsAt text (line, column) (byte_len (done ++ x)) → ⊥)
 ends_from text line column done [] whole = elim (at_choice text line column (byte_len done)) [
@@ -141,7 +141,7 @@ ends_from text line column done (c ∷ rest) whole = elim (at_choice text line c
 pub ends_choice : (text : List ℕ) (line column : ℕ) → EndsAt text line column ⊎ ((x y : List ℕ) → text ≡ x ++ y → IsAt text (line, column) (byte_len x) → ⊥)
 ends_choice text line column = ends_from text line column [] text refl
 
--- ---- what stands between two positions
+-- ---- the text between two positions
 
 -- it is one part
 pub part_one : HasOnePlace → (text : List ℕ) (from to : Position) (a p z b q y : List ℕ) → IsBetween text from to a p z → IsBetween text from to b q y
@@ -192,7 +192,7 @@ between_choice one text from to = elim (cases_Bool (all_scalars text)) [
   ]
 ]
 
--- with so many bytes in its place the text gets too long, or not
+-- with this number of bytes in its place the text gets too long, or not
 pub long_choice : HasOnePlace → (limit : ℕ) (text : List ℕ) (from to : Position) (len : ℕ) (before part behind : List ℕ) → IsBetween text from to before part behind
     → GetsTooLong limit text from to len ⊎ (GetsTooLong limit text from to len → ⊥)
 long_choice one limit text from to len before part behind between = elim (cases_lt limit (byte_len before + len + byte_len behind)) [
@@ -224,9 +224,9 @@ pub IsEdit-by : (buffer : BufferState) (from to : Position) (inserted : List ℕ
 IsEdit-by buffer from to inserted (inl some) is = record { before = some.0; part = some.1; behind = some.2; between = some.3; changed = refl }
 IsEdit-by buffer from to inserted (inr none) is = absurd (is none)
 
--- ---- a part by its places
+-- ---- a part by its offsets
 
--- a place is where a position is, and so many characters and bytes stand before it
+-- the offset of a position, with the number of characters and bytes before it
 pub record StandsAt (text : List ℕ) (spot : Position) (place : Place) : Type 0 where
   pub at : IsAt text (spot.line, spot.column) place.byte_idx
   pub within : place.char_idx ≤ length text
@@ -235,7 +235,7 @@ pub record StandsAt (text : List ℕ) (spot : Position) (place : Place) : Type 0
 pub stands : (text : List ℕ) (spot : Position) (place : Place) → IsPlaceOf text (spot.line, spot.column) place → StandsAt text spot place
 stands text spot place is = record { at = is.at; within = is.within; bytes = is.bytes }
 
--- nothing is between two positions where one of them is nowhere
+-- there is nothing between two positions if one of them is nowhere
 pub none_between : (text : List ℕ) (from to : Position) → IsNowhere text (from.line, from.column) ⊎ IsNowhere text (to.line, to.column) → HasNoneBetween text from to
 none_between text from to (inl nowhere) before part behind h = nowhere (byte_len before) h.starts
 none_between text from to (inr nowhere) before part behind h = nowhere (byte_len (before ++ part)) h.ends
@@ -248,7 +248,7 @@ fewer_bytes (c ∷ cs) zero (suc n) less within = omega (arith, byte_len-one c (
 fewer_bytes (c ∷ cs) (suc m) (suc n) less within =
     omega (arith, byte_len-one c (take m cs), byte_len-one c (take n cs), fewer_bytes cs m n (omega arith) (omega arith))
 
--- a text up to a place, and from there to another
+-- a text up to an offset, and from there to another
 pub take_between : (xs : List ℕ) (m n : ℕ) → m ≤ n → take m xs ++ take (n - m) (drop m xs) ≡ take n xs
 take_between xs zero n low = ap (λ k. take k xs) (omega arith)
 take_between [] (suc m) n low = nothing (n - suc m) ∙ sym (nothing n)
@@ -261,7 +261,7 @@ take_between (x ∷ xs) (suc m) (suc n) low =
     let same : suc n - suc m ≡ n - m = omega arith in
     ap (λ k. x ∷ (take m xs ++ take k (drop m xs))) same ∙ ap (λ l. x ∷ l) (take_between xs m n (omega arith))
 
--- two places in order mark what stands between their positions
+-- two offsets in order mark the text between their positions
 pub marked_between : (text : List ℕ) (from to : Position) (part : Part) → IsText text → StandsAt text from part.start → StandsAt text to part.end
     → part.start.char_idx ≤ part.end.char_idx → IsMarkedBetween text from to part
 marked_between text from to part scalars start end ordered =
@@ -278,7 +278,7 @@ marked_between text from to part scalars start end ordered =
       };
     }
 
--- two places out of order mark nothing
+-- two offsets out of order mark nothing
 pub unmarked : HasOnePlace → (text : List ℕ) (from to : Position) (start end : Place) → StandsAt text from start → StandsAt text to end → end.char_idx < start.char_idx
     → HasNoneBetween text from to
 unmarked one text from to start end starts ends below before part behind h =
@@ -292,7 +292,7 @@ unmarked one text from to start end starts ends below before part behind h =
       byte_len-append before part,
     )
 
--- the bytes of a text with another one in a marked part's place
+-- the bytes of a text with another one in place of a marked part
 pub replaced_len : (text : List ℕ) (part : Part) (inserted : List ℕ) → IsMarked text part
     → byte_len (with_replaced text part inserted) + part.end.byte_idx ≡ byte_len text + byte_len inserted + part.start.byte_idx
 replaced_len text part inserted marked =
@@ -317,7 +317,7 @@ marked_within text part marked =
       omega (arith, marked.ends, byte_len-append (take part.end.char_idx text) (drop part.end.char_idx text), ap byte_len (take-append-drop part.end.char_idx text)),
     )
 
--- both its places are between characters
+-- both its offsets are at character boundaries
 pub boundary_at : (pieces : List (List ℕ)) (char place : ℕ) → IsCutting pieces → byte_len (take char (text_of pieces)) ≡ place → IsCharBoundary (bytes_of (text_of pieces)) place
 boundary_at pieces char place cut is =
     let text = text_of pieces in
@@ -327,7 +327,7 @@ boundary_at pieces char place cut is =
     let rest = scalars_behind char text (cutting_scalars pieces cut) in
     subst (IsCharBoundary (bytes_of text)) is (IsCharBoundary-at_seam (bytes_of text) front back spelled (drop char text, (rest, refl)))
 
--- the text in its place, by its bytes
+-- the resulting text, from its bytes
 pub replaced_there : (text new : List ℕ) (part : Part) (inserted : List ℕ) → IsMarked text part → IsReplaced text part.start.byte_idx part.end.byte_idx inserted new → new ≡ with_replaced text part inserted
 replaced_there text new part inserted marked h =
     let start = part.start.char_idx in
@@ -337,7 +337,7 @@ replaced_there text new part inserted marked h =
     let last = fronts_one (h.front ++ h.gone) h.back (take end text) (drop end text) (whole ∙ sym (take-append-drop end text)) (h.ends ∙ sym marked.ends) in
     h.new_is ∙ ap (λ l. l ++ inserted ++ h.back) first.0 ∙ ap (λ l. take start text ++ inserted ++ l) last.1
 
--- what the new text would have, by the part that is marked
+-- the length of the new text, from the marked part
 pub long_known : HasOnePlace → (limit : ℕ) (text : List ℕ) (from to : Position) (part : Part) (inserted : List ℕ) (len : ℕ) → IsMarkedBetween text from to part
     → byte_len inserted ≡ len → limit < byte_len (with_replaced text part inserted) ↔ GetsTooLong limit text from to len
 long_known one limit text from to part inserted len marked len_is =

@@ -1,4 +1,4 @@
--- The change that puts another text in the place of a part, and what patches bring.
+-- The change that replaces a part by another text, and the rows of patches.
 use Rattle.std.proofs.Common.{◌≡◌, ℕ, ◌+◌, ◌-◌, ◌≤◌, List, [], ◌∷◌, ◌++◌, length, take, drop, refl, sym, ap, ◌∙◌, take-append-drop, length-append, arith}
 use Rattle.std.proofs.lemmas.List.Sums.{sum_by-cons}
 use Rattle.str_indices.specs.Text.{byte_len}
@@ -49,7 +49,7 @@ made-within at rows (p ∷ ps) =
       length-append (take (p.first - at) (drop at rows)) p.made.items,
     )
 
--- they make a report grow by no more than they bring
+-- they make a report grow by at most the rows that they insert
 pub growth-made : (patches : List Patch) → growth_by patches ≤ made_by patches
 growth-made [] = omega arith
 growth-made (p ∷ ps) =

@@ -1,4 +1,4 @@
--- What is told of bytes that may be a pattern.
+-- The result for bytes that may be a pattern.
 use Rattle.std.proofs.Common.{◌≡◌, ◌↔◌, ◌≤◌, ◌<◌, ℕ, List, length, IsSome, refl, ap, subst, arith}
 use Rattle.std.specs.Prelude.{Option, None, Some}
 use Rattle.rope_search_reports.specs.Explaining.{Refusal, SpellsSome, Settings, default_settings}
@@ -8,11 +8,11 @@ use Rattle.rope_search.specs.Order.{SetPattern}
 use Rattle.rope_search.specs.Session.{State}
 use Rattle.rope_search.specs.Step.{Refuses}
 
--- a refusal is told exactly where a session refuses the bytes since they are no pattern
+-- a refusal is returned exactly if a session refuses the bytes because they are no pattern
 abbrev pub IsToldAlike : List ℕ → Option Refusal → Type 0
 IsToldAlike bytes found = (limit : ℕ) (session : State) → IsSome found ↔ Refuses limit session (SetPattern bytes) Pattern
 
--- so few bytes that they are judged, and what is told of their text
+-- few enough bytes to be checked, and the result for their text
 pub refused_alike : (text bytes : List ℕ) (settings : Settings) (found : Option Refusal) → text ≡ bytes → settings ≡ default_settings → length text ≤ pattern_limit
     → ((found ≡ None) ↔ SpellsSome text settings) → IsToldAlike bytes found
 refused_alike text bytes settings found is same short either =
@@ -22,6 +22,6 @@ refused_alike text bytes settings found is same short either =
     by None e limit session = (λ some. absurd (cc some), λ none. let spells = e.0 refl in absurd (none.1 spells.0 spells.1))
     by (Some refusal) e limit session = (λ some. (short, λ tree spells. let none : Some refusal ≡ None = e.1 (tree, spells) in cc), λ none. refl)
 
--- too many are refused otherwise
+-- too many are refused for another reason
 pub long_alike : (text bytes : List ℕ) → text ≡ bytes → pattern_limit < length text → IsToldAlike bytes None
 long_alike text bytes is long limit session = (λ some. absurd (cc some), λ none. absurd (omega (arith, long, ap length is, none.0)))

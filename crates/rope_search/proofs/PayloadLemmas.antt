@@ -1,15 +1,15 @@
--- What is kept of a payload, part after part.
+-- What is kept of a payload, part by part.
 use Rattle.std.proofs.Common.{◌↔◌, ℕ, ◌<◌, Bool, IsTrue, List, [], ◌++◌, length, IsUtf8, sym, subst, append_assoc, append-nil}
 use Rattle.rope_search_io.specs.Utf8Judge.{Judging, Continues}
 use Rattle.rope_search.specs.declared.payloads.Collected.{Collected}
 use Rattle.rope_search.specs.declared.payloads.Collected.TheVariants.{Judged}
 use Rattle.rope_search.specs.Requests.{Collects, CollectsMore}
 
--- nothing is judged yet
+-- nothing is checked yet
 pub Collects-judged : (limit len : ℕ) (judge : Judging) → limit < len → ((more : List ℕ) → Continues judge more ↔ IsUtf8 more) → Collects limit len (Judged judge) []
 Collects-judged limit len judge long fresh = (long, λ more. ((fresh more).1, (fresh more).0))
 
--- more bytes are judged
+-- more bytes are checked
 pub CollectsMore-judged : (old new : Judging) (bytes : List ℕ) → ((more : List ℕ) → Continues old (bytes ++ more) ↔ Continues new more)
     → CollectsMore (Judged old) (Judged new) bytes
 CollectsMore-judged old new bytes fed limit len before h = (
@@ -21,7 +21,7 @@ CollectsMore-judged old new bytes fed limit len before h = (
       ),
 )
 
--- all bytes were judged
+-- all bytes were checked
 pub judged_payload : (limit : ℕ) (bytes : List ℕ) (judge : Judging) (utf8 : Bool) → (IsTrue utf8 ↔ Continues judge [])
     → Collects limit (length bytes) (Judged judge) bytes → (limit < length bytes) × (IsTrue utf8 ↔ IsUtf8 bytes)
 judged_payload limit bytes judge utf8 told h =

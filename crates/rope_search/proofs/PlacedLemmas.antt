@@ -1,4 +1,4 @@
--- The groups of a match, told by columns of its line, in bytes of that line and of the text.
+-- The groups of a match, given by columns of its line, in bytes of that line and of the text.
 use Rattle.std.proofs.Common.{◌≡◌, ℕ, zero, suc, ◌+◌, ◌-◌, ◌<◌, ◌≤◌, ◌==◌, ◌&&◌, inl, inr, nat_le, List, [], ◌∷◌, ◌++◌, Option, None, Some, IfSome, All, length, map, take, drop, chars, slice_index_or, refl, ap, ap₂, sym, subst, ◌∙◌, arith, true, false}
 use Rattle.std.specs.Prelude.{max, option_map}
 use Rattle.std.specs.Str.{IsCharBoundary}
@@ -20,7 +20,7 @@ use Rattle.rope_search.specs.declared.encodings.Encoding.TheVariants.{Utf8, Utf1
 use Rattle.rope_search.proofs.ClampLemmas.{front-at}
 use Rattle.rope_search.proofs.FrontLemmas.{front_to-parts}
 
--- ---- the front up to a column is the longest one
+-- ---- the prefix up to a column is the longest one
 
 front_to-fits : (column : ℕ) (text : List ℕ) → units (front_to column text) ≤ column
 front_to-fits column [] = omega arith
@@ -33,7 +33,7 @@ front_to-fits column (c ∷ cs) = elim (cases_Bool (nat_le (units_of c) column))
   | inr over ↦ omega (arith, ap units (cond-false _ (c ∷ front_to (column - units_of c) cs) [] over))
 ]
 
--- no front with at most so many code units is longer
+-- no prefix with at most this number of code units is longer
 front_to-longest : (column : ℕ) (front back : List ℕ) → units front ≤ column → byte_len front ≤ byte_len (front_to column (front ++ back))
 front_to-longest column [] back low = omega arith
 front_to-longest column (c ∷ cs) back low =
@@ -43,7 +43,7 @@ front_to-longest column (c ∷ cs) back low =
     let front = ap byte_len (cond-true _ (c ∷ front_to (column - units_of c) (cs ++ back)) [] fits) in
     omega (arith, front, later, byte_len-one c cs, byte_len-one c (front_to (column - units_of c) (cs ++ back)))
 
--- so the longest one has as many bytes
+-- so the longest one has this number of bytes
 pub longest-is : (column : ℕ) (text front : List ℕ) → IsLongestFront Utf16 text column front → byte_len front ≡ column_as Utf8 text column
 longest-is column text front is =
     let split = front_to-parts column text in
@@ -51,7 +51,7 @@ longest-is column text front is =
     let high = subst (λ t. byte_len front ≤ byte_len (front_to column t)) (sym is.parts) (front_to-longest column front is.back is.fits) in
     omega (arith, low, high)
 
--- the byte behind so many characters
+-- the byte offset after this number of characters
 pub taken-bytes : (text : List ℕ) (k : ℕ) → k ≤ length text → end_place (char_ends text) k (byte_len text) ≡ byte_len (take k text)
 taken-bytes text k low =
     ap (λ n. end_place (char_ends text) n (byte_len text)) (sym (length-take-le k text low))
@@ -74,7 +74,7 @@ part-of-part (x ∷ xs) zero (suc n) (suc k) low = ap (λ l. x ∷ l) (part-of-p
 part-of-part (x ∷ xs) (suc a) n zero low = absurd (omega (arith, low))
 part-of-part (x ∷ xs) (suc a) n (suc k) low = part-of-part xs a n k (omega (arith, low))
 
--- ---- what a template stands for goes by the texts of groups
+-- ---- the expansion of a template depends only on the texts of groups
 
 pub expand-by : (content content' : List ℕ) (groups groups' : Groups) (template : List ℕ)
     → ((number : ℕ) → group_text content groups number ≡ group_text content' groups' number) → expand content groups template ≡ expand content' groups' template
@@ -96,7 +96,7 @@ get-map f [] number = refl
 get-map f (g ∷ gs) zero = refl
 get-map f (g ∷ gs) (suc n) = get-map f gs n
 
--- ---- places of a line in its text
+-- ---- offsets of a line in its text
 
 module _ (text : List ℕ) (line : ℕ) (scalars : IsText text) (inside : line < line_count text) where
   abbrev own : List ℕ
@@ -105,7 +105,7 @@ module _ (text : List ℕ) (line : ℕ) (scalars : IsText text) (inside : line <
   abbrev start : ℕ
   start = line_start text line
 
-  -- the place of a column is a boundary of the text, in the line
+  -- the offset of a column is a boundary of the text, in the line
   pub column-stands : (column : ℕ) → IsCharBoundary (bytes_of text) (start + column_as Utf8 own column)
   column-stands column =
       let split = front_to-parts column own in
@@ -128,7 +128,7 @@ module _ (text : List ℕ) (line : ℕ) (scalars : IsText text) (inside : line <
   pub placed-spans : (groups : Groups) → HasSpansIn (bytes_of text) (map (option_map (placed text line)) groups)
   placed-spans groups = All-map (λ group. IfSome group (IsSpanIn (bytes_of text))) (option_map (placed text line)) groups (λ k d low. placed-in (slice_index_or groups k d))
 
-  -- there stands what stands in the line
+  -- the text between them is that in the line
   same-between : (columns : ℕ × ℕ) → text_of_span (bytes_of text) (Some (placed text line columns)) ≡ text_of_span (bytes_of own) (Some (columns_as Utf8 own columns))
   same-between columns =
       let a = column_as Utf8 own columns.0 in

@@ -14,7 +14,7 @@ use Rattle.rope_search.proofs.PutLemmas.{Puts-nil, Puts-trans, Writes-put, Write
 bytes_of-piece : (piece : List ℕ) (pieces : List (List ℕ)) → bytes_of (text_of (piece ∷ pieces)) ≡ bytes_of piece ++ bytes_of (text_of pieces)
 bytes_of-piece piece pieces = encodes-append piece (text_of pieces)
 
--- of a text so many bytes went behind what waited, and these chunks of it are left
+-- this number of bytes of a text was appended to the buffered ones, and these chunks of it are left
 pub record PutSoFar (text : List ℕ) (left : List (List ℕ)) (old new : List ℕ) (sink sink' : SinkState) : Type 0 where
   pub done : List ℕ
   pub parts : bytes_of text ≡ done ++ bytes_of (text_of left)
@@ -28,7 +28,7 @@ next : (left after : List (List ℕ)) (chunk bytes : List ℕ) → left ≡ char
 next left after chunk bytes first utf8 is =
     ap (λ ps. bytes_of (text_of ps)) first ∙ bytes_of-piece (chars chunk) after ∙ ap (λ bs. bs ++ bytes_of (text_of after)) (encodes-chars chunk utf8 ∙ sym is)
 
--- a chunk more
+-- one more chunk
 pub PutSoFar-step : (text : List ℕ) (left after : List (List ℕ)) (old mid new chunk bytes : List ℕ) (a b c : SinkState) → PutSoFar text left old mid a b
     → left ≡ chars chunk ∷ after → IsUtf8 chunk → bytes ≡ chunk → Puts mid new b c bytes → PutSoFar text after old new a c
 PutSoFar-step text left after old mid new chunk bytes a b c sofar first utf8 is put = record {
@@ -44,7 +44,7 @@ WritesUntil-chunk broken text left after old mid chunk bytes a b c sofar first u
     subst (λ bs. WritesUntil broken a c (old ++ bs)) (sym (sofar.parts ∙ ap (λ bs. sofar.done ++ bs) (next left after chunk bytes first utf8 is)))
     (WritesUntil-put broken old mid sofar.done bytes (bytes_of (text_of after)) a b c sofar.put sent)
 
--- all chunks went behind what waited
+-- all chunks were appended to the buffered bytes
 pub PutSoFar-end : (text : List ℕ) (left : List (List ℕ)) (old new : List ℕ) (a b : SinkState) → PutSoFar text left old new a b → left ≡ []
     → Puts old new a b (bytes_of text)
 PutSoFar-end text left old new a b sofar none =
@@ -52,7 +52,8 @@ PutSoFar-end text left old new a b sofar none =
 
 -- ---- a text with its length
 
--- the line with the length went on its way, then the text, and then the LF behind it was written, or a front of all that
+-- the line with the length was put, then the text, and then the LF after it was written, or a
+-- prefix of all that
 pub Writes-text : (r : Result Unit Broken) (bytes head tail mid new : List ℕ) (a b c d : SinkState) → Puts [] mid a b head → Puts mid new b c bytes
     → head ++ (bytes ++ tail) ≡ shown_text bytes → MatchResult r (λ _. Writes c d (new ++ tail)) (λ broken. WritesUntil broken c d (new ++ tail))
     → MatchResult r (λ _. Writes a d (shown_text bytes)) (λ broken. WritesUntil broken a d (shown_text bytes))

@@ -1,4 +1,4 @@
--- Bytes that were put behind those that wait, and what was written after them.
+-- Bytes that were appended to the buffered ones, and what was written after them.
 use Rattle.std.proofs.Common.{◌≡◌, ℕ, List, [], ◌++◌, ap, sym, subst, ◌∙◌, append_assoc, append-nil, refl, arith}
 use Rattle.std.proofs.KnownBytes.{Appends-trans, Appends-nil}
 use Rattle.rope_search_io.specs.Sources.{SinkState}
@@ -28,15 +28,16 @@ Puts-trans old mid new a b c xs ys p q = record {
   written = Writes-trans a b c p.sent q.sent p.written q.written;
 }
 
--- all that was put and then sent, after what waited at first
+-- everything that was appended and then sent, after what was buffered at first
 whole : (old mid xs ys : List ℕ) (a b : SinkState) → (p : Puts old mid a b xs) → p.sent ++ (mid ++ ys) ≡ old ++ (xs ++ ys)
 whole old mid xs ys a b p = sym (append_assoc p.sent mid ys) ∙ ap (λ l. l ++ ys) (sym p.split) ∙ append_assoc old xs ys
 
--- some bytes were put, and then all that waits and more was written
+-- some bytes were appended, and then everything buffered and more was written
 pub Writes-put : (old mid xs ys : List ℕ) (a b c : SinkState) → Puts old mid a b xs → Writes b c (mid ++ ys) → Writes a c (old ++ (xs ++ ys))
 Writes-put old mid xs ys a b c p q = subst (Writes a c) (whole old mid xs ys a b p) (Writes-trans a b c p.sent (mid ++ ys) p.written q)
 
--- some bytes were put, and then a front of what waits was written; nothing of what was to follow is
+-- some bytes were appended, and then a prefix of the buffered ones was written, and nothing of what
+-- follows
 pub WritesUntil-put : (broken : Broken) (old mid xs ys rest : List ℕ) (a b c : SinkState) → Puts old mid a b xs → WritesUntil broken b c (mid ++ ys)
     → WritesUntil broken a c (old ++ (xs ++ (ys ++ rest)))
 WritesUntil-put Write old mid xs ys rest a b c p q = record {

@@ -1,4 +1,4 @@
--- Each input is read in exactly one way: as these commands, and then this ending.
+-- Each input is read in exactly one way: as these commands, followed by this ending.
 use Rattle.std.proofs.Common.{◌≡◌, ◌≢◌, ℕ, zero, suc, ◌<◌, ◌≤◌, ◌⊎◌, List, [], ◌∷◌, ◌++◌, length, take, drop, refl, sym, ap, ◌∙◌, subst, inl, inr, append_assoc, append-nil, length-append, take-append-drop, codes, arith}
 use Rattle.std.proofs.Math.Seq.{take-append_seam, drop-append_seam}
 use Rattle.std.proofs.lemmas.Bool.{cases_lt, cases_eq}
@@ -9,7 +9,7 @@ use Rattle.rope_search.specs.Order.{Order, SetText, EditText, SetPattern, Replac
 use Rattle.rope_search.specs.Reads.{IsWorded, payload_of, IsLine, SpellsOrder, SpellAll, HasNoLf, Ends, Reads}
 use Rattle.rope_search.proofs.LineLaws.{line_choice, IsLine-one, IsLine-same, HasNoLf-line, length-line_le}
 
--- ---- cutting at the first LF
+-- ---- splitting at the first LF
 
 -- two lines before the first LF are the same, and so is what follows
 pub cut_one : (a b x y : List ℕ) → HasNoLf a → HasNoLf b → a ++ 10 ∷ x ≡ b ++ 10 ∷ y → (a ≡ b) × (x ≡ y)
@@ -22,18 +22,18 @@ cut_one (c ∷ a) (d ∷ b) x y clean clean' whole =
     let same : a ≡ b = others.0 in
     ((cc), others.1)
 
--- where a line is longer than what stands before an LF, the line has that LF
+-- if a line is longer than the text before an LF, the line contains that LF
 pub cut_short : (a b x y : List ℕ) → HasNoLf b → length a < length b → a ++ 10 ∷ x ≡ b ++ y → ⊥
 cut_short a [] x y clean longer whole = omega arith
 cut_short [] (d ∷ b) x y clean longer whole = let head : d ≡ 10 = cc in clean.0 head
 cut_short (c ∷ a) (d ∷ b) x y clean longer whole = let tails : a ++ 10 ∷ x ≡ b ++ y = cc in cut_short a b x y clean.1 (omega arith) tails
 
--- where there is no LF, none was cut at
+-- without an LF there is no split
 pub cut_none : (a b x : List ℕ) → HasNoLf b → b ≡ a ++ 10 ∷ x → ⊥
 cut_none a b x clean whole =
     cut_short a b x [] clean (omega (arith, ap length whole, length-append a (10 ∷ x))) (sym whole ∙ sym (append-nil b))
 
--- two fronts of one length are the same, and so is what follows
+-- two prefixes of one length are the same, and so is what follows
 pub fronts_same : (a b x y : List ℕ) → length a ≡ length b → a ++ x ≡ b ++ y → (a ≡ b) × (x ≡ y)
 fronts_same a b x y same whole = (
   sym (take-append_seam a x) ∙ ap (take (length a)) whole ∙ ap (λ n. take n (b ++ y)) same ∙ take-append_seam b y,
@@ -42,7 +42,7 @@ fronts_same a b x y same whole = (
 
 -- ---- the first line of some bytes
 
--- bytes begin with a line and its LF, where the line has fewer than n bytes
+-- bytes begin with a line and its LF, and the line has fewer than `n` bytes
 pub record BeginsWithLine (n : ℕ) (bytes : List ℕ) : Type 0 where
   pub line : List ℕ
   pub more : List ℕ
@@ -50,7 +50,7 @@ pub record BeginsWithLine (n : ℕ) (bytes : List ℕ) : Type 0 where
   pub short : length line < n
   pub whole : bytes ≡ line ++ 10 ∷ more
 
--- bytes begin with n that are no LF
+-- bytes begin with `n` bytes without an LF
 pub record BeginsWithout (n : ℕ) (bytes : List ℕ) : Type 0 where
   pub line : List ℕ
   pub more : List ℕ
@@ -58,12 +58,12 @@ pub record BeginsWithout (n : ℕ) (bytes : List ℕ) : Type 0 where
   pub long : length line ≡ n
   pub whole : bytes ≡ line ++ more
 
--- bytes are fewer than n, and none is an LF
+-- there are fewer than `n` bytes, and none is an LF
 pub record IsWithout (n : ℕ) (bytes : List ℕ) : Type 0 where
   pub no_lf : HasNoLf bytes
   pub short : length bytes < n
 
--- among its first n bytes an input has a first LF, or it has none
+-- an input has a first LF among its first `n` bytes, or none
 pub cut_choice : (n : ℕ) (bytes : List ℕ) → BeginsWithLine n bytes ⊎ BeginsWithout n bytes ⊎ IsWithout n bytes
 cut_choice zero bytes = inr (inl (record { line = []; more = bytes; no_lf = tt; long = refl; whole = refl }))
 cut_choice (suc n) [] = inr (inr (record { no_lf = tt; short = omega arith }))
@@ -82,11 +82,11 @@ cut_choice (suc n) (b ∷ bytes) = elim (cases_eq b 10) [
 pub Spells-some : (o : Order) (bytes : List ℕ) → SpellsOrder o bytes → 0 < length bytes
 Spells-some o bytes spells = omega (arith, ap length spells.whole, length-append spells.line (10 ∷ payload_of o))
 
--- a command's line, and what follows it
+-- a command's line, and the bytes after it
 pub Spells-line : (o : Order) (front back : List ℕ) → (spells : SpellsOrder o front) → front ++ back ≡ spells.line ++ 10 ∷ (payload_of o ++ back)
 Spells-line o front back spells = ap (λ l. l ++ back) spells.whole ∙ append_assoc spells.line (10 ∷ payload_of o) back
 
--- the command at the front of an input is one, and so is what follows it
+-- the command at the start of an input is unique, and so is what follows it
 pub Spells-one : (o p : Order) (a b x y : List ℕ) → SpellsOrder o a → SpellsOrder p b → a ++ x ≡ b ++ y → (o ≡ p) × (x ≡ y)
 Spells-one o p a b x y one other whole =
     let cut = cut_one one.line other.line (payload_of o ++ x) (payload_of p ++ y) (HasNoLf-line o one.line one.is_line) (HasNoLf-line p other.line other.is_line)
@@ -95,7 +95,7 @@ Spells-one o p a b x y one other whole =
     let parts = fronts_same (payload_of o) (payload_of p) x y (IsLine-one o p one.line one.is_line is_line) cut.1 in
     (IsLine-same o p one.line one.is_line is_line parts.0, parts.1)
 
--- a command whose line this is, with that many of these bytes for its payload
+-- a command with this line, with that many of these bytes as its payload
 pub line_with : (o : Order) (line more : List ℕ) → IsLine o line → length (payload_of o) ≤ length more
     → (p : Order) × IsLine p line × (payload_of p ≡ take (length (payload_of o)) more)
 line_with (SetText payload) line more is_line enough =
@@ -113,7 +113,7 @@ line_with o line more is_line enough = (o, is_line, refl)
 
 -- ---- endings
 
--- where a command is spelled at the front, no ending is
+-- if a command is spelled at the start, no ending is
 pub Spells-Ends : (o : Order) (front back : List ℕ) (e : Ended) → SpellsOrder o front → Ends (front ++ back) e → ⊥
 Spells-Ends o front back Input spells ends = omega (arith, Spells-some o front spells, ap length ends, length-append front back)
 Spells-Ends o front back Command spells (inl bad) =
@@ -128,7 +128,7 @@ Spells-Ends o front back Cut spells (inr part) =
     (sym (Spells-line o front back spells) ∙ part.whole) in
     omega (arith, part.short, ap length cut.1, length-append (payload_of o) back, IsLine-one o part.order spells.line spells.is_line (subst (IsLine part.order) (sym cut.0) part.is_line))
 
--- a line that is no command's is no part of an input that was cut off
+-- a line that is no command's is no part of an incomplete input
 pub bad_or_cut : (rest : List ℕ) → Ends rest Command → Ends rest Cut → ⊥
 bad_or_cut rest (inl bad) (inl part) = cut_none bad.line rest bad.more part.no_lf bad.whole
 bad_or_cut rest (inl bad) (inr part) =
@@ -138,7 +138,7 @@ bad_or_cut rest (inr long) (inl part) = omega (arith, part.short, long.long, ap 
 bad_or_cut rest (inr long) (inr part) =
     cut_short part.line long.line part.part long.more long.no_lf (omega (arith, length-line_le part.order part.line part.is_line, long.long)) (sym part.whole ∙ long.whole)
 
--- an ending other than the input's has some bytes
+-- an ending other than the end of input has some bytes
 pub Ends-some : (rest : List ℕ) (e : Ended) → e ≢ Input → Ends rest e → 0 < length rest
 Ends-some rest Input other ends = absurd (other refl)
 Ends-some rest Command other (inl bad) = omega (arith, ap length bad.whole, length-append bad.line (10 ∷ bad.more))
@@ -146,7 +146,7 @@ Ends-some rest Command other (inr long) = omega (arith, long.long, ap length lon
 Ends-some rest Cut other (inl part) = part.some
 Ends-some rest Cut other (inr part) = omega (arith, ap length part.whole, length-append part.line (10 ∷ part.part))
 
--- a rest ends in one way
+-- a rest has one ending
 pub Ends-one : (rest : List ℕ) (e f : Ended) → Ends rest e → Ends rest f → e ≡ f
 Ends-one rest Input Input one other = refl
 Ends-one rest Command Command one other = refl
@@ -158,7 +158,7 @@ Ends-one rest e Input one other = absurd (omega (arith, ap length other, Ends-so
 
 -- ---- whole inputs
 
--- what comes next in an input: a command
+-- an input that begins with a command
 pub record NextCommand (input : List ℕ) : Type 0 where
   pub order : Order
   pub front : List ℕ
@@ -192,7 +192,7 @@ next_choice (b ∷ bytes) = elim (cut_choice 129 (b ∷ bytes)) [
   ]
 ]
 
--- an input that begins with a command is read as that one and then as what follows it is
+-- an input that begins with a command is read as that command followed by the reading of the rest
 pub Reads-cons : (o : Order) (os : List Order) (e : Ended) (front back : List ℕ) → SpellsOrder o front → Reads back os e → Reads (front ++ back) (o ∷ os) e
 Reads-cons o os e front back spells reads = record {
   spelled = front ++ reads.spelled;
@@ -223,7 +223,7 @@ reads_within (suc n) input few = elim (next_choice input) [
 pub reads_exist : (input : List ℕ) → (os : List Order) × (e : Ended) × Reads input os e
 reads_exist input = reads_within (length input) input (omega arith)
 
--- commands that are spelled and then end are read in one way
+-- commands that are spelled, followed by an ending, are read in one way
 pub reads_apart : (os ps : List Order) (e f : Ended) (xs ys rest rest' : List ℕ) → SpellAll os xs → SpellAll ps ys → Ends rest e → Ends rest' f → xs ++ rest ≡ ys ++ rest'
     → (os ≡ ps) × (e ≡ f)
 reads_apart [] [] e f xs ys rest rest' none none' ends ends' whole =

@@ -1,4 +1,4 @@
--- Why a command is refused for some first reason, and when it is accepted.
+-- The first reason to refuse a command, and when it is accepted.
 use Rattle.std.proofs.Common.{◌≡◌, ◌≢◌, ℕ, ◌<◌, ◌≤◌, ◌⊎◌, List, true, false, length, sym, ◌∙◌, inl, inr, IsUtf8, arith}
 use Rattle.std.specs.Prelude.{None, chars}
 use Rattle.std.specs.Str.{is_utf8}
@@ -22,7 +22,7 @@ utf8_choice bytes = elim (cases_Bool (is_utf8 bytes)) [
 
 -- ---- refusals
 
--- want of memory is no refusal
+-- out of memory is no refusal
 pub Refuses-memory : (limit : ℕ) (s : State) (o : Order) → Refuses limit s o Memory → ⊥
 Refuses-memory limit s (SetText payload) h = h
 Refuses-memory limit s (EditText from to payload) h = h
@@ -37,7 +37,7 @@ Refuses-memory limit s (FindNext from) h = h
 Refuses-memory limit s (ReplaceAll payload) h = h
 Refuses-memory limit s (UseBuffer k) h = h
 
--- a payload that isn't UTF-8 is refused for that first
+-- a payload that isn't UTF-8 is first refused for that
 pub refused_utf8 : (limit : ℕ) (s : State) (payload : List ℕ) → ¬ (IsUtf8 payload) → IsFirstRefusal limit s (SetText payload) Utf8
 refused_utf8 limit s payload broken = record { refuses = broken; none_before = before }
   where
@@ -46,7 +46,7 @@ refused_utf8 limit s payload broken = record { refuses = broken; none_before = b
     before Range lower h = h
     before other lower h = omega arith
 
--- a text that is too long is refused for that first
+-- a text that is too long is first refused for that
 pub refused_size : (limit : ℕ) (s : State) (payload : List ℕ) → IsUtf8 payload → limit < length payload → IsFirstRefusal limit s (SetText payload) Size
 refused_size limit s payload text long = record { refuses = long; none_before = before }
   where
@@ -58,7 +58,7 @@ refused_size limit s payload text long = record { refuses = long; none_before = 
     before Limit lower h = h
     before other lower h = omega arith
 
--- no refusal is told before that there is nothing
+-- no refusal is reported before `Nothing`
 pub rank_some : (fault : Fault) → rank_of fault < 1 → ⊥
 rank_some Nothing lower = omega arith
 rank_some Range lower = omega arith
@@ -68,7 +68,7 @@ rank_some Limit lower = omega arith
 rank_some Size lower = omega arith
 rank_some Memory lower = omega arith
 
--- a buffer that isn't there can't be chosen
+-- a buffer that doesn't exist can't be chosen
 pub refused_nothing : (limit : ℕ) (s : State) (k : ℕ) → length s.buffers ≤ k → IsFirstRefusal limit s (UseBuffer k) Nothing
 refused_nothing limit s k past = record { refuses = past; none_before = before }
   where
@@ -82,7 +82,7 @@ refused_list limit s none = record { refuses = none; none_before = before }
     before : (other : Fault) → rank_of other < 1 → Refuses limit s ListMatches other → ⊥
     before other lower h = rank_some other lower
 
--- a pattern's payload that isn't UTF-8 is refused for that first
+-- a pattern's payload that isn't UTF-8 is first refused for that
 pub refused_pattern_utf8 : (limit : ℕ) (s : State) (payload : List ℕ) → ¬ (IsUtf8 payload) → IsFirstRefusal limit s (SetPattern payload) Utf8
 refused_pattern_utf8 limit s payload broken = record { refuses = broken; none_before = before }
   where
@@ -91,7 +91,7 @@ refused_pattern_utf8 limit s payload broken = record { refuses = broken; none_be
     before Range lower h = h
     before other lower h = omega arith
 
--- a text that is no pattern is refused for that first
+-- a text that is no pattern is first refused for that
 pub refused_pattern : (limit : ℕ) (s : State) (payload : List ℕ) → IsUtf8 payload → length payload ≤ pattern_limit → SpellsNone (chars payload)
     → IsFirstRefusal limit s (SetPattern payload) Pattern
 refused_pattern limit s payload text short none = record { refuses = (short, none); none_before = before }
@@ -102,7 +102,7 @@ refused_pattern limit s payload text short none = record { refuses = (short, non
     before Utf8 lower h = h text
     before other lower h = omega arith
 
--- a pattern that is too long or too heavy is refused for that first
+-- a pattern that is too long or too heavy is first refused for that
 pub refused_limit : IsOneOfThree → (limit : ℕ) (s : State) (payload : List ℕ) → IsUtf8 payload → (pattern_limit < length payload) ⊎ IsTooHeavy (chars payload)
     → IsFirstRefusal limit s (SetPattern payload) Limit
 refused_limit apart limit s payload text much = record { refuses = much; none_before = before }
@@ -134,7 +134,7 @@ accepted_print limit s fault h = h
 pub accepted_fork : (limit : ℕ) (s : State) → Accepts limit s ForkBuffer
 accepted_fork limit s fault h = h
 
--- a buffer that is there can be chosen
+-- a buffer that exists can be chosen
 pub accepted_use : (limit : ℕ) (s : State) (k : ℕ) → k < length s.buffers → Accepts limit s (UseBuffer k)
 accepted_use limit s k inside Nothing h = omega arith
 accepted_use limit s k inside Range h = h
@@ -144,7 +144,7 @@ accepted_use limit s k inside Limit h = h
 accepted_use limit s k inside Size h = h
 accepted_use limit s k inside Memory h = h
 
--- a pattern of at most so many bytes is accepted
+-- a pattern within the limit is accepted
 pub accepted_pattern : IsOneOfThree → (limit : ℕ) (s : State) (payload : List ℕ) → IsUtf8 payload → length payload ≤ pattern_limit → IsPattern (chars payload)
     → Accepts limit s (SetPattern payload)
 accepted_pattern apart limit s payload text short is Nothing h = h
@@ -159,7 +159,7 @@ accepted_pattern apart limit s payload text short is Memory h = h
 pub accepted_off : (limit : ℕ) (s : State) → Accepts limit s DropPattern
 accepted_off limit s fault h = h
 
--- where there is a pattern its report can be listed
+-- if there is a pattern its report can be listed
 pub accepted_list : (limit : ℕ) (s : State) → (chosen_buffer s).pattern ≢ None → Accepts limit s ListMatches
 accepted_list limit s some Nothing h = some h
 accepted_list limit s some Range h = h

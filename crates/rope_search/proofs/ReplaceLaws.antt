@@ -1,4 +1,4 @@
--- What `replace` leaves of a text.
+-- The effect of `replace` on a text.
 use Rattle.std.proofs.Common.{◌≡◌, ℕ, zero, suc, ◌+◌, ◌≤◌, List, [], ◌∷◌, ◌++◌, length, take, slice_index_or, chars, refl, sym, ap, ◌∙◌, subst, arith}
 use Rattle.rope_search_reports.specs.Changes.{AreChanges}
 use Rattle.rope_search_reports.specs.Laws.{GroupsFollowEachOther}
@@ -11,7 +11,7 @@ use Rattle.rope_search.proofs.HistoryLaws.{chosen_set}
 use Rattle.rope_search.proofs.HoldLaws.{chosen_holds, text_holds}
 use Rattle.rope_search.proofs.StepLaws.{Encodes-chars}
 
--- the text behind those that stay
+-- the text after those that stay
 last_text : (texts : List (List ℕ)) (n : ℕ) (text : List ℕ) → n ≤ length texts → slice_index_or (take n texts ++ text ∷ []) n [] ≡ text
 last_text [] zero text within = refl
 last_text [] (suc n) text within = absurd (omega arith)

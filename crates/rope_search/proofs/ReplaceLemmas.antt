@@ -17,7 +17,7 @@ use Rattle.rope_search.proofs.SessionLemmas.{Chosen, Chosen-state, Chosen-limit,
 use Rattle.rope_search.proofs.StepLaws.{accepted_replace, refused_replace, refused_replace_utf8, refused_replace_size}
 use Rattle.rope_search.proofs.TextLemmas.{Encodes-chars}
 
--- what is so of each payload is so of each command
+-- what holds of each payload holds of each command
 pub rows_for_replace : (limit : ℕ) (s : State) (payload : Payload) (count before : ℕ)
     → ((bytes : List ℕ) (cost : ℕ) → StandsFor limit payload bytes → Costs limit s (ReplaceAll bytes) cost → count ≤ before + cost)
     → (order : Order) (cost : ℕ) → Stands limit (Replace payload) order → Costs limit s order cost → count ≤ before + cost
@@ -29,7 +29,7 @@ pub wholes_for_replace : (limit : ℕ) (payload : Payload) (wholes before : ℕ)
 wholes_for_replace limit payload wholes before one (ReplaceAll bytes) stands = one
 wholes_for_replace limit payload wholes before one order stands = absurd stands
 
--- a text is too long for the session where it is for the chosen buffer
+-- a text is too long for the session if it is for the chosen buffer
 long_here : (items : List LimitedBuffer) (k limit : ℕ) (old : LimitedBuffer) (s : LimitedSession) (template : List ℕ) → Chosen items k limit old s
     → GetsTooLongWith s.limit (chosen_buffer s.state) template → GetsTooLongWith old.limit old.state template
 long_here items k limit old s template c long =
@@ -42,7 +42,7 @@ long_there items k limit old s template c long =
     subst (λ n. GetsTooLongWith n (chosen_buffer s.state) template) (Chosen-limit items k limit old s c)
     (subst (λ b. GetsTooLongWith old.limit b template) (sym (Chosen-state items k limit old s c)) long)
 
--- the chosen buffer has a pattern where the session's has one
+-- the chosen buffer has a pattern if the session's has one
 some_there : (items : List LimitedBuffer) (k limit : ℕ) (old : LimitedBuffer) (s : LimitedSession) → Chosen items k limit old s
     → old.state.pattern ≢ None → (chosen_buffer s.state).pattern ≢ None
 some_there items k limit old s c some none = some (sym (ap (λ (b : BufferState). b.pattern) (Chosen-state items k limit old s c)) ∙ none)
@@ -81,7 +81,7 @@ Step-replace_err items k limit old new bytes s fault c same utf8 which none some
         (refused_replace_size s.limit s.state bytes (some_there items k limit old s c (some e)) utf8 (there (long e)), refl)
     told (inr (inr e)) = subst (λ f. Step s.limit s.state (ReplaceAll bytes) (Err f) s.state) (sym e) (tt, refl)
 
--- a template that isn't UTF-8, or is longer than the limit, is refused for that, but where there is no
+-- a template that isn't UTF-8, or is longer than the limit, is refused for that, unless there is no
 -- pattern
 pub Step-replace_utf8 : (old : LimitedBuffer) (bytes : List ℕ) (s : LimitedSession) (told : Fault) → old.state ≡ chosen_buffer s.state
     → MatchOption old.state.pattern (told ≡ Nothing) (λ pattern. told ≡ Utf8) → ¬ (IsUtf8 bytes) → Step s.limit s.state (ReplaceAll bytes) (Err told) s.state

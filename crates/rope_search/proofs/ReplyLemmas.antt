@@ -9,14 +9,14 @@ use Rattle.rope_search_reports.specs.Report.{IsReport}
 use Rattle.rope_search.specs.Session.{State, BufferState, current_text, chosen_buffer, IsReportIn}
 use Rattle.rope_search.specs.Shows.{IsShown, shown_report}
 
--- the rows that a buffer tells, or none
+-- the rows that a buffer returns, or none
 pub listed_or : (buffer : BufferState) (told : Option (Bor (List (List (ℕ × ℕ))))) (other : Bor (List (List (ℕ × ℕ)))) → IfSome told (λ rows. IsReportIn buffer rows.now)
     → (told ≡ None → buffer.pattern ≡ None) → other.now ≡ [] → IsReportIn buffer (unwrap_or told other).now
 listed_or buffer (Some rows) other report none empty = report
 listed_or buffer None other report none empty =
     subst (λ (p : Option (List ℕ)). MatchOption p (other.now ≡ []) (λ pattern. IsReport (current_text buffer) pattern other.now)) (sym (none refl)) empty
 
--- where they were written, the answer was
+-- if they were written, the answer was
 pub IsShown-list : (s : State) (rows : List (List (ℕ × ℕ))) (r : Result Unit Broken) (a b : SinkState) → IsReportIn (chosen_buffer s) rows
     → MatchResult r (λ _. Writes a b (shown_report rows)) (λ broken. WritesUntil broken a b (shown_report rows))
     → MatchResult r (λ _. IsShown s (Ok Listing) (Writes a b)) (λ broken. IsShown s (Ok Listing) (WritesUntil broken a b))

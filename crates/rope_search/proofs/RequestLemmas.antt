@@ -16,7 +16,7 @@ use Rattle.rope_search.specs.Reads.{IsLine, payload_of}
 use Rattle.rope_search.specs.Requests.{Collects, TakesCollected, TakesRestOf, TakesPartOf, TakesRest, TakesRequest}
 use Rattle.rope_search.proofs.TakesLemmas.{Takes-trans, TakesLast-after, TakesUntil-after}
 
--- this many bytes are the payload of each command with this header
+-- the payload of each command with this header has this number of bytes
 abbrev pub HasPayload : CommandOf ℕ → ℕ → Type 0
 HasPayload header len = (order : Order) → IsHeaderOf header order → length (payload_of order) ≡ len
 
@@ -24,7 +24,7 @@ no_bytes : (bytes : List ℕ) → length bytes ≡ 0 → [] ≡ bytes
 no_bytes [] none = refl
 no_bytes (b ∷ bytes) none = absurd (omega arith)
 
--- and of one of them, whichever bytes they are
+-- and these are the payload of one of them, whatever the bytes
 pub order_for : (header : CommandOf ℕ) (len : ℕ) (bytes : List ℕ) → HasPayload header len → length bytes ≡ len
     → (order : Order) × IsHeaderOf header order × (payload_of order ≡ bytes)
 order_for (SetText n) len bytes has is = (SetText bytes, is ∙ sym (has (SetText (replicate n 0)) (length-replicate n 0)) ∙ length-replicate n 0, refl)

@@ -1,4 +1,4 @@
--- How a run ends, by the turns before and what came after them.
+-- How a run ends, from the turns before and what came after them.
 use Rattle.std.proofs.Common.{◌≡◌, ◌≢◌, ℕ, ◌+◌, List, [], ◌∷◌, ◌++◌, Option, None, Some, IfSome, Result, Ok, Err, refl, sym, ap, ◌∙◌, subst, inl, inr, append_assoc, append-nil, arith}
 use Rattle.std.proofs.KnownBytes.{Appends-trans, Consumes-trans}
 use Rattle.std.specs.Io.KnownBytes.{Appends, Consumes, prepend_known, IsAtEnd}
@@ -24,7 +24,7 @@ use Rattle.rope_search.proofs.ExistLaws.{run_exists}
 use Rattle.rope_search.proofs.TextLaws.{holds_always}
 use Rattle.rope_search.proofs.ReadLaws.{reads_exist}
 
--- what was read from the source: the bytes that were taken, and those that are still in the buffer
+-- what was read from the source: the bytes that were taken, and those that are still buffered
 pub consumed_all : (left left' : Option (List ℕ)) (bytes back : List ℕ) → Consumes (prepend_known [] left) (prepend_known back left') bytes → Consumes left left' (bytes ++ back)
 consumed_all None left' bytes back p = tt
 consumed_all (Some xs) None bytes back p = absurd p
@@ -32,7 +32,7 @@ consumed_all (Some xs) (Some ys) bytes back p = p ∙ sym (append_assoc bytes ba
 
 -- ---- the input ended
 
--- the bytes after the last command, and what they tell of the ending
+-- the bytes after the last command, and the ending that they mean
 record Left (ending : Ended) (source : SourceState) (mid new : Scene) : Type 0 where
   rest : List ℕ
   ends : Ends (rest ++ new.buffer.bytes) ending
@@ -71,7 +71,7 @@ left_by limit Cut source sink ticks mid new so end = record {
   told = (end.taken.told ∙ ap (λ n. n + 1) so.taken.open_end, end.taken.at_end);
 }
 
--- all bytes that were read are the commands so far and what is left
+-- all bytes that were read are the commands so far and the rest
 reads_left : (limit : ℕ) (ending : Ended) (source : SourceState) (sink : SinkState) (ticks : Ticks) (mid new : Scene)
     (so : SoFar limit (start source sink ticks) mid) (left : Left ending source mid new) → Reads ((so.bytes ++ left.rest) ++ new.buffer.bytes) so.orders ending
 reads_left limit ending source sink ticks mid new so left = record {
@@ -249,12 +249,13 @@ Ran-broken known reported limit Memory source sink ticks mid new so turn = absur
 
 -- ---- the whole input
 
--- an answer, and that no more was searched than its commands may
+-- an answer, with at most the searches of its commands
 record AnswersWithin (limit : ℕ) (input : List ℕ) (ending : Ended) (output : List ℕ) (cost : ℕ) (ticks ticks' : Ticks) : Type 0 where
   answers : Answers limit input ending output cost
   searches : SearchesWithin answers.orders cost ticks ticks'
 
--- an answer to what was read is one to the whole input: the rest is empty, or follows a line that is no command
+-- an answer to what was read is one to the whole input: the rest is empty, or follows a line that
+-- is no command
 whole_input : (limit : ℕ) (whole input rest output : List ℕ) (ending : Ended) (cost : ℕ) (ticks ticks' : Ticks) → (ending ≢ Command → rest ≡ [])
     → whole ≡ input ++ rest → AnswersWithin limit input ending output cost ticks ticks' → AnswersWithin limit whole ending output cost ticks ticks'
 whole_input limit whole input rest output Command cost ticks ticks' end split h =
@@ -274,7 +275,7 @@ whole_input limit whole input rest output Input cost ticks ticks' end split h =
 whole_input limit whole input rest output Cut cost ticks ticks' end split h =
     subst (λ l. AnswersWithin limit l Cut output cost ticks ticks') (sym (split ∙ ap (λ l. input ++ l) (end (λ e. cc)) ∙ append-nil input)) h
 
--- where a read told the end, nothing is left
+-- if a read reported the end, nothing is left
 none_left : (ending : Ended) (source source' : SourceState) → TellsEnd ending source source' → ending ≢ Command → IsAtEnd source'.left
 none_left Command source source' told other = absurd (other refl)
 none_left Input source source' told other = told.1

@@ -25,7 +25,7 @@ SpellAll-append (o ∷ os) ps xs ys before after = record {
 pub SpellAll-one : (o : Order) (xs : List ℕ) → SpellsOrder o xs → SpellAll (o ∷ []) xs
 SpellAll-one o xs spells = record { front = xs; back = []; first = spells; others = refl; whole = sym (append-nil xs) }
 
--- what is read behind some commands is read after them
+-- what is read after some commands follows them
 pub Reads-after : (os ps : List Order) (ending : Ended) (bytes input : List ℕ) → SpellAll os bytes → Reads input ps ending → Reads (bytes ++ input) (os ++ ps) ending
 Reads-after os ps ending bytes input before after = record {
   spelled = bytes ++ after.spelled;
@@ -35,7 +35,7 @@ Reads-after os ps ending bytes input before after = record {
   whole = ap (λ l. bytes ++ l) after.whole ∙ sym (append_assoc bytes after.spelled after.rest);
 }
 
--- a run with its output and its cost written otherwise
+-- a run with its output and its cost in another form
 pub Run-same : (limit : ℕ) (a c : State) (os : List Order) (x y : List ℕ) (m n : ℕ) → x ≡ y → m ≡ n → Run limit a os x m c → Run limit a os y n c
 Run-same limit a c os x y m n out cost run = subst (λ l. Run limit a os l n c) out (subst (λ k. Run limit a os x k c) cost run)
 

@@ -24,7 +24,7 @@ use Rattle.rope_search.specs.declared.commands.Reply.TheVariants.{Done}
 use Rattle.std.specs.Str.{chars}
 use Rattle.std.specs.List.{All}
 
--- ---- what is so of each payload is so of each command
+-- ---- what holds of each payload holds of each command
 
 pub rows_for_text : (limit : ℕ) (s : State) (payload : Payload) (count before : ℕ)
     → ((bytes : List ℕ) (cost : ℕ) → StandsFor limit payload bytes → Costs limit s (SetText bytes) cost → count ≤ before + cost)
@@ -45,14 +45,14 @@ wholes_for_next limit from wholes before one order stands = absurd stands
 
 -- ---- the chosen buffer in the list of all
 
--- a session by the list of its buffers, the chosen one of which is known
+-- a session by the list of its buffers, whose chosen one is known
 pub record Chosen (items : List LimitedBuffer) (k limit : ℕ) (old : LimitedBuffer) (s : LimitedSession) : Type 0 where
   pub inside : k < length items
   pub is : old ≡ slice_index_or items k old
   pub all : All (λ (b : LimitedBuffer). b.limit ≡ limit) items
   pub seen : record { limit = limit; state = record { buffers = map (λ (b : LimitedBuffer). b.state) items; chosen = k }; changed = map (λ (b : LimitedBuffer). b.changed) items; buffers = items } ≡ s
 
--- the state of the session's list, with another buffer in the chosen one's place
+-- the state of the session's list, with another buffer in place of the chosen one
 abbrev pub state_with : List LimitedBuffer → ℕ → LimitedBuffer → State
 state_with items k new = record { buffers = map (λ (b : LimitedBuffer). b.state) (slice_set items k new); chosen = k }
 
@@ -70,7 +70,7 @@ found items k limit old s c =
 pub Chosen-state : (items : List LimitedBuffer) (k limit : ℕ) (old : LimitedBuffer) (s : LimitedSession) → Chosen items k limit old s → chosen_buffer s.state ≡ old.state
 Chosen-state items k limit old s c = sym (ap (λ (t : LimitedSession). chosen_buffer t.state) c.seen) ∙ found items k limit old s c
 
--- another buffer in its place is the chosen one then
+-- another buffer in its place is then the chosen one
 pub Chosen-with : (items : List LimitedBuffer) (k limit : ℕ) (old : LimitedBuffer) (s : LimitedSession) → Chosen items k limit old s
     → (new : BufferState) → chosen_buffer (with_chosen s.state new) ≡ new
 Chosen-with items k limit old s c new =
@@ -90,7 +90,7 @@ Chosen-set items k limit old new s change c set =
     subst (λ (t : LimitedSession). state_with items k new ≡ with_chosen t.state (change (chosen_buffer t.state))) c.seen
     (ap (λ (bs : List BufferState). record { buffers = bs; chosen = k }) list)
 
--- the same buffer in its place leaves the session
+-- the same buffer in its place doesn't change the session
 pub Chosen-kept : (items : List LimitedBuffer) (k limit : ℕ) (old new : LimitedBuffer) (s : LimitedSession) → Chosen items k limit old s → new ≡ old → state_with items k new ≡ s.state
 Chosen-kept items k limit old new s c same =
     let whole : slice_set items k new ≡ items = ap (slice_set items k) (same ∙ c.is) ∙ set-get_or items k old in
@@ -155,7 +155,7 @@ Step-pattern_err apart bytes s fault utf8 (inr (inl e)) much none =
     subst (λ f. Step s.limit s.state (SetPattern bytes) (Err f) s.state) (sym e) (refused_pattern s.limit s.state bytes utf8 why.0 why.1, refl)
 Step-pattern_err apart bytes s fault utf8 (inr (inr e)) much none = subst (λ f. Step s.limit s.state (SetPattern bytes) (Err f) s.state) (sym e) (tt, refl)
 
--- for what is refused no row is made
+-- no row is made for what is refused
 refused_rows : IsOneOfThree → (limit : ℕ) (s : State) (bytes : List ℕ) (count before : ℕ) → IsUtf8 bytes → ((IsPattern (chars bytes) → ⊥) → count ≤ before)
     → (pattern_limit < length bytes → count ≤ before) → (fault : Fault) → Refuses limit s (SetPattern bytes) fault → count ≤ before
 refused_rows apart limit s bytes count before utf8 none long Utf8 h = absurd (h utf8)

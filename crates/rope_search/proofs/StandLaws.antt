@@ -1,4 +1,4 @@
--- Every command stands for some command of the definition.
+-- Every command represents some command of the definition.
 use Rattle.std.proofs.Common.{◌≡◌, ◌≢◌, ℕ, zero, suc, true, false, List, [], ◌∷◌, ◌++◌, get_or, replicate, refl, ap, IsUtf8, arith}
 use Rattle.std.proofs.lemmas.Bool.Decides.{nat_tests}
 use Rattle.std.proofs.lemmas.List.{length-replicate}
@@ -11,7 +11,7 @@ use Rattle.rope_search.specs.Order.{Order, SetText, EditText, UndoEdit, RedoEdit
 use Rattle.rope_search_reports.specs.Pattern.{pattern_limit}
 use Rattle.rope_search.specs.Stands.{StandsFor, Stands}
 
--- ---- a text and bytes that are none, of each length
+-- ---- a text, and bytes that aren't one, of each length
 
 IsUtf8-nul : IsUtf8 (0 ∷ [])
 unfolding encode
@@ -33,7 +33,7 @@ starts_no_text : (cs bytes : List ℕ) → scalars cs ≡ true → encodes cs �
 starts_no_text [] bytes valid whole = cc
 starts_no_text (c ∷ cs) bytes valid whole = first_byte c (encodes cs) (head_scalar c cs valid) (ap (λ bs. get_or bs 0 0) whole)
 
--- ---- what a command stands for
+-- ---- what a command represents
 
 payload_for : (limit : ℕ) (payload : Payload) → (bytes : List ℕ) × StandsFor limit payload bytes
 payload_for limit (Kept bytes) = (bytes.now, refl)

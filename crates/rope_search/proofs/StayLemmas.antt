@@ -1,4 +1,4 @@
--- What stays through two steps stays in their changes put together, which are few and apart.
+-- What stays through two steps stays in their composed changes, which are few and separate.
 use Rattle.std.proofs.Common.{◌≡◌, ℕ, ◌+◌, ◌-◌, ◌<◌, ◌≤◌, ◌⊎◌, inl, inr, List, [], ◌∷◌, ◌++◌, length, refl, sym, ap, subst, ◌∙◌, arith, append_assoc, append-nil, length-append}
 use Rattle.std.proofs.lemmas.Bool.{cases_lt}
 use Rattle.rope_search_reports.specs.Changes.{AreChanges}
@@ -9,7 +9,7 @@ use Rattle.rope_search.specs.declared.joins.Place.{Place}
 use Rattle.rope_search.specs.Joints.{AddsPart, IsEmptyPart, change_to, part_end, place_past, middle_start}
 use Rattle.rope_search.proofs.JoinLemmas.{Begin, BeginOld, Joining, cursor-first, no_joint}
 
--- ---- what stays, by where changes lie
+-- ---- what stays, by where changes are
 
 stays-behind : (changes : List Change) (at at' : ℕ) (old new : List ℕ) (n x y : ℕ) → AreChanges changes at at' old new n → StaysFrom at at' changes x y → (at ≤ x) × (at' ≤ y)
 stays-behind [] at at' old new n x y are stays = (stays.0, omega (arith, stays.1))
@@ -37,8 +37,8 @@ stays-before_old (c ∷ cs) at at' old new n place x y one begin low (inr later)
 
 -- ---- what stays through both steps
 
--- it stays in the changes that are made, in what stands before the part, or behind it through what is
--- left of both steps
+-- it stays in the changes that are made, in the text before the part, or after the part through the
+-- remaining changes of both steps
 pub record Through (joint : Joint) (left right : List Change) (x z : ℕ) : Type 0 where
   pub y : ℕ
   pub behind : joint.start.middle ≤ y
@@ -126,11 +126,11 @@ staying-second old middle new first second joint c left right out j within s =
       ];
     }
 
--- the next part starts behind this one
+-- the next part starts after this one
 again : (out rest : List Change) (c : Change) (x z : ℕ) → Stays (out ++ c ∷ rest) x z → Stays ((out ++ c ∷ []) ++ rest) x z
 again out rest c x z stays = subst (λ cs. Stays cs x z) (sym (append_assoc out (c ∷ []) rest)) stays
 
--- what stays before the place where it starts, or behind it
+-- what stays before the offset where it starts, or after it
 split : (old middle new : List ℕ) (joint : Joint) (left right out : List Change) (place x z : ℕ) → Joining old middle new joint left right out
     → Begin place left → BeginOld joint.second.middle joint.second.outer place right → (t : Through joint left right x z)
     → (((part_end joint ≤ t.y) × (t.y < place)) × ((x ≡ joint.first.outer + (t.y - joint.first.middle)) × (z ≡ joint.second.outer + (t.y - joint.second.middle)))) ⊎ (place ≤ t.y)
@@ -220,7 +220,7 @@ staying-end old middle new first second joint out out' j adds s = λ x y z one o
       ]
     ]
 
--- ---- apart
+-- ---- separate
 
 pub record Spaced (start : ℕ) (out : List Change) : Type 0 where
   pub at : ℕ

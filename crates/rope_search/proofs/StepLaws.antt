@@ -1,4 +1,4 @@
--- Each command has one reply, one next session and one cost, apart from want of memory.
+-- Each command has one reply, one next session and one cost, except out of memory.
 use Rattle.std.proofs.Common.{◌≡◌, ◌≢◌, ℕ, ◌+◌, ◌<◌, ◌≤◌, ◌⊎◌, List, [], ◌∷◌, ◌++◌, length, refl, sym, ap, ◌∙◌, subst, inl, inr, IsUtf8, arith}
 use Rattle.std.specs.Prelude.{Option, None, Some, MatchOption, IfSome, Ok, Err, chars}
 use Rattle.std.proofs.lemmas.Bool.{cases_lt, cases_eq, cases_order}
@@ -32,16 +32,16 @@ use Rattle.rope_search_reports.specs.Laws.{HasOnePlace, HasOneReport, HasReport}
 use Rattle.rope_search.specs.Cost.{Costs, CostsAccepted, RowsOf}
 use Rattle.rope_search.proofs.RefusalLaws.{rank_some, utf8_choice, Refuses-memory, refused_utf8, refused_size, refused_nothing, refused_list, refused_pattern_utf8, refused_pattern, refused_limit, accepted_text, accepted_print, accepted_fork, accepted_use, accepted_pattern, accepted_off, accepted_list}
 
--- ---- what is found next
+-- ---- the next match
 
--- without a pattern nothing is looked for
+-- without a pattern nothing is searched for
 pub refused_next : (limit : ℕ) (s : State) (from : Position) → (chosen_buffer s).pattern ≡ None → IsFirstRefusal limit s (FindNext from) Nothing
 refused_next limit s from none = record { refuses = none; none_before = before }
   where
     before : (other : Fault) → rank_of other < 1 → Refuses limit s (FindNext from) other → ⊥
     before other lower h = rank_some other lower
 
--- with one a position that is nowhere is refused
+-- with one, a position that is nowhere is refused
 pub refused_astray : (limit : ℕ) (s : State) (from : Position) → (chosen_buffer s).pattern ≢ None → IsNowhere (current_text (chosen_buffer s)) (from.line, from.column)
     → IsFirstRefusal limit s (FindNext from) Range
 refused_astray limit s from some nowhere = record { refuses = nowhere; none_before = before }
@@ -60,7 +60,7 @@ accepted_next limit s from place some at Limit h = h
 accepted_next limit s from place some at Size h = h
 accepted_next limit s from place some at Memory h = h
 
--- a position is at a place of a text, or nowhere in it
+-- a position has an offset in a text, or is nowhere in it
 pub spot_choice : HasOnePlace → (text : List ℕ) (from : Position) → IsText text → ((place : ℕ) × IsAt text (from.line, from.column) place) ⊎ IsNowhere text (from.line, from.column)
 spot_choice placed text from scalars = elim (between_choice placed text from from) [
   | inl some ↦ inl (byte_len some.0, some.3.starts)
@@ -80,7 +80,7 @@ refused_replace limit s payload none = record { refuses = none; none_before = be
     before : (other : Fault) → rank_of other < 1 → Refuses limit s (ReplaceAll payload) other → ⊥
     before other lower h = rank_some other lower
 
--- with one a template that isn't UTF-8 is refused for that
+-- with one, a template that isn't UTF-8 is refused for that
 pub refused_replace_utf8 : (limit : ℕ) (s : State) (payload : List ℕ) → (chosen_buffer s).pattern ≢ None → ¬ (IsUtf8 payload) → IsFirstRefusal limit s (ReplaceAll payload) Utf8
 refused_replace_utf8 limit s payload some broken = record { refuses = broken; none_before = before }
   where
@@ -115,7 +115,7 @@ accepted_replace limit s payload some text short fits Memory h = h
 
 -- ---- all matches of a buffer's pattern
 
--- the pattern that there is
+-- the pattern, if there is one
 pub pattern_of : (pattern : Option (List ℕ)) → pattern ≢ None → (p : List ℕ) × (pattern ≡ Some p)
 pattern_of None some = absurd (some refl)
 pattern_of (Some p) some = (p, refl)
@@ -180,7 +180,7 @@ long_with_choice known limit b template p h is = elim (cases_lt limit (byte_len 
 
 -- ---- edits
 
--- where no part lies between the positions, an edit is refused for that first
+-- if no part is between the positions, an edit is first refused for that
 pub refused_range : (limit : ℕ) (s : State) (from to : Position) (payload : List ℕ) → HasNoneBetween (current_text (chosen_buffer s)) from to
     → IsFirstRefusal limit s (EditText from to payload) Range
 refused_range limit s from to payload none = record { refuses = none; none_before = before }
@@ -189,7 +189,7 @@ refused_range limit s from to payload none = record { refuses = none; none_befor
     before Nothing lower h = h
     before other lower h = omega arith
 
--- a payload that isn't UTF-8 is refused for that, where there is a part
+-- a payload that isn't UTF-8 is refused for that, if there is a part
 pub refused_edit_utf8 : (limit : ℕ) (s : State) (from to : Position) (payload before part behind : List ℕ) → IsBetween (current_text (chosen_buffer s)) from to before part behind
     → ¬ (IsUtf8 payload) → IsFirstRefusal limit s (EditText from to payload) Utf8
 refused_edit_utf8 limit s from to payload before part behind between broken = record { refuses = broken; none_before = earlier }
@@ -361,7 +361,7 @@ IsFirstRefusal-one limit s o f g one other = elim (cases_order (rank_of f) (rank
 
 -- ---- what a command does
 
--- what an accepted command replies; `next` is what it replies that looks for a match
+-- the reply to an accepted command; `next` is the reply to a search for a match
 abbrev pub reply_to : Known → Reply → State → Order → Reply
 reply_to known next old (SetText payload) = Done
 reply_to known next old (EditText from to payload) = Done
@@ -422,11 +422,11 @@ Does-known known old (ReplaceAll payload) (Number k) new all h =
 Does-known known old (UseBuffer k) Done new all h = (refl, h)
 Does-known known old o r new all h = absurd h
 
--- a place as a position
+-- the position of an offset
 abbrev pub spot_of : List ℕ → ℕ → Position
 spot_of text place = record { line = (position text place).0; column = (position text place).1 }
 
--- something is told of what is found
+-- the result of a search is reported
 next_by : (old : State) (from : Position) (found : Option (ℕ × ℕ)) → FindsFromPosition (chosen_buffer old) from found → (r : Reply) × Does old (FindNext from) r old
 next_by old from None finds = (NoMatch, (finds, refl))
 next_by old from (Some span) finds =
@@ -500,7 +500,7 @@ Does-after known limit old (UseBuffer k) all accepts = (Done, refl)
 same_some : {A : Type 0} (a b : A) → Some a ≡ Some b → a ≡ b
 same_some a b e = cc
 
--- what is found from a position is one thing
+-- the match found from a position is unique
 found_one : Known → (b : BufferState) (from : Position) (x y : Option (ℕ × ℕ)) → HoldsTexts b → FindsFromPosition b from x → FindsFromPosition b from y → x ≡ y
 found_one known b from x y h one other =
     let text = current_text b in
@@ -514,7 +514,7 @@ spot_one text p q place place' one other same =
     let e : ◌≡◌ {A = ℕ × ℕ} (p.line, p.column) (q.line, q.column) = one ∙ ap (position text) same ∙ sym other in
     positions_same p q (ap (λ (x : ℕ × ℕ). x.0) e) (ap (λ (x : ℕ × ℕ). x.1) e)
 
--- so it is told in one way
+-- so it is reported in one way
 found_told : Known → (b : BufferState) (from a z c y : Position) → HoldsTexts b → TellsPositions b from (Some (a, z)) → TellsPositions b from (Some (c, y)) → Found a z ≡ Found c y
 found_told known b from a z c y h one other =
     let text = current_text b in
@@ -541,14 +541,14 @@ next_one known old from (Found a z) q x y all one other = found_with known old f
 next_one known old from NoMatch q x y all one other = none_with known old from q y all one.0 other
 next_one known old from r q x y all one other = absurd one
 
--- an accepted command is replied to in one way
+-- an accepted command has one reply
 pub reply_one : Known → (old : State) (o : Order) (r q : Reply) (x y : State) → AllHoldTexts old → Does old o r x → Does old o q y → r ≡ q
 reply_one known old (FindNext from) r q x y all one other = next_one known old from r q x y all one other
 reply_one known old o r q x y all one other = (Does-known known old o r x all one).0 ∙ sym (Does-known known old o q y all other).0
 
 -- ---- steps
 
--- a command that is refused for this first is answered so, and leaves the session
+-- a command first refused for this has this answer, and the session is unchanged
 pub Step-refused : (limit : ℕ) (s : State) (o : Order) (f : Fault) → IsFirstRefusal limit s o f → Step limit s o (Err f) s
 Step-refused limit s o Nothing first = (first, refl)
 Step-refused limit s o Range first = (first, refl)
@@ -558,7 +558,7 @@ Step-refused limit s o Limit first = (first, refl)
 Step-refused limit s o Size first = (first, refl)
 Step-refused limit s o Memory first = absurd (Refuses-memory limit s o first.refuses)
 
--- an answer other than want of memory tells the first refusal
+-- an answer other than out of memory is the first refusal
 pub Step-told : (limit : ℕ) (s : State) (o : Order) (f : Fault) (new : State) → f ≢ Memory → Step limit s o (Err f) new → IsFirstRefusal limit s o f × (new ≡ s)
 Step-told limit s o Nothing new other step = step
 Step-told limit s o Range new other step = step
@@ -568,7 +568,7 @@ Step-told limit s o Limit new other step = step
 Step-told limit s o Size new other step = step
 Step-told limit s o Memory new other step = absurd (other refl)
 
--- each command has a step, apart from want of memory
+-- each command has a step, except out of memory
 pub step_exists : Known → (limit : ℕ) (s : State) (o : Order) → AllHoldTexts s → (answer : Answer) × (new : State) × (answer ≢ Err Memory) × Step limit s o answer new
 step_exists known limit s o all = elim (refusal_choice known limit s o all) [
   | inl refused ↦ (Err refused.0, s, memory refused.0 (Err refused.0) refl refused.1, Step-refused limit s o refused.0 refused.1)
@@ -631,14 +631,14 @@ RowsOf-one known old new ListMatches m n all one other = one ∙ sym other
 RowsOf-one known old new (FindNext from) m n all one other = one ∙ sym other
 RowsOf-one known old new (UseBuffer k) m n all one other = one ∙ sym other
 
--- a command that is accepted costs so much
+-- a command that is accepted has this cost
 accepted_cost : (known : Known) (limit : ℕ) (s : State) (o : Order) → AllHoldTexts s → Accepts limit s o → (n : ℕ) × CostsAccepted limit s o n
 accepted_cost known limit s o all accepts =
     let does = Does-after known limit s o all accepts in
     let rows = rows_after known limit s o all accepts in
     (rows.0, record { reply = does.0; new = after known s o; step = (accepts, does.1); rows = rows.1 })
 
--- and no more
+-- and no other
 accepted_one : (known : Known) (limit : ℕ) (s : State) (o : Order) (m n : ℕ) → AllHoldTexts s → CostsAccepted limit s o m → CostsAccepted limit s o n → m ≡ n
 accepted_one known limit s o m n all one other =
     let here = (Does-known known s o one.reply one.new all one.step.1).1 in

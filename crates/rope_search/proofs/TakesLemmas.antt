@@ -33,7 +33,7 @@ TakesLast-after a b c s t u xs ys p q = record {
   wide = q.wide ∙ p.wide;
 }
 
--- bytes taken, and then some more before no others came
+-- bytes taken, and then some more before an error
 pub TakesUntil-after : (broken : Broken) (a b c : Unread) (s t u : SourceState) (xs ys : List ℕ)
     → Takes a b s t xs → TakesUntil broken b c t u ys → TakesUntil broken a c s u (xs ++ ys)
 TakesUntil-after Read a b c s t u xs ys p q = record {
@@ -60,7 +60,7 @@ front_consumed : (front back : List ℕ) (left : Option (List ℕ)) → Consumes
 front_consumed front back None = tt
 front_consumed front back (Some ys) = append_assoc front back ys
 
--- bytes taken from the front of those that were read already
+-- bytes taken from the start of those that were already read
 pub Takes-front : (old new : Unread) (s : SourceState) (count : ℕ) → count ≤ length old.bytes
     → new.bytes ≡ drop count old.bytes → new.reads ≡ old.reads → Takes old new s s (take count old.bytes)
 Takes-front old new s count enough rest same = record {

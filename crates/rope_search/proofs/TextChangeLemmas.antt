@@ -19,7 +19,7 @@ use Rattle.rope_search.specs.TextChanges.{ComesNext, RangesFollow, AreTextChange
 
 -- ---- parts of a text in bytes
 
--- what is between the places of a text's part
+-- the bytes between the offsets of a text's part
 part-bytes : (before part behind : List ℕ) (start end : ℕ) → start ≡ byte_len before → end ≡ byte_len before + byte_len part
     → between start end (bytes_of (before ++ part ++ behind)) ≡ bytes_of part
 part-bytes before part behind start end starts ends =
@@ -34,15 +34,15 @@ part-bytes before part behind start end starts ends =
     ∙ ap (λ n. drop n (front ++ here)) starts
     ∙ drop-append_seam front here
 
--- a part of a text starts between characters
+-- a part of a text starts at a character boundary
 seam-boundary : (before behind : List ℕ) (at : ℕ) → all_scalars behind ≡ true → at ≡ byte_len before → IsCharBoundary (bytes_of (before ++ behind)) at
 seam-boundary before behind at scalars is =
     subst (IsCharBoundary (bytes_of (before ++ behind))) (sym is)
     (IsCharBoundary-at_seam (bytes_of (before ++ behind)) (bytes_of before) (bytes_of behind) (encodes-append before behind) (behind, (scalars, refl)))
 
--- ---- changes that lead on from two places
+-- ---- changes from two offsets on
 
--- the text of a change, with what is before it
+-- the text of a change, with the text before it
 pub whole-of : (before gap part behind text : List ℕ) → text ≡ gap ++ part ++ behind → before ++ text ≡ ((before ++ gap) ++ part) ++ behind
 whole-of before gap part behind text is =
     ap (λ t. before ++ t) is ∙ sym (append_assoc before (gap ++ part) behind) ∙ ap (λ t. t ++ behind) (sym (append_assoc before gap part))
@@ -162,9 +162,9 @@ ranges-made (r ∷ rs) old new at at' follow =
 pub make_text : TextChangesMakeText
 make_text old new ranges are = ranges-made ranges (bytes_of old) (bytes_of new) 0 0 are
 
--- ---- put at a buffer's front, one after the other
+-- ---- written to a buffer's start, one after the other
 
--- the ranges of changes from two places on, or those of the way back
+-- the ranges of changes from two offsets on, or of their reverse
 abbrev pub ranges_on : Bool → ℕ → ℕ → List Change → List TextChange
 ranges_on false at at' changes = ranges_from at at' changes
 ranges_on true at at' changes = map turned_range (ranges_from at at' changes)
@@ -190,7 +190,7 @@ pub ranges-length : (is_back : Bool) (changes : List Change) → length (ranges_
 ranges-length false changes = from-length changes 0 0
 ranges-length true changes = length-map (ranges_from 0 0 changes) turned_range ∙ from-length changes 0 0
 
--- Changes from a number on wait; the ranges of those before them are at the buffer's front.
+-- Changes from an index on are left; the ranges of those before them are at the buffer's start.
 pub record RangesPut (is_back : Bool) (changes : List Change) (k at at' : ℕ) (first out : List TextChange) : Type 0 where
   pub old : List ℕ
   pub new : List ℕ
@@ -261,7 +261,7 @@ put-all is_back changes k at at' first out is p =
           ∙ ap (λ l. take (length first) all ++ l) (drop_all (length first) first (omega arith) ∙ sym (drop_all (length all) first (omega (arith, full, long))))
     ]
 
--- ---- told in other words
+-- ---- in another form
 
 pub tells-ranges : (a a' b b' : List ℕ) (r r' : List TextChange) → a ≡ a' → b ≡ b' → r ≡ r' → AreTextChanges a b r → AreTextChanges a' b' r'
 tells-ranges a a' b b' r r' one two three told =

@@ -1,5 +1,5 @@
 -- Texts and patterns of a session are lists of scalar values, so its matches are at boundaries; and
--- its report is that of its pattern set anew.
+-- its report is that of its pattern set again.
 use Rattle.std.proofs.Common.{◌≡◌, ℕ, ◌+◌, ◌<◌, ◌≤◌, ◌⊎◌, List, [], ◌∷◌, ◌++◌, length, take, slice_index_or, refl, sym, ap, ◌∙◌, subst, All, IsUtf8, arith, inl, inr}
 use Rattle.std.specs.Prelude.{Option, None, Some, MatchOption, Ok, Err, chars}
 use Rattle.std.proofs.lemmas.Bool.{cases_lt, and_parts, and_from}
@@ -61,7 +61,7 @@ holds_replaced known old new template count h is change =
     let texts = All-append IsText (take (old.current + 1) old.texts) (whole ∷ []) (All-take IsText (old.current + 1) old.texts h.texts) (one_text whole text) in
     subst HoldsTexts (sym change.changed) (record { texts = texts; pattern = h.pattern })
 
--- ---- commands keep it one
+-- ---- commands keep this
 
 set_chosen : (s t : State) (b : BufferState) → AllHoldTexts s → HoldsTexts b → t ≡ with_chosen s b → AllHoldTexts t
 set_chosen s t b all one is = subst AllHoldTexts (sym is) (All-set HoldsTexts s.buffers s.chosen b one all)
@@ -113,14 +113,14 @@ pub run_holds : Known → (limit : ℕ) (s t : State) (os : List Order) (out : L
 run_holds known limit s t [] out cost run all = unchanged s t all run.2
 run_holds known limit s t (o ∷ os) out cost run all = run_holds known limit run.new t os run.later run.later_cost run.others (step_holds known limit s run.new o run.answer run.step all)
 
--- so it is of all sessions that commands lead to
+-- so it holds of all sessions that commands lead to
 pub holds_always : Known → (limit : ℕ) (s : State) (os : List Order) (out : List ℕ) (cost : ℕ) → Run limit first_state os out cost s → AllHoldTexts s
 holds_always known limit s os out cost run = run_holds known limit first_state s os out cost run first_holds
 
 pub steps_hold : Known → StepsHoldTexts
 steps_hold known = record { first = first_holds; step = λ limit old new order answer all step. step_holds known limit old new order answer step all }
 
--- ---- where matches stand
+-- ---- where matches are
 
 pub boundaries_listed : Known → MatchesStandAtBoundaries → ListsBoundaries
 boundaries_listed known law limit orders out cost session rows line run report =
@@ -133,7 +133,7 @@ boundaries_listed known law limit orders out cost session rows line run report =
     stand law text None rows line scalars is = subst (λ rs. All (StandsAtBoundaries text line) (slice_index_or rs line [])) (sym is) (All-nil (StandsAtBoundaries text line))
     stand law text (Some q) rows line scalars is = law text q rows line scalars is
 
--- ---- a pattern set anew
+-- ---- a pattern set again
 
 pub kept_anew : HasOneReport → KeptIsAnew
 kept_anew one limit old new pattern payload Done rows anew had spelled step kept made =
@@ -144,7 +144,7 @@ kept_anew one limit old new pattern payload Done rows anew had spelled step kept
     same_report one buffer (chosen_buffer new) rows anew (ap (λ s. current_text (chosen_buffer s)) (sym stays)) (ap (λ (s : State). (chosen_buffer s).pattern) (sym stays)) kept made
 kept_anew one limit old new pattern payload other rows anew had spelled step kept made = absurd step.1
 
--- a pattern that spells a tree has no more bytes than one may have
+-- a pattern that spells a tree is within the limit on bytes
 pub patterns_taken : IsOneOfThree → PatternsAreTaken
 patterns_taken apart limit session pattern payload all had spelled =
     let is = pattern_holds (chosen_buffer session) pattern (chosen_holds session all) had in

@@ -42,7 +42,7 @@ SearchesWithin-trans os ps m n t u v before after = record {
   };
 }
 
--- other commands behind them allow more
+-- more commands after them allow more
 pub SearchesWithin-more : (os ps : List Order) (m n : ℕ) (t u : Ticks) → SearchesWithin os m t u → SearchesWithin (os ++ ps) (m + n) t u
 SearchesWithin-more os ps m n t u before = record {
   rows = omega (arith, before.rows);
@@ -52,7 +52,7 @@ SearchesWithin-more os ps m n t u before = record {
 
 -- ---- one turn
 
--- a command that was read whole was carried out, and so much of its answer was written
+-- a command that was read whole was executed, and this is what was written of its answer
 pub Turned-given : (known : Known) (limit : ℕ) (header : CommandOf ℕ) (kept : Collected) (answer : Answer) (old new : Scene) (Written : List ℕ → Type 0) → AllHoldTexts old.session
     → TakesOrder limit header kept old.buffer new.buffer old.source new.source
     → ((order : Order) → IsReadAs limit header kept order → Step limit old.session order answer new.session)

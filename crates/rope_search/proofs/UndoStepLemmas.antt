@@ -1,4 +1,4 @@
--- The texts of a history of which some are dropped, and the changes between those that stay.
+-- The texts of a history some of which are dropped, and the changes between those that stay.
 use Rattle.std.proofs.Common.{◌≡◌, ℕ, zero, suc, ◌+◌, ◌-◌, ◌<◌, ◌≤◌, nat_lt, Bool, true, false, List, [], ◌∷◌, ◌++◌, length, take, drop, map, reverse, slice_index_or, slice_set, refl, ap, sym, subst, ◌∙◌, arith, length-take, length-drop}
 use Rattle.std.specs.Prelude.{Option, None, Some, MatchOption, option_map}
 use Rattle.std.proofs.lemmas.Option.{none-some}
@@ -32,7 +32,7 @@ dropped_first xs n m all =
 kept_at : {A : Type 0} (xs : List A) (n c k : ℕ) (d : A) → n + k < c → slice_index_or (drop n (take c xs)) k d ≡ slice_index_or xs (n + k) d
 kept_at xs n c k d low = get_or-drop n (take c xs) k d ∙ get_or-take c xs (n + k) d low
 
--- the elements behind the first
+-- the elements after the first
 after_first : {A : Type 0} (x : A) (xs : List A) (k : ℕ) (d : A) → slice_index_or (x ∷ xs) (k + 1) d ≡ slice_index_or xs k d
 after_first x xs k d = let more : k + 1 ≡ suc k = omega arith in ap (λ n. slice_index_or (x ∷ xs) n d) more
 
@@ -56,7 +56,7 @@ pub kept_current : (texts : List (List ℕ)) (current steps : ℕ)
 kept_current texts current steps =
     kept_at texts (first_kept current steps) (current + 1) (current - first_kept current steps) [] (omega arith) ∙ ap (text_at texts) (omega arith)
 
--- the changes to a text that stays and isn't the first are those that they were
+-- the changes to a text that stays and isn't the first are unchanged
 pub kept_changes : (changes : List (List Change)) (current steps : ℕ) → first_kept current steps < current
     → changes_at (changes_with_steps changes current steps) (current - first_kept current steps) ≡ changes_at changes current
 kept_changes changes current steps later =
@@ -70,7 +70,7 @@ kept_changes changes current steps later =
 
 -- ---- the versions of a list
 
--- what is seen of those that stay, of which the first keeps no changes
+-- the view of those that stay; the first of them keeps no changes
 pub texts_kept : (items kept : List Version) (n c : ℕ) (version d : Version) → kept ≡ drop n (take c items) → text_in version ≡ text_in (slice_index_or kept 0 d)
     → map text_in (slice_set kept 0 version) ≡ drop n (take c (map text_in items))
 texts_kept items kept n c version d is same =
@@ -92,7 +92,7 @@ changes_kept items kept current steps version is none some =
     ∙ ap (λ l. [] ∷ drop 1 l) (ap (map changes_in) is ∙ sym (drop-map changes_in n (take c items)) ∙ ap (drop n) (sym (take-map changes_in c items)))
     ∙ ap (λ l. [] ∷ l) (drop-drop 1 n (take c (map changes_in items)))
 
--- what is seen of one of them
+-- the view of one of them
 pub seen_at : {A : Type 0} (see : Version → A) (items : List Version) (k : ℕ) (d : Version) (e : A) → k < length items
     → slice_index_or (map see items) k e ≡ see (slice_index_or items k d)
 seen_at see [] k d e low = absurd (omega (arith, low))
@@ -105,14 +105,14 @@ seen_past [] k d past = refl
 seen_past (v ∷ vs) zero d past = absurd (omega (arith, past))
 seen_past (v ∷ vs) (suc k) d past = seen_past vs k d (omega (arith, past))
 
--- whether a number is below another
+-- a comparison returns whether a number is below another
 pub less_told : (a b : ℕ) → nat_lt a b ≡ true → a < b
 less_told a b told = grind (arith, nat_tests, told)
 
 pub not_less_told : (a b : ℕ) → nat_lt a b ≡ false → b ≤ a
 not_less_told a b told = grind (arith, nat_tests, told)
 
--- what is told of the first that was cut off
+-- what is known of the first that was dropped
 pub undone_told : (items : List Version) (k m : ℕ) (undone : Option Changes) → m ≡ length items
     → MatchOption undone (m ≤ k) (λ cs. (k < m) × ((d : Version) → cs ≡ (slice_index_or items k d).changes))
     → MatchOption undone (length items ≤ k) (λ cs. listed cs ≡ changes_at (map changes_in items) k)
@@ -129,7 +129,7 @@ led_told items kept current steps led v is inside told =
     ap (λ (l : List Version). slice_index_or l 0 v) is ∙ kept_at items n (current + 1) 0 v (omega arith) ∙ ap (λ k. slice_index_or items k v) (omega arith) in
     ap listed (told ∙ ap (λ (w : Version). w.changes) here) ∙ sym (seen_at changes_in items n v [] (omega (arith, inside)))
 
--- the changes that were made last, or undone, are those that they were
+-- the changes that were made last, or undone, are unchanged
 pub last_kept : (apart apart' cut : Option Changes) (is_back is_later : Bool) (led : Changes) (items : List Version) (after : List (List Change)) (current steps : ℕ)
     → current < length items → after ≡ changes_with_steps (map changes_in items) current steps
     → MatchOption cut (length items ≤ current + 1) (λ cs. listed cs ≡ changes_at (map changes_in items) (current + 1))

@@ -1,4 +1,4 @@
--- What is to be written for an input: a run of steps from the first session, shown.
+-- The output for an input: the shown answers of a run of steps from the first session.
 use Rattle.std.specs.Prelude.{◌≡◌, ℕ, ◌+◌, List, [], ◌∷◌, ◌++◌}
 use Rattle.rope_search.specs.declared.endings.Ended.{Ended}
 use Rattle.rope_search.specs.Order.{Order}
@@ -8,7 +8,7 @@ use Rattle.rope_search.specs.Reads.{Reads}
 use Rattle.rope_search.specs.Shows.{Shows, closing}
 use Rattle.rope_search.specs.Cost.{Costs}
 
--- one command of a run, and what the others do from the session after it
+-- one command of a run, and the other commands from the session after it
 pub record Turn (limit : ℕ) (old : State) (order : Order) (out : List ℕ) (cost : ℕ)
     (Others : State → List ℕ → ℕ → Type 0) : Type 0 where
   pub answer : Answer
@@ -24,14 +24,14 @@ pub record Turn (limit : ℕ) (old : State) (order : Order) (out : List ℕ) (co
   pub shown : out ≡ reply ++ later
   pub added : cost ≡ own_cost + later_cost
 
--- from an old session these commands may be shown so, at this cost, and leave a new one
+-- from an old session these commands may have this output, at this cost, and leave a new session
 abbrev pub Run : ℕ → State → List Order → List ℕ → ℕ → State → Type 0
 Run limit old [] out cost new = (out ≡ []) × (cost ≡ 0) × (new ≡ old)
 Run limit old (order ∷ orders) out cost new =
     Turn limit old order out cost
     (λ mid later later_cost. Run limit mid orders later later_cost new)
 
--- an input that ends so may be answered by this output, at this cost
+-- an input with this ending may be answered by this output, at this cost
 pub record Answers (limit : ℕ) (input : List ℕ) (ending : Ended) (output : List ℕ)
     (cost : ℕ) : Type 0 where
   pub orders : List Order

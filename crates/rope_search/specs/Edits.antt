@@ -1,4 +1,4 @@
--- Several edits of a buffer as one: each is told in terms of the text before any of them.
+-- Several edits of a buffer as one: the positions of each are those of the text before any of them.
 use Rattle.std.specs.Prelude.{◌≡◌, ℕ, ◌<◌, ◌≤◌, List, [], ◌∷◌, if◌then◌else◌, is_some, sum_by, Result, Ok, Err, All, IsUtf8, chars, slice_set}
 use Rattle.str_indices.specs.Text.{byte_len}
 use Rattle.rope_search_io.specs.declared.faults.Fault.{Fault}
@@ -17,7 +17,7 @@ use Rattle.rope_search.specs.TextChanges.{ranges_of}
 use Rattle.rope_search.specs.Changed.{Replaces}
 use Rattle.rope_search.specs.Stretches.{lines_spanned}
 
--- an edit in full: from one position to another these bytes come in the place of what stands there
+-- an edit with its payload: these bytes replace the text from one position to another
 pub record FullEdit : Type 0 where
   pub from : Position
   pub to : Position
@@ -29,16 +29,16 @@ in_full edit = record { from = edit.from; to = edit.to; payload = edit.text.now 
 abbrev pub PayloadsAreUtf8 : List FullEdit → Type 0
 PayloadsAreUtf8 edits = All (λ (edit : FullEdit). IsUtf8 edit.payload) edits
 
--- An edit lies behind a place, or there: its positions are at these two places, of which the second
--- is not before the first.
+-- An edit is at an offset or after it: its positions are at these two offsets, and the second is
+-- not before the first.
 pub record LiesBehind (text : List ℕ) (at : ℕ) (edit : FullEdit) (start end : ℕ) : Type 0 where
   pub behind : at ≤ start
   pub ordered : start ≤ end
   pub starts : IsAt text (edit.from.line, edit.from.column) start
   pub ends : IsAt text (edit.to.line, edit.to.column) end
 
--- The edits lie one behind the other, from a place on, and two may touch: so each puts its text
--- between these places.
+-- The edits follow each other from an offset on, and two may touch; each inserts its text between
+-- these offsets.
 abbrev pub LieInOrder : List ℕ → ℕ → List FullEdit → List Substitution → Type 0
 LieInOrder text at [] [] = Unit {0}
 LieInOrder text at (edit ∷ edits) (one ∷ others) =
@@ -46,9 +46,9 @@ LieInOrder text at (edit ∷ edits) (one ∷ others) =
     × LieInOrder text one.end edits others
 LieInOrder text at edits substitutions = ⊥
 
--- ---- what they leave
+-- ---- their result
 
--- with them a text becomes this one, each by one change
+-- the text that they make of a text, each by one change
 pub record MakeOf (text : List ℕ) (edits : List FullEdit) (new : List ℕ)
     (changes : List Change) : Type 0 where
   pub substitutions : List Substitution
@@ -57,14 +57,14 @@ pub record MakeOf (text : List ℕ) (edits : List FullEdit) (new : List ℕ)
   pub text_is : new ≡ substituted (bytes_of text) 0 substitutions
   pub changes_are : changes ≡ changes_by 0 0 substitutions
 
--- all are made; the buffer with the text that this leaves is the new one, also where there is none
+-- all are made; the buffer with this text is the new one, also if there is no edit
 pub record AreEdits (old : BufferState) (edits : List FullEdit) (new : BufferState) : Type 0 where
   pub text : List ℕ
   pub changes : List Change
   pub make : MakeOf (current_text old) edits text changes
   pub changed : new ≡ with_edit old text
 
--- the changes are kept beside the text, and a range is told for each
+-- the changes are kept with the text, and a range is reported for each
 pub record KeepsEdits (old : LimitedBuffer) (edits : List FullEdit)
     (new : LimitedBuffer) : Type 0 where
   pub text : List ℕ
@@ -73,31 +73,32 @@ pub record KeepsEdits (old : LimitedBuffer) (edits : List FullEdit)
   pub kept : new.changes ≡ with_changes old changes
   pub ranges : new.text_changes ≡ ranges_of changes
 
--- no more rows come than lines stand from where the first of them starts to where the last ends
+-- the number of added rows is at most the number of lines from where the first of them starts to
+-- where the last ends
 pub record SpansEdits (old : BufferState) (edits : List FullEdit) (new : BufferState)
     (stretch : Stretch) : Type 0 where
   pub changes : List Change
   pub make : MakeOf (current_text old) edits (current_text new) changes
   pub few : stretch.added ≤ lines_spanned (bytes_of (current_text new)) changes
 
--- how many rows they may make: for each as many as its text has lines; none without a pattern
+-- how many rows they may make: for each the number of lines of its text; none without a pattern
 abbrev pub lines_of_edits : List FullEdit → ℕ
 lines_of_edits edits = sum_by (λ (edit : FullEdit). line_count (chars edit.payload)) edits
 
 abbrev pub rows_of_edits : BufferState → List FullEdit → ℕ
 rows_of_edits buffer edits = if is_some buffer.pattern then lines_of_edits edits else 0
 
--- ---- how they are answered
+-- ---- their answer
 
--- with them a text would have more bytes than the limit
+-- the edited text would have more bytes than the limit
 pub record GetTooLong (limit : ℕ) (text : List ℕ) (edits : List FullEdit) : Type 0 where
   pub substitutions : List Substitution
   pub lie : LieInOrder text 0 edits substitutions
   pub long : limit < byte_len (substituted (bytes_of text) 0 substitutions)
 
--- why all of them are refused in a text, under a limit on its bytes: a position is nowhere, the
--- second of an edit is before its first, or an edit doesn't lie behind the one before it; a payload
--- isn't UTF-8; or the new text would have too many bytes
+-- a reason to refuse all of them, under a limit on the bytes of a text: a position is nowhere, the
+-- second of an edit is before its first, or an edit isn't after the one before it; a payload isn't
+-- UTF-8; or the new text would have too many bytes
 abbrev pub RefusesEdits : ℕ → List ℕ → List FullEdit → Fault → Type 0
 RefusesEdits limit text edits Range =
     (substitutions : List Substitution) → LieInOrder text 0 edits substitutions → ⊥
@@ -105,7 +106,7 @@ RefusesEdits limit text edits Utf8 = ¬ (PayloadsAreUtf8 edits)
 RefusesEdits limit text edits Size = GetTooLong limit text edits
 RefusesEdits limit text edits fault = ⊥
 
--- of all reasons to refuse them, this comes first
+-- the first of all reasons to refuse them
 pub record IsFirstAgainst (limit : ℕ) (text : List ℕ) (edits : List FullEdit)
     (fault : Fault) : Type 0 where
   pub refuses : RefusesEdits limit text edits fault
@@ -116,8 +117,8 @@ pub record IsFirstAgainst (limit : ℕ) (text : List ℕ) (edits : List FullEdit
 abbrev pub AcceptsEdits : ℕ → List ℕ → List FullEdit → Type 0
 AcceptsEdits limit text edits = (fault : Fault) → RefusesEdits limit text edits fault → ⊥
 
--- under this limit edits of the chosen buffer may be answered so, and leave this session: all are
--- made, or none. Want of memory may stand in place of any other answer.
+-- under this limit edits of the chosen buffer may have this answer, and leave this session: all are
+-- made, or none. Out of memory may replace any other answer.
 abbrev pub StepByEdits : ℕ → State → List FullEdit → Result Unit Fault → State → Type 0
 StepByEdits limit old edits (Ok done) new =
     AcceptsEdits limit (current_text (chosen_buffer old)) edits
@@ -127,7 +128,7 @@ StepByEdits limit old edits (Err Memory) new = new ≡ old
 StepByEdits limit old edits (Err fault) new =
     IsFirstAgainst limit (current_text (chosen_buffer old)) edits fault × (new ≡ old)
 
--- the chosen buffer tells which rows they replaced, and the others what they did
+-- the chosen buffer reports the rows that they replaced, and the others report what they did before
 pub record TellsEdits (old : State) (edits : List FullEdit) (new : State)
     (told told' : List Stretch) : Type 0 where
   pub stretch : Stretch

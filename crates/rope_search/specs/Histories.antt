@@ -1,4 +1,4 @@
--- The texts of a buffer, and what changed from each one to the next.
+-- The texts of a buffer, and the changes from each one to the next.
 use Rattle.std.specs.Prelude.{◌≡◌, ℕ, ◌+◌, ◌<◌, List, [], ◌∷◌, ◌++◌, length, take, slice_index_or, Bool, true, false, Option, None, Some}
 use Rattle.str_indices.specs.Text.{byte_len}
 use Rattle.rope_search_reports.specs.Text.{bytes_of}
@@ -12,8 +12,8 @@ use Rattle.rope_search.specs.Places.{IsBetween}
 use Rattle.rope_search.specs.Replacing.{AreMatchesOfBuffer}
 use Rattle.rope_search.specs.TextChanges.{ranges_of}
 
--- texts, from the oldest on, with the changes that led to each from the one before it, none to the
--- first; the number of the current text; and the changes that were made last, or undone
+-- texts, from the oldest on, with the changes that led to each from the one before it, none for the
+-- first text; the number of the current text; and the changes that were made last, or undone
 pub record Texts : Type 0 where
   pub texts : List (List ℕ)
   pub changes : List (List Change)
@@ -34,7 +34,7 @@ LeadOn texts changes = (number : ℕ) → number + 1 < length texts
     → Lead (changes_at changes (number + 1)) (text_at texts number) (text_at texts (number + 1))
 
 -- the changes that were made last, or undone: those that are kept apart, or those that led to the
--- current text, or to the one behind it
+-- current text, or to the one after it
 abbrev pub changes_last : Option (List Change) → Bool → List (List Change) → ℕ → List Change
 changes_last (Some apart) is_back changes current = apart
 changes_last None false changes current = changes_at changes current
@@ -44,13 +44,13 @@ changes_last None true changes current = changes_at changes (current + 1)
 abbrev pub LeadSomewhere : List Change → Type 0
 LeadSomewhere changes = (old : List ℕ) × (new : List ℕ) × Lead changes old new
 
--- ---- what is kept of what a buffer went through
+-- ---- what is kept of a buffer's history
 
--- the changes up to the current text, and further ones in place of those behind it
+-- the changes up to the current text, and further ones replacing those after it
 abbrev pub with_changes : LimitedBuffer → List Change → List (List Change)
 with_changes buffer changes = take (buffer.state.current + 1) buffer.changes ++ changes ∷ []
 
--- the change of a part behind a text, to one that takes its place
+-- the change of a part after a text, to one that replaces it
 abbrev pub change_behind : List ℕ → List ℕ → List ℕ → Change
 change_behind before part inserted = record {
   old_end = byte_len before + byte_len part;
@@ -58,8 +58,8 @@ change_behind before part inserted = record {
   new_end = byte_len before + byte_len inserted;
 }
 
--- an edit is one change, and one range: of the part between the positions, to the text that took its
--- place
+-- an edit is one change, and one range: of the part between the positions, to the text that
+-- replaced it
 pub record KeepsEdit (old : LimitedBuffer) (from to : Position) (inserted : List ℕ)
     (new : LimitedBuffer) : Type 0 where
   pub before : List ℕ
@@ -79,15 +79,15 @@ pub record KeepsReplacement (old : LimitedBuffer) (template : List ℕ)
   pub ranges : new.text_changes
       ≡ ranges_of (changes_of (bytes_of (current_text old.state)) template 0 0 matches)
 
--- in a text, for a pattern: these are the changes
+-- these are the changes of a replacement in a text, for a pattern
 pub record AreReplacements (text pattern template : List ℕ) (changes : List Change) : Type 0 where
   pub matches : List Groups
   pub are : AreGroups pattern (bytes_of text) matches
   pub told : changes ≡ changes_of (bytes_of text) template 0 0 matches
 
--- ---- how many rows going back and forward may make
+-- ---- how many rows undo and redo may make
 
--- as many as what comes back has lines: for each change its breaks plus one
+-- the number of lines of what comes back: for each change its breaks plus one
 abbrev pub rows_back : LimitedBuffer → ℕ
 rows_back buffer = lines_put (bytes_of (current_text (undone buffer.state)))
     (turned_changes 0 0 (changes_at buffer.changes buffer.state.current))

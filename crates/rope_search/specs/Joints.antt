@@ -1,4 +1,4 @@
--- Changes of two steps that are put together, up to a place.
+-- Composed changes of two steps, up to an offset.
 use Rattle.std.specs.Prelude.{◌≡◌, ℕ, ◌+◌, ◌-◌, ◌<◌, ◌≤◌, ◌⊎◌, List, [], ◌∷◌, ◌++◌, map, slice_index_or, max}
 use Rattle.ropey.specs.Chunks.{text_of}
 use Rattle.rope_search_reports.specs.Turned.{listed}
@@ -12,11 +12,11 @@ abbrev pub change_numbered : List Change → ℕ → Change
 change_numbered changes k =
     slice_index_or changes k (record { old_end = 0; new_start = 0; new_end = 0 })
 
--- where the part that is replaced ends in the middle text, as far as is known
+-- where the replaced part ends in the middle text, as far as is known
 abbrev pub part_end : Joint → ℕ
 part_end joint = max (max joint.start.middle joint.first.middle) joint.second.middle
 
--- a place behind the changes, by that of the middle text
+-- an offset after the changes, from that of the middle text
 abbrev pub place_past : Joint → ℕ → Place
 place_past joint middle = record {
   old = joint.first.outer + (middle - joint.first.middle);
@@ -28,22 +28,22 @@ place_past joint middle = record {
 abbrev pub middle_start : Joint → Change → ℕ
 middle_start joint change = joint.second.middle + (change.new_start - joint.second.outer)
 
--- the change of the part up to a place
+-- the change of the part up to an offset
 abbrev pub change_to : Joint → Place → Change
 change_to joint end =
     record { old_end = end.old; new_start = joint.start.new; new_end = end.new }
 
--- up to a place the part replaces nothing by nothing
+-- up to an offset the part replaces nothing by nothing
 abbrev pub IsEmptyPart : Joint → Place → Type 0
 IsEmptyPart joint end = (end.old ≡ joint.start.old) × (end.new ≡ joint.start.new)
 
--- the change of the part up to a place is added, unless it replaces nothing by nothing
+-- the change of the part up to an offset is added, unless it replaces nothing by nothing
 abbrev pub AddsPart : Joint → Place → List Change → List Change → Type 0
 AddsPart joint end changes changes' =
     (IsEmptyPart joint end × (changes' ≡ changes))
     ⊎ ((IsEmptyPart joint end → ⊥) × (changes' ≡ changes ++ change_to joint end ∷ []))
 
--- Where a place is behind the part, the part's change is added, and the next part starts there.
+-- If an offset is after the part, the part's change is added, and the next part starts there.
 abbrev pub GoesOnTo : Joint → ℕ → List Change → Joint → List Change → Type 0
 GoesOnTo joint middle changes joint' changes' =
     ((middle ≤ part_end joint) × (joint' ≡ joint) × (changes' ≡ changes))

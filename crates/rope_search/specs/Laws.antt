@@ -1,5 +1,5 @@
--- Laws of the definitions themselves: that they leave one reading, one step and one cost, and that
--- no command is left out.
+-- Laws of the definitions themselves: each input has one reading, and each command one step and one
+-- cost.
 use Rattle.std.specs.Prelude.{◌≡◌, ◌≢◌, ℕ, ◌<◌, ◌≤◌, ◌↔◌, ◌⊎◌, List, [], ◌++◌, length, All, slice_index_or, Some, IfSome, Ok, Err, chars}
 use Rattle.rope_search_io.specs.declared.faults.Fault.TheVariants.{Memory}
 use Rattle.rope_search.specs.declared.endings.Ended.{Ended}
@@ -27,14 +27,14 @@ use Rattle.rope_search.specs.Reads.{Reads}
 use Rattle.rope_search.specs.Cost.{Costs}
 use Rattle.rope_search.specs.Answers.{Run, Answers}
 
--- these bytes are read as some commands and an ending, and as no others
+-- these bytes are read as some commands and an ending, and only as these
 abbrev pub HasOneReading : List ℕ → Type 0
 HasOneReading input =
     ((orders : List Order) × (ending : Ended) × Reads input orders ending)
     × ((orders others : List Order) (ending other : Ended) → Reads input orders ending
     → Reads input others other → (orders ≡ others) × (ending ≡ other))
 
--- apart from want of memory, this command has some answer with a session after it, and no other
+-- except out of memory, this command has one answer with a session after it, and no other
 abbrev pub HasOneStep : ℕ → State → Order → Type 0
 HasOneStep limit old order =
     ((answer : Answer) × (new : State) × (answer ≢ Err Memory) × Step limit old order answer new)
@@ -48,30 +48,30 @@ HasOneCost limit old order =
     ((n : ℕ) × Costs limit old order n)
     × ((m n : ℕ) → Costs limit old order m → Costs limit old order n → m ≡ n)
 
--- what follows a bad line changes nothing: with it and without it the same may be answered
+-- what follows a bad line changes nothing: the same answers are possible with it and without it
 abbrev pub EndsAtBadLine : ℕ → List ℕ → Type 0
 EndsAtBadLine limit input =
     (orders : List Order) → Reads input orders Command → (more output : List ℕ) (cost : ℕ)
     → Answers limit input Command output cost
     ↔ Answers limit (input ++ more) Command output cost
 
--- these bytes end in some way, and may then be answered
+-- these bytes have some ending and some answer
 abbrev pub HasAnswer : ℕ → List ℕ → Type 0
 HasAnswer limit input =
     (ending : Ended) × (output : List ℕ) × (cost : ℕ) × Answers limit input ending output cost
 
--- an answer is shown in some way, and in no other
+-- an answer is shown in one way, and in no other
 abbrev pub HasOneShow : State → Answer → Type 0
 HasOneShow session answer =
     ((bytes : List ℕ) × Shows session answer bytes)
     × ((bytes other : List ℕ) → Shows session answer bytes → Shows session answer other
     → bytes ≡ other)
 
--- this command, with what was kept of its payload, stands for some command of the definition
+-- this command, with what was kept of its payload, represents some command of the definition
 abbrev pub StandsForSome : ℕ → CommandOf Payload → Type 0
 StandsForSome limit command = (order : Order) × Stands limit command order
 
--- the chosen buffer is there, and so is its current text
+-- the chosen buffer exists, and so does its current text
 pub record HasCurrent (session : State) : Type 0 where
   pub chosen : session.chosen < length session.buffers
   pub current : (chosen_buffer session).current < length (chosen_buffer session).texts
@@ -81,11 +81,11 @@ pub record HoldsTexts (buffer : BufferState) : Type 0 where
   pub texts : All IsText buffer.texts
   pub pattern : IfSome buffer.pattern (λ p. IsText p × IsPattern p)
 
--- so it is of each buffer
+-- this holds of each buffer
 abbrev pub AllHoldTexts : State → Type 0
 AllHoldTexts session = All HoldsTexts session.buffers
 
--- it is so at first, and each command leaves it so
+-- it holds at first, and after each command
 pub record StepsHoldTexts : Type 0 where
   pub first : AllHoldTexts first_state
   pub step : (limit : ℕ) (old new : State) (order : Order) (answer : Answer)
@@ -109,20 +109,20 @@ UndoUndoesReplace = (limit : ℕ) (old edited new : State) (payload : List ℕ) 
     → HasCurrent old → Step limit old (ReplaceAll payload) (Ok reply) edited
     → Step limit edited UndoEdit (Ok undone) new → AreChosenAlike new old
 
--- an undo, and directly after it a redo, give back text and pattern
+-- so do an undo, and directly after it a redo
 abbrev pub RedoRedoesUndo : Type 0
 RedoRedoesUndo = (limit : ℕ) (old undone new : State) (reply redone : Reply) → HasCurrent old
     → Step limit old UndoEdit (Ok reply) undone → Step limit undone RedoEdit (Ok redone) new
     → AreChosenAlike new old
 
--- to this command two sessions reply alike, where text and pattern are the same
+-- two sessions with the same text and pattern reply alike to this command
 abbrev pub RepliesAlike : Order → Type 0
 RepliesAlike order = (limit limit' : ℕ) (session other new new' : State) (answer answer' : Answer)
     (bytes bytes' : List ℕ) → AreChosenAlike session other → Step limit session order answer new
     → Step limit' other order answer' new' → Shows new answer bytes → Shows new' answer' bytes'
     → bytes ≡ bytes'
 
--- and so they do to `next` from a position, but for want of memory
+-- they also do to `next` from a position, except out of memory
 abbrev pub FindsAlike : Type 0
 FindsAlike = (limit limit' : ℕ) (session other new new' : State) (from : Position)
     (answer answer' : Answer) (bytes bytes' : List ℕ) → AllHoldTexts session
@@ -130,8 +130,8 @@ FindsAlike = (limit limit' : ℕ) (session other new new' : State) (from : Posit
     → Step limit' other (FindNext from) answer' new' → answer ≢ Err Memory → answer' ≢ Err Memory
     → Shows new answer bytes → Shows new' answer' bytes' → bytes ≡ bytes'
 
--- a match told by its positions lies at the place of the one from which it was searched or behind
--- it, and starts and ends at boundaries
+-- a match, given by its positions, starts at the offset of the position from which it was searched
+-- or after it, and starts and ends at boundaries
 pub record IsFoundFrom (text : List ℕ) (from start end : Position) : Type 0 where
   pub place : ℕ
   pub span : ℕ × ℕ
@@ -139,14 +139,14 @@ pub record IsFoundFrom (text : List ℕ) (from start end : Position) : Type 0 wh
   pub lies : IsInText text place span
   pub told : ArePositionsOf text start end span
 
--- each match that `next` tells is one
+-- each match that `next` reports is such a one
 abbrev pub FindsBoundaries : Type 0
 FindsBoundaries = (limit : ℕ) (old new : State) (from start end : Position) → AllHoldTexts old
     → Step limit old (FindNext from) (Ok (Found start end)) new
     → IsFoundFrom (current_text (chosen_buffer old)) from start end
 
--- two positions are at places of a text, the second not before the first, and are the positions of
--- these places
+-- two positions are at offsets of a text, the second not before the first, and are the positions of
+-- these offsets
 pub record HavePlaces (text : List ℕ) (from to : Position) : Type 0 where
   pub start : ℕ
   pub end : ℕ
@@ -161,7 +161,7 @@ EditsHavePlaces = (limit : ℕ) (old new : State) (from to : Position) (payload 
     (reply : Reply) → Step limit old (EditText from to payload) (Ok reply) new
     → HavePlaces (current_text (chosen_buffer old)) from to
 
--- the report of a session is the one that its pattern, set anew, would give
+-- the report of a session is the one that its pattern would give if it were set again
 abbrev pub KeptIsAnew : Type 0
 KeptIsAnew = (limit : ℕ) (old new : State) (pattern payload : List ℕ) (reply : Reply)
     (rows anew : List (List (ℕ × ℕ)))
@@ -169,7 +169,7 @@ KeptIsAnew = (limit : ℕ) (old new : State) (pattern payload : List ℕ) (reply
     → Step limit old (SetPattern payload) (Ok reply) new
     → IsReportIn (chosen_buffer old) rows → IsReportIn (chosen_buffer new) anew → rows ≡ anew
 
--- and the pattern that a buffer has is taken again, want of memory aside
+-- the pattern of a buffer would be accepted again, except out of memory
 abbrev pub PatternsAreTaken : Type 0
 PatternsAreTaken = (limit : ℕ) (session : State) (pattern payload : List ℕ) → AllHoldTexts session
     → (chosen_buffer session).pattern ≡ Some pattern → Encodes pattern payload
@@ -181,8 +181,8 @@ OthersStay = (limit : ℕ) (old new : State) (order : Order) (answer : Answer) (
     → Step limit old order answer new → k < length old.buffers → k ≢ old.chosen
     → slice_index_or new.buffers k (fresh []) ≡ slice_index_or old.buffers k (fresh [])
 
--- where commands have led from the first session, each match of the report starts and ends at a
--- boundary of the current text
+-- after commands from the first session, each match of the report starts and ends at a boundary of
+-- the current text
 abbrev pub ListsBoundaries : Type 0
 ListsBoundaries = (limit : ℕ) (orders : List Order) (out : List ℕ) (cost : ℕ) (session : State)
     (rows : List (List (ℕ × ℕ))) (line : ℕ) → Run limit first_state orders out cost session
@@ -190,8 +190,9 @@ ListsBoundaries = (limit : ℕ) (orders : List Order) (out : List ℕ) (cost : �
     → All (StandsAtBoundaries (current_text (chosen_buffer session)) line)
     (slice_index_or rows line [])
 
--- all matches of a buffer's pattern in its current text were replaced, so many: they follow each
--- other, and each starts and ends at a boundary; all text outside them stays, in order
+-- all matches of a buffer's pattern in its current text were replaced, and this is their number:
+-- they follow each other, and each starts and ends at a boundary; all text outside them stays, in
+-- order
 pub record KeepsTheRest (old : BufferState) (template new : List ℕ) (count : ℕ) : Type 0 where
   pub matches : List Groups
   pub are : AreMatchesOfBuffer old matches
@@ -200,7 +201,7 @@ pub record KeepsTheRest (old : BufferState) (template new : List ℕ) (count : �
   pub stays : AreChanges (changes_of (bytes_of (current_text old)) template 0 0 matches) 0 0
       (current_text old) new (searched (bytes_of (current_text old)) template matches)
 
--- `replace` answers how many
+-- `replace` replies with the number
 abbrev pub ReplaceKeepsTheRest : Type 0
 ReplaceKeepsTheRest = (limit : ℕ) (old new : State) (payload : List ℕ) (count : ℕ)
     → AllHoldTexts old → HasCurrent old
@@ -215,7 +216,7 @@ pub record AreTurned (text : List ℕ) (from to : Position) : Type 0 where
   pub ends : IsAt text (to.line, to.column) end
   pub turned : end < start
 
--- nothing stands between two positions exactly where one is nowhere or the second is before the
+-- two positions have no text between them exactly if one is nowhere or the second is before the
 -- first
 abbrev pub NoneIsNowhereOrTurned : Type 0
 NoneIsNowhereOrTurned = (text : List ℕ) (from to : Position) → IsText text
@@ -223,7 +224,7 @@ NoneIsNowhereOrTurned = (text : List ℕ) (from to : Position) → IsText text
     ↔ (IsNowhere text (from.line, from.column)
     ⊎ (IsNowhere text (to.line, to.column) ⊎ AreTurned text from to))
 
--- what is known of places, of patterns, of what is found of them, and of what replaces that
+-- the laws of offsets, of patterns, of matches, and of replacements
 pub record Known : Type 0 where
   pub placed : HasOnePlace
   pub told : IsPatternOrNot

@@ -1,4 +1,4 @@
--- Lines by themselves: how long their texts are, and columns that count bytes, UTF-16 code units or
+-- Single lines: the lengths of their texts, and columns that count bytes, UTF-16 code units or
 -- characters.
 use Rattle.std.specs.Prelude.{◌≡◌, ℕ, ◌+◌, ◌-◌, ◌<◌, ◌≤◌, nat_le, if◌then◌else◌, All, List, [], ◌∷◌, ◌++◌, length, map, slice_index_or}
 use Rattle.str_indices.specs.Text.{byte_len, units, units_of}
@@ -10,7 +10,7 @@ use Rattle.rope_search.specs.Encodings.{IsAtIn, column_in}
 use Rattle.rope_search.specs.declared.encodings.Encoding.{Encoding}
 use Rattle.rope_search.specs.declared.encodings.Encoding.TheVariants.{Utf8, Utf16, Utf32}
 
--- how long a text is: how many bytes, UTF-16 code units or characters it has
+-- the length of a text: its number of bytes, UTF-16 code units or characters
 abbrev pub length_in : Encoding → List ℕ → ℕ
 length_in Utf8 text = byte_len text
 length_in Utf16 text = units text
@@ -18,15 +18,15 @@ length_in Utf32 text = length text
 
 -- ---- clamped positions
 
--- of the places in the line's text, or at its end, this is the last whose column is no greater
+-- of the offsets in the line's text, or at its end, this is the last whose column is no greater
 pub record IsNearest (encoding : Encoding) (text : List ℕ) (line column place : ℕ) : Type 0 where
   pub line_is : line ≡ line_at text place
   pub fits : column_in encoding text place ≤ column
   pub last : (other own : ℕ) → IsAtIn encoding text line own other → own ≤ column → other ≤ place
 
--- The position to which a line and a column are clamped: at that place, which is the end of the line's
--- text for a column past it, and the start of a character or a surrogate pair for a column inside; and
--- at the text's end for a line past the last one.
+-- The position to which a line and a column are clamped: at that offset, which is the end of the
+-- line's text for a column past it, and the start of a character or a surrogate pair for a column
+-- inside; and at the text's end for a line past the last one.
 pub record IsClamped (encoding : Encoding) (text : List ℕ) (line column : ℕ)
     (spot : Position) : Type 0 where
   pub place : ℕ
@@ -34,7 +34,7 @@ pub record IsClamped (encoding : Encoding) (text : List ℕ) (line column : ℕ)
   pub inside : line < line_count text → IsNearest encoding text line column place
   pub past : line_count text ≤ line → place ≡ byte_len text
 
--- of all fronts of a line's text that are no longer than the column this is the longest
+-- the longest of all prefixes of a line's text that are no longer than the column
 pub record IsLongestFront (encoding : Encoding) (line : List ℕ) (column : ℕ)
     (front : List ℕ) : Type 0 where
   pub back : List ℕ
@@ -45,17 +45,17 @@ pub record IsLongestFront (encoding : Encoding) (line : List ℕ) (column : ℕ)
 
 -- ---- columns of a report
 
--- the longest front of a text with at most so many UTF-16 code units
+-- the longest prefix of a text with at most this number of UTF-16 code units
 abbrev pub front_to : ℕ → List ℕ → List ℕ
 front_to column [] = []
 front_to column (c ∷ cs) =
     if nat_le (units_of c) column then c ∷ front_to (column - units_of c) cs else []
 
--- the column is that of a place between two characters, or at the start or the end of the text
+-- the column is that of an offset at a character boundary
 abbrev pub IsColumnOf : List ℕ → ℕ → Type 0
 IsColumnOf text column = units (front_to column text) ≡ column
 
--- the column of that place in an encoding: how long the text before it is
+-- the column of that offset in an encoding: the length of the text before it
 abbrev pub column_as : Encoding → List ℕ → ℕ → ℕ
 column_as encoding text column = length_in encoding (front_to column text)
 
@@ -67,7 +67,7 @@ abbrev pub columns_as : Encoding → List ℕ → ℕ × ℕ → ℕ × ℕ
 columns_as encoding text columns =
     (column_as encoding text columns.0, column_as encoding text columns.1)
 
--- rows of a report, the first of which is that of this line, with their columns in an encoding
+-- rows of a report, the first of which is that of this line, with columns in an encoding
 unfoldable pub rows_as : Encoding → List ℕ → ℕ → List (List (ℕ × ℕ)) → List (List (ℕ × ℕ))
 rows_as encoding text line [] = []
 rows_as encoding text line (row ∷ rows) =

@@ -1,5 +1,4 @@
--- The matches that a report lists: those of one line after the other, and of each line from the
--- left.
+-- The matches in a report, in order: line by line, and in each line from left to right.
 use Rattle.std.specs.Prelude.{◌≡◌, ℕ, ◌+◌, ◌<◌, ◌⊎◌, List, [], length, take, Option, None, Some, slice_get, slice_index_or}
 use Rattle.rope_search_reports.specs.Report.{match_count}
 use Rattle.rope_search_reports.specs.declared.positions.Position.{Position}
@@ -12,7 +11,7 @@ abbrev pub IsListed : List (List (ℕ × ℕ)) → ListedMatch → Type 0
 IsListed rows match =
     slice_get (slice_index_or rows match.line []) match.number ≡ Some (match.start, match.end)
 
--- one pair is before another: by its first number, and where that is the same by its second
+-- one pair is before another: by its first number, or if these are the same by its second
 abbrev pub IsPairBefore : ℕ × ℕ → ℕ × ℕ → Type 0
 IsPairBefore pair other = (pair.0 < other.0) ⊎ ((pair.0 ≡ other.0) × (pair.1 < other.1))
 
@@ -59,20 +58,20 @@ TellsLastBefore rows position (Some match) = IsLastBefore rows position match
 
 -- ---- among all
 
--- so many matches are listed before the one of a line and a number, and so many there are in all
+-- the number of matches before the one of a line and a number, and the number of all
 pub record IsIndexIn (rows : List (List (ℕ × ℕ))) (line number : ℕ) (told : ListIndex) : Type 0 where
   pub inside : number < length (slice_index_or rows line [])
   pub index : told.index ≡ match_count (take line rows) + number
   pub count : told.count ≡ match_count rows
 
--- that, or that no match is listed there
+-- that, or that there is no such match
 abbrev pub TellsIndex : List (List (ℕ × ℕ)) → ℕ → ℕ → Option ListIndex → Type 0
 TellsIndex rows line number None = slice_get (slice_index_or rows line []) number ≡ None
 TellsIndex rows line number (Some told) = IsIndexIn rows line number told
 
 -- ---- in a buffer
 
--- P holds of the rows of the buffer's report, of which there are none without a pattern
+-- P holds of the rows of the buffer's report; without a pattern there are none
 pub record OfReport (buffer : BufferState) (P : List (List (ℕ × ℕ)) → Type 0) : Type 0 where
   pub rows : List (List (ℕ × ℕ))
   pub are : IsReportIn buffer rows

@@ -1,4 +1,4 @@
--- A command with its payload in full.
+-- A command with its whole payload.
 use Rattle.std.specs.Prelude.{◌≡◌, ℕ, List}
 use Rattle.rope_search.specs.declared.commands.CommandOf.{CommandOf}
 use Rattle.rope_search_reports.specs.Pattern.{pattern_limit}
@@ -8,7 +8,7 @@ abbrev pub Order : Type 0
 Order = CommandOf (List ℕ)
 
 -- the order has the command's word, its positions and its numbers, and its payload is in this
--- relation to what there is of it, under a limit on the payload's bytes: that on texts, or that on
+-- relation to what is known of it, under a limit on the payload's bytes: that on texts, or that on
 -- patterns
 abbrev pub IsOf : {P : Type 0} → (ℕ → P → List ℕ → Type 0) → ℕ → CommandOf P → Order → Type 0
 IsOf R limit (SetText p) (SetText bytes) = R limit p bytes

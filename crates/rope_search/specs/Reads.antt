@@ -1,11 +1,11 @@
--- How commands are spelled, and how the bytes of an input are read as commands and an ending.
+-- The spelling of commands, and how the bytes of an input are read as commands and an ending.
 use Rattle.std.specs.Prelude.{◌≡◌, ◌≢◌, ℕ, ◌+◌, ◌-◌, ◌*◌, ◌^◌, ◌<◌, ◌≤◌, ◌⊎◌, List, [], ◌∷◌, ◌++◌, length, codes}
 use Rattle.std.specs.List.{AllByRecursion}
 use Rattle.rope_search.specs.declared.endings.Ended.{Ended}
 use Rattle.rope_search.specs.declared.endings.Ended.TheVariants.{Input, Command, Cut}
 use Rattle.rope_search.specs.Order.{Order, SetText, EditText, UndoEdit, RedoEdit, PrintText, ForkBuffer, SetPattern, DropPattern, ListMatches, FindNext, ReplaceAll, UseBuffer}
 
--- the number that decimal digits spell after those of n
+-- the number that decimal digits spell after those of `n`
 abbrev pub digits_after : ℕ → List ℕ → ℕ
 digits_after n [] = n
 digits_after n (digit ∷ digits) = digits_after (10 * n + (digit - 48)) digits
@@ -18,7 +18,7 @@ pub record IsNumber (digits : List ℕ) (n : ℕ) : Type 0 where
   pub value : digits_after 0 digits ≡ n
   pub fits : n < 2 ^ 64
 
--- the bytes that follow a command's line
+-- the bytes after a command's line
 abbrev pub payload_of : Order → List ℕ
 payload_of (SetText payload) = payload
 payload_of (EditText from to payload) = payload
@@ -40,7 +40,7 @@ AreSpelled (n ∷ ns) bytes =
     (digits : List ℕ) × (others : List ℕ) × IsNumber digits n × AreSpelled ns others
     × (bytes ≡ 32 ∷ digits ++ others)
 
--- a line is a word and then these numbers
+-- a line is a word followed by these numbers
 abbrev pub IsWorded : List ℕ → List ℕ → List ℕ → Type 0
 IsWorded word line ns = (numbers : List ℕ) × AreSpelled ns numbers × (line ≡ word ++ numbers)
 
@@ -79,11 +79,11 @@ abbrev pub SpellAll : List Order → List ℕ → Type 0
 SpellAll [] bytes = bytes ≡ []
 SpellAll (order ∷ orders) bytes = SpellsFirst order bytes (λ back. SpellAll orders back)
 
--- there is no LF among these bytes
+-- none of these bytes is an LF
 abbrev pub HasNoLf : List ℕ → Type 0
 HasNoLf bytes = AllByRecursion (λ b. b ≢ 10) bytes
 
--- a line of at most 128 bytes that is no command's, and its LF
+-- a line of at most 128 bytes that is no command's, with its LF
 pub record IsBadLine (rest : List ℕ) : Type 0 where
   pub line : List ℕ
   pub more : List ℕ
@@ -92,7 +92,7 @@ pub record IsBadLine (rest : List ℕ) : Type 0 where
   pub whole : rest ≡ line ++ 10 ∷ more
   pub no_command : (order : Order) → IsLine order line → ⊥
 
--- 129 bytes and no LF among them
+-- 129 bytes without an LF
 pub record IsLongLine (rest : List ℕ) : Type 0 where
   pub line : List ℕ
   pub more : List ℕ
@@ -106,7 +106,7 @@ pub record IsPartLine (rest : List ℕ) : Type 0 where
   pub some : 0 < length rest
   pub short : length rest ≤ 128
 
--- a command's line, and fewer bytes after it than its payload has
+-- a command's line, followed by fewer bytes than its payload has
 pub record IsPartPayload (rest : List ℕ) : Type 0 where
   pub order : Order
   pub line : List ℕ
@@ -115,13 +115,13 @@ pub record IsPartPayload (rest : List ℕ) : Type 0 where
   pub whole : rest ≡ line ++ 10 ∷ part
   pub short : length part < length (payload_of order)
 
--- what is left where no command can be read any more, and how the input ended by it
+-- the rest, in which no command can be read, and the ending that it means
 abbrev pub Ends : List ℕ → Ended → Type 0
 Ends rest Input = rest ≡ []
 Ends rest Command = IsBadLine rest ⊎ IsLongLine rest
 Ends rest Cut = IsPartLine rest ⊎ IsPartPayload rest
 
--- an input is read as these commands, and then ends so
+-- an input is read as these commands, followed by this ending
 pub record Reads (input : List ℕ) (orders : List Order) (ending : Ended) : Type 0 where
   pub spelled : List ℕ
   pub rest : List ℕ

@@ -1,4 +1,4 @@
--- What reading a line, a payload and a command take from the source.
+-- What is read from the source for a line, a payload and a command.
 use Rattle.std.specs.Prelude.{◌≡◌, ℕ, ◌<◌, ◌≤◌, ◌↔◌, ◌⊎◌, List, [], ◌∷◌, ◌++◌, length, take, Bool, true, false, Option, None, Some, Result, Ok, Err, IsUtf8}
 use Rattle.rope_search_io.specs.declared.faults.Broken.{Broken}
 use Rattle.rope_search_io.specs.Sources.{SourceState}
@@ -32,21 +32,21 @@ TakesLine (Err broken) line old new source source' =
     (bytes : List ℕ) × (length bytes ≤ 128) × HasNoLf bytes
     × TakesUntil broken old new source source' bytes
 
--- of a payload with this many bytes in all, what is kept of those before; it is judged alone
--- exactly where it is over the limit, and may be lost only where it isn't
+-- what is kept of the bytes so far, of a payload with `len` bytes in all. If it is over the limit,
+-- only whether they are UTF-8 is kept; otherwise the bytes, or nothing
 abbrev pub Collects : ℕ → ℕ → Collected → List ℕ → Type 0
 Collects limit len (Kept bytes) before = (len ≤ limit) × (bytes.items ≡ before)
 Collects limit len (Judged judge) before =
     (limit < len) × ((more : List ℕ) → IsUtf8 (before ++ more) ↔ Continues judge more)
 Collects limit len Lost before = len ≤ limit
 
--- what is kept of more bytes, where it was of those before
+-- what is kept after more bytes, from what was kept before
 abbrev pub CollectsMore : Collected → Collected → List ℕ → Type 0
 CollectsMore old new bytes =
     (limit len : ℕ) (before : List ℕ) → Collects limit len old before
     → Collects limit len new (before ++ bytes)
 
--- a payload of this many bytes was taken, or fewer, before the end or where no more came
+-- a payload of this many bytes was taken, or fewer, before the end or before an error
 abbrev pub TakesPayload : Result Bool Broken → ℕ → Collected → Collected → Unread → Unread
     → SourceState → SourceState → Type 0
 TakesPayload (Ok true) len kept kept' old new source source' =
@@ -58,7 +58,7 @@ TakesPayload (Err broken) len kept kept' old new source source' =
     (bytes : List ℕ) × (length bytes < len) × TakesUntil broken old new source source' bytes
 
 -- a payload of this many bytes was read, and collected under a limit on them; or the input ended
--- before, or no more came
+-- before, or there was an error
 abbrev pub TakesCollected : Result (Option Collected) Broken → ℕ → ℕ → Unread → Unread → SourceState
     → SourceState → Type 0
 TakesCollected (Ok (Some collected)) limit len old new source source' =
@@ -84,31 +84,31 @@ pub record TakesOrder (limit : ℕ) (header : CommandOf ℕ) (kept : Collected) 
   pub is : IsReadAs limit header kept order
   pub taken : Takes old new source source' bytes
 
--- after these bytes the source has told its end, but for a line that is no command
+-- after these bytes the source reported its end, except for a line that is no command
 abbrev pub TakesTo : Ended → Unread → Unread → SourceState → SourceState → List ℕ → Type 0
 TakesTo Command old new source source' bytes = Takes old new source source' bytes
 TakesTo Input old new source source' bytes = TakesLast old new source source' bytes
 TakesTo Cut old new source source' bytes = TakesLast old new source source' bytes
 
--- bytes were taken with which the input ends so
+-- bytes were taken with which the input ends like this
 pub record TakesEnding (ending : Ended) (old new : Unread)
     (source source' : SourceState) : Type 0 where
   pub rest : List ℕ
   pub ends : Ends rest ending
   pub taken : TakesTo ending old new source source' rest
 
--- no command is whole in these bytes, and none is known to be wrong
+-- these bytes contain no whole command, and none that is known to be wrong
 abbrev pub IsUnfinished : List ℕ → Type 0
 IsUnfinished rest = Ends rest Input ⊎ Ends rest Cut
 
--- bytes were taken that are no whole command, and then no more came
+-- bytes were taken that are no whole command, and then there was an error
 pub record TakesUnfinished (broken : Broken) (old new : Unread)
     (source source' : SourceState) : Type 0 where
   pub rest : List ℕ
   pub unfinished : IsUnfinished rest
   pub taken : TakesUntil broken old new source source' rest
 
--- a command was read whole, or the input ended, or no more bytes came
+-- a command was read whole, or the input ended, or there was an error
 abbrev pub TakesRequest : ℕ → Result Request Broken → Unread → Unread → SourceState → SourceState
     → Type 0
 TakesRequest limit (Ok (Given header kept)) old new source source' =
@@ -126,7 +126,7 @@ pub record TakesRestOf (limit : ℕ) (header given : CommandOf ℕ) (kept : Coll
   pub is : IsReadAs limit given kept order
   pub taken : Takes old new source source' (payload_of order)
 
--- fewer bytes than the payload of a command with this header were taken, so
+-- fewer bytes than the payload of a command with this header were taken
 pub record TakesPartOf (header : CommandOf ℕ) (Taken : List ℕ → Type 0) : Type 0 where
   pub order : Order
   pub of_header : IsHeaderOf header order

@@ -1,4 +1,4 @@
--- What a whole run did, by what its source and its sink tell.
+-- What a whole run did, from what its source and its sink report.
 use Rattle.std.specs.Prelude.{◌≡◌, ◌≢◌, ℕ, ◌+◌, ◌^◌, ◌≤◌, ◌⊎◌, List, [], ◌∷◌, ◌++◌, sum_by, Option, None, Some, IfSome, Result, Ok, Err}
 use Rattle.std.specs.Io.KnownBytes.{Appends, Consumes, IsAtEnd}
 use Rattle.rope_search_io.specs.declared.faults.Broken.{Broken}
@@ -18,26 +18,26 @@ use Rattle.rope_search.specs.Cost.{Costs, whole_searches}
 use Rattle.rope_search.specs.Answers.{Run, Answers}
 use Rattle.rope_search.specs.Requests.{TakesEnding, TakesUnfinished}
 
--- exactly one read told the end, and all bytes were read; a line that is no command needs none, and
--- none told it
+-- exactly one read reported the end, and all bytes were read; a line that is no command needs none,
+-- and none reported it
 abbrev pub TellsEnd : Ended → SourceState → SourceState → Type 0
 TellsEnd Command source source' = source'.ends ≡ source.ends
 TellsEnd Input source source' = (source'.ends ≡ source.ends + 1) × IsAtEnd source'.left
 TellsEnd Cut source source' = (source'.ends ≡ source.ends + 1) × IsAtEnd source'.left
 
--- no more rows were made than this cost, and whole texts were searched no more often than these
--- commands may; no count fell
+-- at most `cost` rows were made, and whole texts were searched at most as often as these commands
+-- may; no count decreased
 pub record SearchesWithin (orders : List Order) (cost : ℕ) (ticks ticks' : Ticks) : Type 0 where
   pub rows : ticks'.count ≤ ticks.count + cost
   pub wholes : ticks'.wholes ≤ ticks.wholes + sum_by whole_searches orders
   pub never_fall : NeverFall ticks ticks'
 
--- the sink was flushed once, and after all that was written
+-- the sink was flushed once, after everything was written
 pub record FlushesAll (sink sink' : SinkState) : Type 0 where
   pub once : sink'.flushes ≡ sink.flushes + 1
   pub nothing_left : sink'.unflushed ≡ 0
 
--- the sink was not flushed; or once, where none of these bytes are lost
+-- the sink was not flushed; or once, if none of these bytes is lost
 abbrev pub FlushesLast : SinkState → SinkState → List ℕ → Type 0
 FlushesLast sink sink' lost =
     (sink'.flushes ≡ sink.flushes) ⊎ ((sink'.flushes ≡ sink.flushes + 1) × (lost ≡ []))
@@ -66,7 +66,7 @@ StopsFor Turns source source' =
 StopsFor Write source source' = ⊥
 StopsFor Memory source source' = ⊥
 
--- all replies to the commands that were read whole were written, and then no more bytes came
+-- all replies to the commands that were read whole were written, and then there was an error
 pub record StopsReading (limit : ℕ) (broken : Broken) (source source' : SourceState)
     (sink sink' : SinkState) (ticks ticks' : Ticks) : Type 0 where
   pub input : List ℕ
@@ -87,15 +87,15 @@ pub record StopsReading (limit : ℕ) (broken : Broken) (source source' : Source
   pub wrote_soundly : sink'.failures ≡ sink.failures
   pub flushed : sink'.flushes ≡ sink.flushes
 
--- the ending's line, where the ending was met: by a line that is no command, or by a read that told
--- the end
+-- the ending's line, if the ending was reached: by a line that is no command, or by a read that
+-- reported the end
 abbrev pub IsMet : Ended → SourceState → SourceState → List ℕ → Type 0
 IsMet ending source source' line =
     ((line ≡ []) × (source'.ends ≡ source.ends))
     ⊎ ((line ≡ closing ending) × TellsEnd ending source source')
 
--- of the replies to the commands that were read whole, and the ending's line where that was met, a
--- front was written, and then the sink failed
+-- a prefix of the replies to the commands that were read whole, and of the ending's line if that
+-- was reached, was written, and then the sink failed
 pub record StopsWriting (limit : ℕ) (source source' : SourceState) (sink sink' : SinkState)
     (ticks ticks' : Ticks) : Type 0 where
   pub input : List ℕ
@@ -119,7 +119,7 @@ pub record StopsWriting (limit : ℕ) (source source' : SourceState) (sink sink'
   pub failed : sink'.failures ≡ sink.failures + 1
   pub flushed : FlushesLast sink sink' lost
 
--- what a run did that answers so
+-- what a run with this result did
 abbrev pub Ran : ℕ → Result Ended Broken → SourceState → SourceState → SinkState → SinkState → Ticks
     → Ticks → Type 0
 Ran limit (Ok ending) source source' sink sink' ticks ticks' =
@@ -142,7 +142,7 @@ pub record IsAnswerTo (limit : ℕ) (ending : Ended) (input : List ℕ) (sink si
   pub searches : SearchesWithin answers.orders cost ticks ticks'
   pub flushed : FlushesAll sink sink'
 
--- a run that ends has answered all that its source had to give, where that is known
+-- a run that ends has answered everything that its source had, if that is known
 abbrev pub AnswersWhole : ℕ → Result Ended Broken → SourceState → SinkState → SinkState → Ticks
     → Ticks → Type 0
 AnswersWhole limit (Ok ending) source sink sink' ticks ticks' =
@@ -169,7 +169,7 @@ start source sink ticks = record {
   ticks = ticks;
 }
 
--- a command was read and carried out, and of its reply so much was written
+-- a command was read and executed, and this is what was written of its reply
 pub record Turned (limit : ℕ) (old new : Scene) (Written : List ℕ → Type 0) : Type 0 where
   pub order : Order
   pub bytes : List ℕ
@@ -182,13 +182,13 @@ pub record Turned (limit : ℕ) (old new : Scene) (Written : List ℕ → Type 0
   pub reply : IsShown new.session answer Written
   pub searches : SearchesWithin (order ∷ []) cost old.ticks new.ticks
 
--- the session, the sink and the counts are as before
+-- the session, the sink and the counts are unchanged
 pub record OnlyReads (old new : Scene) : Type 0 where
   pub session : new.session ≡ old.session
   pub sink : new.sink ≡ old.sink
   pub ticks : new.ticks ≡ old.ticks
 
--- one turn: a command, or how the input ended, or why the run broke off
+-- one turn: a command, or how the input ended, or why the run stopped
 abbrev pub TakesTurn : ℕ → Result (Option Ended) Broken → Scene → Scene → Type 0
 TakesTurn limit (Ok None) old new = Turned limit old new (Writes old.sink new.sink)
 TakesTurn limit (Ok (Some ending)) old new =
@@ -209,13 +209,13 @@ pub record SoFar (limit : ℕ) (old now : Scene) : Type 0 where
   pub written : Writes old.sink now.sink out
   pub searches : SearchesWithin orders cost old.ticks now.ticks
 
--- the ending's line was written, and then the sink flushed
+-- the ending's line was written, and then the sink was flushed
 pub record ClosesWhole (ending : Ended) (sink sink' : SinkState) : Type 0 where
   pub appended : Appends sink.held sink'.held (closing ending)
   pub sound : sink'.failures ≡ sink.failures
   pub flushed : FlushesAll sink sink'
 
--- a front of the ending's line was written, or all of it, and then the sink failed
+-- a prefix of the ending's line was written, or all of it, and then the sink failed
 pub record ClosesFront (ending : Ended) (sink sink' : SinkState) : Type 0 where
   pub front : List ℕ
   pub lost : List ℕ
@@ -224,7 +224,7 @@ pub record ClosesFront (ending : Ended) (sink sink' : SinkState) : Type 0 where
   pub failed : sink'.failures ≡ sink.failures + 1
   pub flushed : FlushesLast sink sink' lost
 
--- the ending's line was written and flushed, or a front of it was written
+-- the ending's line was written and flushed, or a prefix of it was written
 abbrev pub Closes : {T : Type 0} → Result T Broken → Ended → SinkState → SinkState → Type 0
 Closes (Ok done) ending sink sink' = ClosesWhole ending sink sink'
 Closes (Err Write) ending sink sink' = ClosesFront ending sink sink'

@@ -1,4 +1,4 @@
--- Which commands a command with what was kept of its payload stands for.
+-- The commands that a command with what was kept of its payload represents.
 use Rattle.std.specs.Prelude.{◌≡◌, ℕ, ◌<◌, ◌↔◌, List, length, IsTrue, IsUtf8, Option, None, Some}
 use Rattle.rope_search.specs.declared.commands.CommandOf.{CommandOf}
 use Rattle.rope_search.specs.declared.commands.Payload.{Payload}
@@ -6,21 +6,21 @@ use Rattle.rope_search.specs.declared.commands.Payload.TheVariants.{Kept, Long, 
 use Rattle.rope_search.specs.Order.{Order, SetText, EditText, UndoEdit, RedoEdit, PrintText, ForkBuffer, SetPattern, DropPattern, ListMatches, FindNext, ReplaceAll, UseBuffer, IsOf}
 use Rattle.rope_search_reports.specs.Pattern.{pattern_limit}
 
--- what was kept of a payload stands for each payload of its kind, under a limit on its bytes
+-- what was kept of a payload represents each payload of its kind, under a limit on its bytes
 abbrev pub StandsFor : ℕ → Payload → List ℕ → Type 0
 StandsFor limit (Kept bytes) payload = payload ≡ bytes.now
 StandsFor limit (Long utf8) payload = (limit < length payload) × (IsTrue utf8 ↔ IsUtf8 payload)
 StandsFor limit Lost payload = Unit {0}
 
--- the command stands for this one, whose payload is in full
+-- the command represents this one, which has its whole payload
 abbrev pub Stands : ℕ → CommandOf Payload → Order → Type 0
 Stands limit command order = IsOf StandsFor limit command order
 
--- P holds of each command in full that this one stands for
+-- P holds of each whole command that this one represents
 abbrev pub ForOrders : ℕ → CommandOf Payload → (Order → Type 0) → Type 0
 ForOrders limit command P = (order : Order) → Stands limit command order → P order
 
--- what was kept of the command's payload, where it has one
+-- what was kept of the command's payload, if it has one
 abbrev pub kept_of : CommandOf Payload → Option Payload
 kept_of (SetText payload) = Some payload
 kept_of (EditText from to payload) = Some payload
@@ -35,7 +35,7 @@ kept_of (FindNext from) = None
 kept_of (ReplaceAll payload) = Some payload
 kept_of (UseBuffer k) = None
 
--- how many bytes of a command's payload are kept at most, under a limit on texts
+-- the maximum number of bytes of a command's payload that are kept, under a limit on texts
 abbrev pub limit_on : {P : Type 0} → CommandOf P → ℕ → ℕ
 limit_on (SetText p) limit = limit
 limit_on (EditText from to p) limit = limit

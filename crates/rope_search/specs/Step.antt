@@ -1,4 +1,4 @@
--- One step of a session: what a command may be answered, and the session after it.
+-- One step of a session: the answers that a command may have, and the session after it.
 use Rattle.std.specs.Prelude.{◌≡◌, ℕ, ◌<◌, ◌≤◌, ◌⊎◌, List, [], ◌∷◌, ◌++◌, length, None, Some, ◌+◌, Result, Ok, Err, IsUtf8, chars}
 use Rattle.rope_search_io.specs.declared.faults.Fault.{Fault}
 use Rattle.rope_search_io.specs.declared.faults.Fault.TheVariants.{Nothing, Range, Utf8, Pattern, Limit, Size, Memory}
@@ -14,11 +14,11 @@ use Rattle.rope_search_reports.specs.Position.{IsNowhere}
 use Rattle.rope_search.specs.Finding.{TellsPositions}
 use Rattle.rope_search.specs.Replacing.{IsReplacement, GetsTooLongWith}
 
--- what a command is answered: a reply, or why it is refused
+-- the answer to a command: a reply, or why it is refused
 abbrev pub Answer : Type 0
 Answer = Result Reply Fault
 
--- why a command is refused, under a limit on the bytes of a text. Want of memory refuses none
+-- why a command is refused, under a limit on the bytes of a text. Out of memory refuses none
 abbrev pub Refuses : ℕ → State → Order → Fault → Type 0
 -- the payload isn't UTF-8, or the new text would have too many bytes
 Refuses limit session (SetText payload) Utf8 = ¬ (IsUtf8 payload)
@@ -32,7 +32,7 @@ Refuses limit session (EditText from to payload) Utf8 = ¬ (IsUtf8 payload)
 Refuses limit session (EditText from to payload) Size =
     GetsTooLong limit (current_text (chosen_buffer session)) from to (length payload)
 Refuses limit session (EditText from to payload) fault = ⊥
--- there is no text before the current one, or none behind it
+-- there is no text before the current one, or none after it
 Refuses limit session UndoEdit Nothing = (chosen_buffer session).current ≡ 0
 Refuses limit session UndoEdit fault = ⊥
 Refuses limit session RedoEdit Nothing =
@@ -40,8 +40,8 @@ Refuses limit session RedoEdit Nothing =
 Refuses limit session RedoEdit fault = ⊥
 Refuses limit session PrintText fault = ⊥
 Refuses limit session ForkBuffer fault = ⊥
--- the payload isn't UTF-8, or spells no pattern, or is too long or too heavy; one that is too long
--- isn't judged
+-- the payload isn't UTF-8, spells no pattern, or is too long or too heavy; the grammar isn't
+-- checked for one that is too long
 Refuses limit session (SetPattern payload) Utf8 = ¬ (IsUtf8 payload)
 Refuses limit session (SetPattern payload) Pattern =
     (length payload ≤ pattern_limit) × SpellsNone (chars payload)
@@ -67,7 +67,7 @@ Refuses limit session (ReplaceAll payload) fault = ⊥
 Refuses limit session (UseBuffer k) Nothing = length session.buffers ≤ k
 Refuses limit session (UseBuffer k) fault = ⊥
 
--- of all reasons to refuse the command, this comes first
+-- the first of all reasons to refuse the command
 pub record IsFirstRefusal (limit : ℕ) (session : State) (order : Order)
     (fault : Fault) : Type 0 where
   pub refuses : Refuses limit session order fault
@@ -78,11 +78,11 @@ pub record IsFirstRefusal (limit : ℕ) (session : State) (order : Order)
 abbrev pub Accepts : ℕ → State → Order → Type 0
 Accepts limit session order = (fault : Fault) → Refuses limit session order fault → ⊥
 
--- whether a command takes memory in this session, and may be answered that there is none
+-- whether a command takes memory in this session, so that the answer may be that there is none
 abbrev pub TakesMemory : State → Order → Type 0
 TakesMemory session (SetText payload) = Unit {0}
 TakesMemory session (EditText from to payload) = Unit {0}
--- only where there is a report, of which rows are made anew
+-- only if there is a report, of which rows are computed again
 TakesMemory session UndoEdit = (chosen_buffer session).pattern ≡ None → ⊥
 TakesMemory session RedoEdit = (chosen_buffer session).pattern ≡ None → ⊥
 TakesMemory session PrintText = ⊥
@@ -100,15 +100,15 @@ abbrev pub Does : State → Order → Reply → State → Type 0
 Does old (SetText payload) Done new =
     (text : List ℕ) × Encodes text payload
     × (new ≡ with_chosen old (with_text (chosen_buffer old) text))
--- the payload's text takes the place of what stands between the positions; the texts that could be
--- redone are dropped
+-- the payload's text replaces the text between the positions; the texts that could be redone are
+-- dropped
 Does old (EditText from to payload) Done new =
     (inserted : List ℕ) × (edited : BufferState) × Encodes inserted payload
     × IsEdit (chosen_buffer old) from to inserted edited × (new ≡ with_chosen old edited)
 Does old UndoEdit Done new = new ≡ with_chosen old (undone (chosen_buffer old))
 Does old RedoEdit Done new = new ≡ with_chosen old (redone (chosen_buffer old))
 Does old PrintText Print new = new ≡ old
--- the new buffer has the current text alone, and comes last; the chosen one stays
+-- the new buffer has only the current text, and is the last one; the chosen one stays
 Does old ForkBuffer (Number k) new =
     (k ≡ length old.buffers)
     × (new ≡ record old { buffers = old.buffers ++ fresh (current_text (chosen_buffer old)) ∷ [] })
@@ -118,11 +118,11 @@ Does old (SetPattern payload) Done new =
     × (new ≡ with_chosen old (with_pattern (chosen_buffer old) (Some pattern)))
 Does old DropPattern Done new = new ≡ with_chosen old (with_pattern (chosen_buffer old) None)
 Does old ListMatches Listing new = new ≡ old
--- what is found at the position or behind it, or that nothing is
+-- the match found at the position or after it, or that there is none
 Does old (FindNext from) (Found start end) new =
     TellsPositions (chosen_buffer old) from (Some (start, end)) × (new ≡ old)
 Does old (FindNext from) NoMatch new = TellsPositions (chosen_buffer old) from None × (new ≡ old)
--- what the payload's text stands for takes the place of each match, of which the number is told; the
+-- each match is replaced by the expansion of the payload's text, and the reply is their number; the
 -- texts that could be redone are dropped
 Does old (ReplaceAll payload) (Number k) new =
     (template : List ℕ) × (edited : BufferState) × Encodes template payload
@@ -131,7 +131,7 @@ Does old (UseBuffer k) Done new = new ≡ record old { chosen = k }
 -- no other reply is given
 Does old order reply new = ⊥
 
--- under this limit the command may be answered so, and leave this session
+-- under this limit the command may have this answer, and leave this session
 abbrev pub Step : ℕ → State → Order → Answer → State → Type 0
 Step limit old order (Ok reply) new = Accepts limit old order × Does old order reply new
 Step limit old order (Err Memory) new = TakesMemory old order × (new ≡ old)

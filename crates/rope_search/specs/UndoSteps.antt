@@ -1,20 +1,21 @@
--- The undo steps of a buffer: how many stay where others are dropped.
+-- The undo steps of a buffer: how many stay when others are dropped.
 use Rattle.std.specs.Prelude.{ℕ, ◌+◌, ◌-◌, List, [], ◌∷◌, length, take, drop}
 use Rattle.rope_search_changes.specs.declared.Change.{Change}
 use Rattle.rope_search.specs.Session.{BufferState}
 
--- how many texts there are to go back to, and how many to go forward to
+-- the number of texts that can be undone to, and that of texts that can be redone
 abbrev pub undo_count : BufferState → ℕ
 undo_count buffer = buffer.current
 
 abbrev pub redo_count : BufferState → ℕ
 redo_count buffer = length buffer.texts - (buffer.current + 1)
 
--- the number of the first text that stays with so many steps back from the current one
+-- the number of the first text that stays, with this number of undo steps
 abbrev pub first_kept : ℕ → ℕ → ℕ
 first_kept current steps = current - steps
 
--- the buffer with the current text and so many before it, as far as there are such, and none behind
+-- the buffer with the current text and this number of texts before it, or as many as there are, and
+-- none after it
 abbrev pub with_steps : BufferState → ℕ → BufferState
 with_steps buffer steps = record buffer {
   texts = drop (first_kept buffer.current steps) (take (buffer.current + 1) buffer.texts);

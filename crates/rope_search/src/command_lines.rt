@@ -3,21 +3,21 @@ ghost use Rattle.rope_search.specs.Requests.{TakesLine};
 
 use rope_search_io::{Broken, ReadBuffer, Source};
 
-/// A line that has this many bytes before its LF is no command's.
+/// A line with this many bytes before its LF is too long for a command.
 pub const LINE_LEN: usize = 129;
 
-/// What was read as a line.
+/// The result of reading a line.
 #[derive(Clone, Copy, Debug, PartialEq, Eq)]
 pub enum LineRead {
-    /// That many bytes, at most 128, and the LF after them.
+    /// That many bytes, at most 128, followed by an LF.
     Whole(usize),
-    /// 129 bytes, and no LF among them.
+    /// 129 bytes without an LF.
     Long,
-    /// That many bytes, at most 128 and no LF among them, before the end of the input.
+    /// That many bytes, at most 128, without an LF before the end of the input.
     Part(usize),
 }
 
-/// Reads a line into the front of `line`, its LF left off.
+/// Reads a line, without its LF, into the front of `line`.
 pub fn read_line<R: Source>(
     read_buffer: &mut ReadBuffer,
     source: &mut R,

@@ -1,4 +1,4 @@
-//! What a session is asked, and what it answers.
+//! The commands of a session and their replies.
 ghost use Rattle.std.specs.Prelude.{◌≡◌, ℕ, length, Some};
 ghost use Rattle.rope_search.specs.Order.{Order};
 ghost use Rattle.rope_search.specs.Reads.{payload_of};
@@ -8,67 +8,66 @@ ghost use Rattle.rope_search.specs.Stands.{Stands, StandsFor, kept_of, limit_on}
 use crate::limits::Limits;
 use rope_search_reports::{PATTERN_LEN, Position};
 
-/// A command, with what there is of its payload: how many bytes it has, or what was kept of them.
-/// `Session::apply` carries it out, and tells what is refused first where more than one thing is.
+/// A command; `P` is what is known of its payload: its number of bytes, or the bytes that were
+/// kept. `Session::apply` executes it. If there are several reasons to refuse it, its contract says
+/// which is reported.
 #[derive(Clone, Copy, Debug, PartialEq, Eq, Hash)]
 pub enum CommandOf<P> {
-    /// Sets the chosen buffer's text; its pattern stays. Refused with `Fault::Utf8` where the
-    /// payload isn't UTF-8, `Fault::Size` where it has more bytes than the limit, or
-    /// `Fault::Memory`.
+    /// Sets the chosen buffer's text; its pattern stays. Refused with `Fault::Utf8` if the payload
+    /// isn't UTF-8, `Fault::Size` if it has more bytes than the limit, or `Fault::Memory`.
     Text(P),
-    /// Replaces what stands from the first position to the second in the chosen buffer's text by
-    /// the payload; its pattern stays, and of its report only the rows of the lines that are
-    /// touched are made anew. What could be redone is dropped. Refused with `Fault::Range` where a
-    /// position is nowhere in the text or the second one is before the first, `Fault::Utf8` where
-    /// the payload isn't UTF-8, `Fault::Size` where the new text would have more bytes than the
-    /// limit, or `Fault::Memory`.
+    /// Replaces the text between two positions of the chosen buffer's text by the payload. The
+    /// pattern stays, and only the lines that are touched are searched again. Drops the texts that
+    /// could be redone. Refused with `Fault::Range` if a position is nowhere in the text or the
+    /// second one is before the first, `Fault::Utf8` if the payload isn't UTF-8, `Fault::Size` if
+    /// the new text would have more bytes than the limit, or `Fault::Memory`.
     Edit(Position, Position, P),
-    /// Goes back to the text from before the last edit or replacement; the pattern stays. Refused
-    /// with `Fault::Nothing` where there is none, or, where there is a pattern, `Fault::Memory`.
+    /// Goes back to the text before the last edit or replacement; the pattern stays. Refused with
+    /// `Fault::Nothing` if there is none, or, if there is a pattern, `Fault::Memory`.
     Undo,
     /// Goes forward again to the text that was undone last; the pattern stays. Refused with
-    /// `Fault::Nothing` where there is none, or, where there is a pattern, `Fault::Memory`.
+    /// `Fault::Nothing` if there is none, or, if there is a pattern, `Fault::Memory`.
     Redo,
     /// Shows the chosen buffer's text. It is never refused.
     Print,
-    /// Makes a new buffer of the chosen one's text, without its pattern, and answers the new one's
-    /// number. Refused with `Fault::Memory` alone.
+    /// Adds a buffer with the chosen one's text, without its pattern; the reply is the new buffer's
+    /// number. Refused with `Fault::Memory` only.
     Fork,
-    /// Sets the chosen buffer's pattern, in place of any other. Refused with `Fault::Utf8` where
-    /// the payload isn't UTF-8, `Fault::Pattern` where it is outside the grammar of patterns,
-    /// `Fault::Limit` where it has more than 65,536 bytes or weighs more than 262,144, or
+    /// Sets the chosen buffer's pattern, replacing any other. Refused with `Fault::Utf8` if the
+    /// payload isn't UTF-8, `Fault::Pattern` if it is outside the grammar of patterns,
+    /// `Fault::Limit` if it has more than 65,536 bytes or a weight of more than 262,144, or
     /// `Fault::Memory`.
     Pattern(P),
-    /// Drops the chosen buffer's pattern, where there is one. It is never refused.
+    /// Drops the chosen buffer's pattern, if there is one. It is never refused.
     Off,
-    /// Shows the chosen buffer's report. Refused with `Fault::Nothing` where it has no pattern.
+    /// Shows the chosen buffer's report. Refused with `Fault::Nothing` if it has no pattern.
     List,
-    /// Finds the first match in the chosen buffer's whole text that starts at the position or
-    /// behind it. Refused with `Fault::Nothing` where the buffer has no pattern, `Fault::Range`
-    /// where the position is nowhere in the text, or `Fault::Memory`.
+    /// Finds the first match in the chosen buffer's whole text that starts at the position or after
+    /// it. Refused with `Fault::Nothing` if the buffer has no pattern, `Fault::Range` if the
+    /// position is nowhere in the text, or `Fault::Memory`.
     Next(Position),
-    /// Replaces all matches in the chosen buffer's whole text by what the payload, a template,
-    /// stands for at each, and answers their number: `$` and a digit stand for the text of that
-    /// group, which is empty where the group is absent or not in the pattern; `$$` for a dollar;
-    /// all else for itself. The pattern stays, and of the report only the rows of the lines that
-    /// are touched are made anew. What could be redone is dropped, also where there is no match.
-    /// Refused with `Fault::Nothing` where the buffer has no pattern, `Fault::Utf8` where the
-    /// payload isn't UTF-8, `Fault::Size` where the payload or the new text has more bytes than the
-    /// limit, or `Fault::Memory`.
+    /// Replaces all matches in the chosen buffer's whole text by the expansions of the payload, a
+    /// template; the reply is their number. In a template `$` and a digit expand to the text of
+    /// that group, which is empty if the group is absent or not in the pattern; `$$` expands to a
+    /// dollar; all other characters are copied. The pattern stays, and only the lines that are
+    /// touched are searched again. Drops the texts that could be redone, also if there is no match.
+    /// Refused with `Fault::Nothing` if the buffer has no pattern, `Fault::Utf8` if the payload
+    /// isn't UTF-8, `Fault::Size` if the payload or the new text has more bytes than the limit, or
+    /// `Fault::Memory`.
     Replace(P),
-    /// Chooses a buffer by its number, from 0. Refused with `Fault::Nothing` where there is none.
+    /// Chooses a buffer by its number, from 0. Refused with `Fault::Nothing` if there is none.
     Use(u64),
 }
 
 /// A command, with what was kept of its payload.
 pub type Command<'a> = CommandOf<Payload<'a>>;
 
-/// A command's line: its word, its positions and its number, which for a payload is that of its
-/// bytes.
+/// A command's line: its word, its positions and its number. If the command has a payload, the
+/// number is that of its bytes.
 pub type Header = CommandOf<u64>;
 
 impl CommandOf<u64> {
-    /// How many bytes the payload has.
+    /// Returns the payload's number of bytes.
     pub(crate) fn payload_len(&self) -> u64
         ensures { (order : Order) → IsHeaderOf self.now order → length (payload_of order) ≡ result }
     {
@@ -84,7 +83,7 @@ impl CommandOf<u64> {
         }
     }
 
-    /// How many bytes of the payload are kept at most.
+    /// Returns the maximum number of bytes of the payload to keep.
     pub(crate) fn payload_limit(&self, limits: Limits) -> usize
         ensures { result ≡ limit_on self.now limits.text }
     {
@@ -97,7 +96,7 @@ impl CommandOf<u64> {
         }
     }
 
-    /// The command with what was kept of its payload.
+    /// Returns the command with what was kept of its payload.
     pub(crate) fn with(self, payload: Payload<'_>) -> Command<'_>
         ensures stands { (limit : ℕ) (order : Order) → IsHeaderOf self order
             → StandsFor (limit_on self limit) payload.entry (payload_of order)
@@ -126,30 +125,30 @@ impl CommandOf<u64> {
 pub enum Payload<'a> {
     /// All of its bytes. They need not be UTF-8.
     Kept(&'a [u8]),
-    /// It has more bytes than the limit: on texts, or the 65,536 bytes of a pattern. It was read
-    /// past, and judged over all its bytes.
+    /// It has more bytes than the limit: that on texts, or the 65,536 bytes of a pattern. It was
+    /// skipped, except that all its bytes were checked for UTF-8.
     Long {
         /// Whether it is UTF-8.
         utf8: bool,
     },
-    /// There was no memory for it. It was read past. A command with it is refused with
+    /// There was no memory for it, so it was skipped. A command with it is refused with
     /// `Fault::Memory`.
     Lost,
 }
 
-/// What an accepted command is answered.
+/// The reply to an accepted command.
 #[derive(Clone, Copy, Debug, PartialEq, Eq, Hash)]
 pub enum Reply {
-    /// It is done.
+    /// Done.
     Done,
-    /// It is done, and this is the number of the new buffer, or that of the replaced matches.
+    /// Done; this is the number of the new buffer, or that of the replaced matches.
     Number(usize),
     /// A match was found: the positions where it starts and where it ends.
     Found(Position, Position),
     /// No match was found.
     NoMatch,
-    /// The chosen buffer's report is to be shown: `session.buffer().report()`.
+    /// Show the chosen buffer's report: `session.buffer().report()`.
     List,
-    /// The chosen buffer's text is to be shown: `session.buffer().text()`.
+    /// Show the chosen buffer's text: `session.buffer().text()`.
     Print,
 }

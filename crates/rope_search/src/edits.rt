@@ -14,26 +14,27 @@ use ropey::Rope;
 use simdutf8::compat::from_utf8;
 use std::alloc::Global;
 
-/// An edit of several that are made as one: all are told in terms of the text before any of them.
+/// One of several edits that are made as one. The positions of all are those of the text before any
+/// of them.
 #[derive(Clone, Copy, Debug)]
 pub struct Edit<'a> {
-    /// Where the part starts that is replaced.
+    /// Where the replaced part starts.
     pub from: Position,
     /// Where it ends.
     pub to: Position,
-    /// The bytes that come in its place. They need not be UTF-8.
+    /// The new bytes. They need not be UTF-8.
     pub text: &'a [u8],
 }
 
-/// The bytes between which an edit lies; none where one of its positions is nowhere, or the second
-/// is before the first, or the first before `at`.
+/// Returns the byte offsets between which an edit is, or `None` if one of its positions is nowhere,
+/// the second is before the first, or the first is before `at`.
 fn span_behind(text: &Rope, at: usize, edit: &Edit<'_>) -> Option<(usize, usize)>
     ensures span { IfSome result (λ span.
         LiesBehind (text_of text.now) at (in_full edit.now) span.0 span.1) }
     ensures none { IfNone result ((start end : ℕ)
         → LiesBehind (text_of text.now) at (in_full edit.now) start end → ⊥) }
 {
-    // A law, and the text's facts, for the proof alone.
+    // For the proof: a law, and the text's facts.
     rope_search_reports::laws::one_place();
     let _ = text.len_bytes();
     let (from, to) = places_of(text, edit.from, edit.to)?;
@@ -44,8 +45,8 @@ fn span_behind(text: &Rope, at: usize, edit: &Edit<'_>) -> Option<(usize, usize)
     Some((start, end))
 }
 
-/// The text of an edit, and whether its bytes and those of the edits before it are UTF-8. Where its
-/// own aren't, it is empty.
+/// Returns the text of an edit, and whether its bytes and those of the edits before it are UTF-8.
+/// If its own aren't, the text is empty.
 fn text_in<'a>(edit: &Edit<'a>, is_utf8: bool) -> (&'a str, bool)
     ensures text { IsUtf8 result.0.now }
     ensures utf8 { result.1 ≡ true → (is_utf8 ≡ true) × IsUtf8 edit.now.text.now
@@ -58,9 +59,9 @@ fn text_in<'a>(edit: &Edit<'a>, is_utf8: bool) -> (&'a str, bool)
     }
 }
 
-/// The edits where they lie, each with its text. They are refused with `Fault::Range` where one
-/// lies nowhere or not behind the one before it, else with `Fault::Utf8` where the bytes of one
-/// aren't UTF-8, and perhaps with `Fault::Memory`.
+/// Returns the byte offsets and the text of each edit. Errors: `Fault::Range` if one is nowhere or
+/// not after the one before it, otherwise `Fault::Utf8` if the bytes of one aren't UTF-8;
+/// `Fault::Memory`.
 fn substitutions_of<'a>(
     alloc: Global,
     text: &Rope,
@@ -78,7 +79,7 @@ fn substitutions_of<'a>(
     ensures fault { IfErr result (λ fault.
         (fault ≡ Fault.Range) ⊎ ((fault ≡ Fault.Utf8) ⊎ (fault ≡ Fault.Memory))) }
 {
-    // A law, and the text's facts, for the proof alone.
+    // For the proof: a law, and the text's facts.
     rope_search_reports::laws::one_place();
     let _ = text.len_bytes();
     let mut substitutions = Vec::with_capacity(alloc, edits.len())?;
@@ -103,8 +104,8 @@ fn substitutions_of<'a>(
     Ok(substitutions)
 }
 
-/// The text with all edits made, and the changes, one for each. It is refused as the first reason
-/// has it, and perhaps with `Fault::Memory`.
+/// Returns the text with all edits made, and the changes, one for each. Errors: the first reason to
+/// refuse the edits; `Fault::Memory`.
 pub fn edited(
     alloc: Global,
     limits: Limits,
@@ -120,7 +121,7 @@ pub fn edited(
     ensures fault { IfErr result (λ fault. (fault ≡ Fault.Memory)
         ⊎ IsFirstAgainst limits.text (text_of text.now) (map in_full edits.now) fault) }
 {
-    // Laws, and the text's facts, for the proof alone.
+    // For the proof: laws, and the text's facts.
     rope_search_templates::laws::substitutions_are_changes();
     rope_search_reports::laws::one_place();
     let _ = text.len_bytes();

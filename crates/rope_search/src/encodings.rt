@@ -1,5 +1,5 @@
-//! Columns in bytes, in UTF-16 code units and in characters: language servers agree on one of them
-//! with their editor.
+//! Columns in bytes, in UTF-16 code units and in characters. A language server and its editor agree
+//! on one of them.
 ghost use Rattle.std.specs.Prelude.{◌≡◌, ℕ, ◌<◌, Some, IfSome, IfOk, IfErr};
 ghost use Rattle.ropey.specs.Chunks.{text_of};
 ghost use Rattle.rope_search_reports.specs.Text.{line_count};
@@ -18,13 +18,13 @@ use ropey::Rope;
 pub enum Encoding {
     /// Bytes of UTF-8.
     Utf8,
-    /// UTF-16 code units, as the columns of a `Position`.
+    /// UTF-16 code units, like the columns of a `Position`.
     Utf16,
-    /// Characters, as UTF-32 has them: Unicode scalar values.
+    /// Characters, like the code units of UTF-32: Unicode scalar values.
     Utf32,
 }
 
-/// Where the characters of a text end: laws, for the proofs alone.
+/// Laws for proofs: where the characters of a text end.
 fn char_laws()
     ensures { CharLaws }
 {
@@ -37,12 +37,13 @@ fn char_laws()
     str_indices::laws::boundaries_and_indices_agree();
 }
 
-/// How much there is between where the line of a position starts and the place at which it is.
+/// Returns the length, in an encoding, of the text from the start of a position's line to its
+/// offset.
 fn column_of(text: &Rope, encoding: Encoding, position: Position, place: usize) -> usize
     requires { IsAt (text_of text.now) (position.line, position.column) place }
     ensures { result ≡ encodings.column_in encoding (text_of text.now) place }
 {
-    // Laws, and the text's facts, for the proof alone.
+    // For the proof: laws, and the text's facts.
     char_laws();
     str_indices::laws::place_there_and_back();
     let _ = text.len_bytes();
@@ -53,7 +54,7 @@ fn column_of(text: &Rope, encoding: Encoding, position: Position, place: usize) 
     }
 }
 
-/// The place so far after where a line starts: the one that has the column, if any has.
+/// Returns the offset this far after the start of a line: the one with the column, if any has it.
 fn place_behind(text: &Rope, encoding: Encoding, line: usize, column: usize) -> Option<usize>
     requires { line < line_count (text_of text.now) }
     ensures column { IfSome result (λ place. line ≡ line_at (text_of text.now) place
@@ -61,7 +62,7 @@ fn place_behind(text: &Rope, encoding: Encoding, line: usize, column: usize) -> 
     ensures only { (place : ℕ) → IsAtIn encoding (text_of text.now) line column place
         → result ≡ Some place }
 {
-    // Laws, and the text's facts, for the proof alone.
+    // For the proof: laws, and the text's facts.
     char_laws();
     str_indices::laws::place_there_and_back();
     let _ = text.len_bytes();
@@ -85,8 +86,8 @@ fn place_behind(text: &Rope, encoding: Encoding, line: usize, column: usize) -> 
 }
 
 impl Buffer {
-    /// Returns the column of a position in an encoding: how much there is between where its line
-    /// starts and the position. In UTF-16 code units it is the position's own. `O(log n)`.
+    /// Returns the column of a position in an encoding: the length of the text between its line's
+    /// start and the position. In UTF-16 code units it is the position's own column. `O(log n)`.
     ///
     /// # Errors
     ///
@@ -122,7 +123,7 @@ impl Buffer {
             IsNowhereIn encoding (current_text self.now.state) line column) }
         ensures fault { IfErr result (λ fault. fault ≡ Fault.Range) }
     {
-        // Laws, for the proof alone.
+        // For the proof: laws.
         char_laws();
         str_indices::laws::place_there_and_back();
         rope_search_reports::laws::one_place();
@@ -139,7 +140,7 @@ impl Buffer {
         if position.line != line {
             return Err(Fault::Range);
         }
-        // Between a CR and an LF, too, a place has a position, which is nowhere.
+        // An offset between CR and LF also has a position, which is nowhere in the text.
         if self.byte_of(position)? != place {
             return Err(Fault::Range);
         }

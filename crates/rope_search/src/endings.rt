@@ -5,7 +5,7 @@
 pub enum Ended {
     /// The input ended before a line's first byte.
     Input,
-    /// A line was no command. What follows it isn't read as commands.
+    /// A line was no command. What follows isn't read as commands.
     Command,
     /// The input ended inside a line or a payload. That command did nothing.
     Cut,

@@ -1,4 +1,4 @@
-//! A command's line: its word, then its numbers.
+//! A command's line: its word, followed by its numbers.
 ghost use Rattle.std.specs.Prelude.{◌≡◌, ◌+◌, ◌-◌, ◌*◌, ◌^◌, ◌<◌, ◌≤◌, ◌↔◌, ℕ, List, [], ◌∷◌, length, take, drop, codes};
 ghost use Rattle.std.specs.Prelude.{IfSome, IfNone, SomeIff};
 ghost use Rattle.rope_search.specs.Order.{Order};
@@ -8,10 +8,10 @@ ghost use Rattle.rope_search.specs.Header.{IsHeaderOf, IsDigit, HasNoSpace, Ends
 use crate::commands::Header;
 use rope_search_reports::Position;
 
-/// How many digits a number has at most.
+/// The maximum number of digits of a number.
 const MOST_DIGITS: usize = 20;
 
-/// What a line tells of its command. None where it is no command's line.
+/// Returns the header that a line spells, or `None` if it isn't a command's line.
 pub fn header_of(line: &[u8]) -> Option<Header>
     ensures found { IfSome result (λ header.
         (order : Order) → IsLine order line.now ↔ IsHeaderOf header order) }
@@ -46,7 +46,7 @@ pub fn header_of(line: &[u8]) -> Option<Header>
     }
 }
 
-/// The number after this word, where the line is both.
+/// Returns the number after this word, if the line consists of both.
 fn number_after(line: &[u8], word: &[u8]) -> Option<u64>
     ensures found { IfSome result (λ number.
         (ns : List ℕ) → IsWorded word.now line.now ns ↔ ns ≡ number ∷ []) }
@@ -60,7 +60,7 @@ fn number_after(line: &[u8], word: &[u8]) -> Option<u64>
     }
 }
 
-/// The position after this word, where the line is both.
+/// Returns the position after this word, if the line consists of both.
 fn position_after(line: &[u8], word: &[u8]) -> Option<Position>
     ensures found { IfSome result (λ told. (ns : List ℕ)
         → IsWorded word.now line.now ns ↔ ns ≡ told.line ∷ told.column ∷ []) }
@@ -74,7 +74,7 @@ fn position_after(line: &[u8], word: &[u8]) -> Option<Position>
     }
 }
 
-/// The two positions and the number of bytes of an `edit`, where the line is one.
+/// Returns the two positions and the number of bytes of an `edit`, if the line is one.
 fn edit_of(line: &[u8]) -> Option<(Position, Position, u64)>
     ensures found { IfSome result (λ told. (ns : List ℕ) → IsWorded (codes "edit") line.now ns
         ↔ ns ≡ told.0.line ∷ told.0.column ∷ told.1.line ∷ told.1.column ∷ told.2 ∷ []) }
@@ -91,7 +91,7 @@ fn edit_of(line: &[u8]) -> Option<(Position, Position, u64)>
     }
 }
 
-/// The position that comes first, as two numbers, and what follows it.
+/// Returns the next position, spelled by two numbers, and the bytes after it.
 fn next_position(bytes: &[u8]) -> Option<(Position, &[u8])>
     ensures found { IfSome result (λ told.
         SpellsFront bytes.now (told.0.line ∷ told.0.column ∷ []) told.1.now) }
@@ -107,7 +107,7 @@ fn next_position(bytes: &[u8]) -> Option<(Position, &[u8])>
     Some((position, others))
 }
 
-/// The number that comes first, behind one space, and what follows it.
+/// Returns the next number, after one space, and the bytes after it.
 fn next_number(bytes: &[u8]) -> Option<(u64, &[u8])>
     ensures found { IfSome result (λ told. SpellsFront bytes.now (told.0 ∷ []) told.1.now) }
     ensures none { IfNone result ((n : ℕ) (others : List ℕ)
@@ -118,7 +118,7 @@ fn next_number(bytes: &[u8]) -> Option<(u64, &[u8])>
     Some((number_of(digits)?, others))
 }
 
-/// How many bytes come before the first space, or in all.
+/// Returns the number of bytes before the first space, or of all bytes.
 fn len_to_space(bytes: &[u8]) -> usize
     ensures within { result ≤ length bytes.now }
     ensures before { HasNoSpace (take result bytes.now) }
@@ -132,7 +132,7 @@ fn len_to_space(bytes: &[u8]) -> usize
     bytes.len()
 }
 
-/// The number that these bytes spell: 1 to 20 decimal digits, at most `u64::MAX`.
+/// Returns the number that these bytes spell: 1 to 20 decimal digits, at most `u64::MAX`.
 fn number_of(digits: &[u8]) -> Option<u64>
     ensures found { IfSome result (λ number. IsNumber digits.now number) }
     ensures none { IfNone result ((number : ℕ) → IsNumber digits.now number → ⊥) }
@@ -147,7 +147,7 @@ fn number_of(digits: &[u8]) -> Option<u64>
     Some(value)
 }
 
-/// The number with one more decimal digit.
+/// Returns the number with one more decimal digit.
 fn value_after(value: u64, digit: u8) -> Option<u64>
     ensures { SomeIff result (IsDigit digit × (10 * value + (digit - 48) < 2 ^ 64))
         (10 * value + (digit - 48)) }

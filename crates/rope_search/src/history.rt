@@ -1,4 +1,4 @@
-//! The texts of a buffer: those that an edit left, and those that can be redone.
+//! The texts of a buffer: the current one, earlier ones, and those that can be redone.
 ghost use Rattle.std.specs.Prelude.{◌≡◌, ◌+◌, ◌-◌, ◌<◌, ◌≤◌, ◌↔◌, List, ℕ, [], ◌∷◌, ◌++◌, length, take, drop, slice_index_or, vec_len, MatchOption, None, Some, true, false, IfOk, IfErr, IfSome, IsOk, OnOk, OnErr};
 ghost use Rattle.str_indices.specs.Text.{byte_len};
 ghost use Rattle.ropey.specs.Chunks.{text_of};
@@ -23,13 +23,13 @@ use std::mem;
 pub struct Version {
     /// The text.
     pub text: Rope,
-    /// The changes that led to it from the text before. None to the first text.
+    /// The changes that led to it from the text before; none for the first text.
     pub changes: Changes,
 }
 
-/// One or more texts, from the oldest on, of which one is current, and what changed from each to
-/// the next. The texts share the memory of what they have in common; of a change its places alone
-/// are kept. The changes that were made or undone last are known also if their text is dropped.
+/// One or more texts, from the oldest on, one of which is current, and the changes from each to the
+/// next. The texts share the memory of what they have in common; a change is stored as offsets
+/// only. The changes that were made or undone last are known also after their text is dropped.
 #[derive(Drop)]
 pub struct History {
     versions: Vec<Version>,
@@ -65,7 +65,7 @@ impl Model for History {
         (map (λ (v : Version). listed v.changes) h.versions.items) h.current) };
 }
 
-/// Puts a version behind the first ones, as many as told, in place of all that stand there.
+/// Truncates the list to `len` versions, then appends one.
 fn push_at(versions: &mut Vec<Version>, len: usize, version: Version) -> Result<(), AllocError>
     requires { len ≤ vec_len versions.old }
     ensures ok { OnOk result
@@ -81,8 +81,8 @@ fn push_at(versions: &mut Vec<Version>, len: usize, version: Version) -> Result<
     Ok(())
 }
 
-/// Drops the versions behind the first ones, as many as told, and returns the changes that led to
-/// the first that is dropped.
+/// Truncates the list to `len` versions, and returns the changes that led to the first that is
+/// dropped.
 fn cut_off(versions: &mut Vec<Version>, len: usize) -> Option<Changes>
     requires { len ≤ vec_len versions.old }
     ensures items { versions.new.items ≡ take len versions.old.items }
@@ -100,7 +100,7 @@ fn cut_off(versions: &mut Vec<Version>, len: usize) -> Option<Changes>
     }
 }
 
-/// Drops the first versions of a list, as many as told. `O(n)`.
+/// Drops the first `count` versions of a list. `O(n)`.
 fn drop_first(versions: &mut Vec<Version>, count: usize)
     requires { count ≤ vec_len versions.old }
     ensures { versions.new.items ≡ drop count versions.old.items }
@@ -111,8 +111,9 @@ fn drop_first(versions: &mut Vec<Version>, count: usize)
     versions.reverse();
 }
 
-/// The changes that are kept apart once versions are dropped: those that were, else what was
-/// undone, else what led to the current version, where none before it is left.
+/// Returns the changes to keep apart after versions are dropped: those kept apart before; otherwise
+/// those of what was undone; otherwise those that led to the current version, if none before it is
+/// left.
 fn apart_of(
     apart: Option<Changes>,
     is_back: bool,
@@ -137,7 +138,7 @@ fn apart_of(
     Some(led)
 }
 
-/// Moves `count` versions from `at` on behind all others.
+/// Moves `count` versions from `at` on to the end.
 fn move_to_end(versions: &mut Vec<Version>, at: usize, count: usize)
     requires within { at + count ≤ vec_len versions.old }
     ensures items { versions.new.items ≡ take at versions.old.items
@@ -157,7 +158,7 @@ fn remove(versions: &mut Vec<Version>, at: usize, count: usize)
     versions.truncate(versions.len() - count);
 }
 
-/// The changes, and where it is one alone, without a list.
+/// Returns the changes; a single one without a list.
 fn packed(mut changes: Vec<Change>) -> Changes
     ensures { listed result ≡ changes.items }
 {
@@ -168,9 +169,9 @@ fn packed(mut changes: Vec<Change>) -> Changes
     Changes::Many(changes)
 }
 
-/// The changes that lead from the text of the first version to that of the last: those of all steps
-/// between them, put together. Linear in these, for each step. It may be refused with
-/// `Fault::Memory` alone.
+/// Returns the changes that lead from the text of the first version to that of the last: those of
+/// all steps between them, composed. Each step takes time linear in these. Errors: `Fault::Memory`
+/// only.
 fn changes_between(alloc: Global, versions: &[Version]) -> Result<Changes, Fault>
     requires some { 0 < length versions.now }
     requires led { LeadOn (version_texts versions.now) (version_changes versions.now) }
@@ -181,7 +182,7 @@ fn changes_between(alloc: Global, versions: &[Version]) -> Result<Changes, Fault
         AreComposed (drop 1 (version_changes versions.now)) (listed changes)) }
     ensures fault { IfErr result (λ fault. fault ≡ Fault.Memory) }
 {
-    // The text's facts, for the proof alone.
+    // For the proof: the text's facts.
     let _ = versions[0].text.len_bytes();
     let mut changes = Vec::new(alloc);
     for k in 1..versions.len() {
@@ -193,8 +194,8 @@ fn changes_between(alloc: Global, versions: &[Version]) -> Result<Changes, Fault
 }
 
 impl History {
-    /// A history of one text, which the changes made of one that isn't kept. It may be refused with
-    /// `Fault::Memory` alone.
+    /// Returns a history of one text; the changes lead to it from a text that isn't kept. Errors:
+    /// `Fault::Memory` only.
     fn of_changes(alloc: Global, text: Rope, changes: Changes) -> Result<History, Fault>
         requires { (old : List ℕ) × Lead (listed changes) old (text_of text) }
         ensures ok { IfOk result (λ history. history ≡ record {
@@ -219,7 +220,7 @@ impl History {
         })
     }
 
-    /// A history of one text. It may be refused with `Fault::Memory` alone.
+    /// Returns a history of one text. Errors: `Fault::Memory` only.
     pub fn new(alloc: Global, text: Rope) -> Result<History, Fault>
         ensures ok { IfOk result (λ history. history ≡ record {
           texts = text_of text ∷ [];
@@ -233,8 +234,7 @@ impl History {
         History::of_changes(alloc, text, Changes::Many(Vec::new(alloc)))
     }
 
-    /// A history of one text that takes the place of another one. It may be refused with
-    /// `Fault::Memory` alone.
+    /// Returns a history of one text that replaces another one. Errors: `Fault::Memory` only.
     pub fn replacing(alloc: Global, old: &Rope, text: Rope) -> Result<History, Fault>
         ensures ok { IfOk result (λ history. history ≡ record {
           texts = text_of text ∷ [];
@@ -256,19 +256,19 @@ impl History {
         History::of_changes(alloc, text, Changes::One(change))
     }
 
-    /// A text by its number, from the oldest on.
+    /// Returns a text by its number, from the oldest on.
     fn text(&self, number: usize) -> &Rope
         requires { number < length self.now.texts }
         ensures text { text_of result.now ≡ text_at self.now.texts number }
         ensures scalars { IsText (text_at self.now.texts number) }
     {
         let text = &self.versions[number].text;
-        // The text's facts, for the proof alone.
+        // For the proof: the text's facts.
         let _ = text.len_bytes();
         text
     }
 
-    /// The current text.
+    /// Returns the current text.
     pub fn current(&self) -> &Rope
         ensures text { text_of result.now ≡ text_at self.now.texts self.now.current }
         ensures inside { self.now.current < length self.now.texts }
@@ -277,14 +277,15 @@ impl History {
         &self.versions[self.current].text
     }
 
-    /// The changes that led to the current text from the one before. None to the first text.
+    /// Returns the changes that led to the current text from the one before; none for the first
+    /// text.
     pub fn last_changes(&self) -> &Changes
         ensures { listed result.now ≡ changes_at self.now.changes self.now.current }
     {
         &self.versions[self.current].changes
     }
 
-    /// The text before the current one, or none.
+    /// Returns the text before the current one, if there is one.
     pub fn previous(&self) -> Option<&Rope>
         ensures text { IfSome result (λ text. text_of text.now ≡
             text_at self.now.texts (self.now.current - 1)) }
@@ -296,7 +297,7 @@ impl History {
         Some(&self.versions[self.current - 1].text)
     }
 
-    /// The text behind the current one, with the changes that lead to it, or none.
+    /// Returns the text after the current one, with the changes that lead to it, if there is one.
     pub fn next(&self) -> Option<&Version>
         ensures text { IfSome result (λ version. text_of version.now.text ≡
             text_at self.now.texts (self.now.current + 1)) }
@@ -307,28 +308,28 @@ impl History {
         self.versions.get(self.current + 1)
     }
 
-    /// How many texts are before the current one.
+    /// Returns the number of texts before the current one.
     pub fn undo_steps(&self) -> usize
         ensures { result ≡ self.now.current }
     {
         self.current
     }
 
-    /// How many texts are behind the current one.
+    /// Returns the number of texts after the current one.
     pub fn redo_steps(&self) -> usize
         ensures { result ≡ length self.now.texts - (self.now.current + 1) }
     {
         self.versions.len() - (self.current + 1)
     }
 
-    /// Whether the current text was last reached by an undo.
+    /// Returns whether the current text was last reached by an undo.
     pub fn is_back(&self) -> bool
         ensures { result ≡ self.now.is_back }
     {
         self.is_back
     }
 
-    /// The changes that were made or undone last.
+    /// Returns the changes that were made or undone last.
     pub fn last(&self) -> &[Change]
         ensures changes { result.now ≡ self.now.last }
         ensures led { (old : List ℕ) × (new : List ℕ) × Lead self.now.last old new }
@@ -347,9 +348,8 @@ impl History {
         }
     }
 
-    /// Drops all texts but the current one and so many before it, as far as there are such, and
-    /// what changed. It is never refused: if there is no memory for a shorter list, the list keeps
-    /// its room.
+    /// Drops all texts except the current one and at most `steps` before it, with their changes. It
+    /// never fails: if there is no memory for a shorter list, the list keeps its room.
     pub fn keep(&mut self, alloc: Global, steps: usize)
         ensures { self.new ≡ record self.old {
           texts = drop (first_kept self.old.current steps)
@@ -370,9 +370,9 @@ impl History {
         self.current -= first;
     }
 
-    /// Makes the last steps one: the texts directly before the current one, one less than the
-    /// steps, are dropped. Fewer than two steps stay as they are. It may be refused with
-    /// `Fault::Memory` alone; the history is then as before.
+    /// Joins the last `steps` steps into one by dropping the `steps - 1` texts directly before the
+    /// current one. With fewer than two steps nothing changes. Errors: `Fault::Memory` only; the
+    /// history is then unchanged.
     pub fn join(&mut self, alloc: Global, steps: usize) -> Result<(), Fault>
         requires { steps ≤ self.old.current }
         ensures texts { OnOk result (self.new.texts
@@ -413,7 +413,7 @@ impl History {
             (text_at self.old.texts (self.old.current - 1))
             (ranges_in self.new.is_back self.new.last) }
     {
-        // The texts' facts, for the proof alone.
+        // For the proof: the texts' facts.
         let _ = self.text(self.current);
         let _ = self.text(self.current - 1);
         self.current -= 1;
@@ -421,7 +421,7 @@ impl History {
         self.apart = None;
     }
 
-    /// Makes the text behind the current one current.
+    /// Makes the text after the current one current.
     pub fn step_forward(&mut self)
         requires { self.old.current + 1 < length self.old.texts }
         ensures texts { self.new ≡ record self.old {
@@ -433,7 +433,7 @@ impl History {
             (text_at self.old.texts (self.old.current + 1))
             (ranges_in self.new.is_back self.new.last) }
     {
-        // The texts' facts, for the proof alone.
+        // For the proof: the texts' facts.
         let _ = self.text(self.current);
         let _ = self.text(self.current + 1);
         self.current += 1;
@@ -441,9 +441,9 @@ impl History {
         self.apart = None;
     }
 
-    /// Adds a text behind the current one, in place of all that stand there, and makes it current.
-    /// The changes lead to it from the current one. It may be refused with `Fault::Memory` alone;
-    /// the history is then as before.
+    /// Replaces all texts after the current one by another text, and makes that current. The
+    /// changes lead to it from the current text. Errors: `Fault::Memory` only; the history is then
+    /// unchanged.
     pub fn add(&mut self, text: Rope, changes: Changes) -> Result<(), Fault>
         requires { Lead (listed changes) (text_at self.old.texts self.old.current) (text_of text) }
         ensures ok { OnOk result (self.new ≡ record {
@@ -460,7 +460,7 @@ impl History {
         ensures fault { IfErr result (λ fault. fault ≡ Fault.Memory) }
         ensures err { OnErr result (self.new ≡ self.old) }
     {
-        // The texts' facts, for the proof alone.
+        // For the proof: the texts' facts.
         let _ = self.text(self.current);
         let _ = text.len_bytes();
         let next = self.current + 1;

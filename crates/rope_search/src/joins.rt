@@ -1,4 +1,4 @@
-//! The changes of several undo steps as those of one.
+//! The changes of several undo steps, composed into those of one.
 ghost use Rattle.std.specs.Prelude.{◌≡◌, ◌+◌, ◌-◌, ◌^◌, ◌<◌, ◌≤◌, ◌++◌, ◌∷◌, [], List, ℕ, true, false, length, IfOk, OnOk};
 ghost use Rattle.str_indices.specs.Text.{byte_len};
 ghost use Rattle.rope_search_reports.specs.Turned.{Lead};
@@ -8,7 +8,7 @@ ghost use Rattle.rope_search.specs.Joints.{AddsPart, GoesOnTo, change_numbered, 
 use rope_search_reports::Change;
 use std::alloc::{AllocError, Global};
 
-/// A place of the three texts that two steps lead through.
+/// An offset in the three texts that two steps lead through.
 #[derive(Clone, Copy)]
 struct Place {
     old: usize,
@@ -23,8 +23,8 @@ struct End {
     middle: usize,
 }
 
-/// The changes of two steps up to a place of the middle text: where the last one of each ends, and
-/// where the part starts that they replace together.
+/// The changes of two steps up to an offset of the middle text: where the last one of each ends,
+/// and where the part starts that they replace together.
 #[derive(Clone, Copy)]
 struct Joint {
     start: Place,
@@ -56,7 +56,7 @@ impl Joint {
         }
     }
 
-    /// Where the part ends in the middle text.
+    /// Returns where the part ends in the middle text.
     fn end(&self) -> usize
         ensures { result ≡ part_end self.now }
     {
@@ -64,7 +64,7 @@ impl Joint {
         end.max(self.second.middle)
     }
 
-    /// A place behind the changes, by that of the middle text.
+    /// Returns the offsets, after the changes, of an offset in the middle text.
     fn place(&self, middle: usize) -> Place
         requires first { self.now.first.middle ≤ middle }
         requires second { self.now.second.middle ≤ middle }
@@ -79,7 +79,7 @@ impl Joint {
         }
     }
 
-    /// Where a change of the second step starts in the middle text.
+    /// Returns where a change of the second step starts in the middle text.
     fn middle_start(&self, change: Change) -> usize
         requires behind { self.now.second.outer ≤ change.new_start }
         requires fits { middle_start self.now change < 2 ^ 64 }
@@ -88,7 +88,7 @@ impl Joint {
         self.second.middle + (change.new_start - self.second.outer)
     }
 
-    /// Whether of the changes that are left the first step's comes next.
+    /// Returns whether the next change is one of the first step.
     fn takes_first(&self, first: &[Change], second: &[Change], i: usize, j: usize) -> bool
         requires within { i ≤ length first.now }
         requires left { i + j < length first.now + length second.now }
@@ -131,8 +131,8 @@ impl Joint {
         Ok(())
     }
 
-    /// Goes on to where a change starts in the middle text. Behind the part, its change is added,
-    /// and the next part starts there.
+    /// Advances to where a change starts in the middle text. If that is after the part, its change
+    /// is added, and the next part starts there.
     fn reach(&mut self, middle: usize, changes: &mut Vec<Change>) -> Result<(), AllocError>
         requires old_fits { (place_past self.old middle).old < 2 ^ 64 }
         requires new_fits { (place_past self.old middle).new < 2 ^ 64 }
@@ -148,8 +148,8 @@ impl Joint {
     }
 }
 
-/// The changes of two steps put together: those that lead from the text before the first step to
-/// the one after the second. Where changes of both touch, they are one.
+/// Returns the composed changes of two steps: those that lead from the text before the first step
+/// to the one after the second. Changes of both that touch become one.
 pub fn composed(
     alloc: Global,
     first: &[Change],

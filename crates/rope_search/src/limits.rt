@@ -1,16 +1,16 @@
-//! What a session refuses by its size.
+//! Limits on sizes.
 ghost use Rattle.std.specs.Prelude.{◌^◌, ◌<◌};
 
-/// How large what a session or a buffer holds may be. The default is one gibibyte for a text.
+/// The limits of a session or a buffer. The default is one gibibyte for a text.
 #[derive(Clone, Copy, Debug, PartialEq, Eq)]
 pub struct Limits {
-    /// The most bytes that a text in a buffer has, at most `isize::MAX`. One with more is refused
-    /// with `Fault::Size`.
+    /// The maximum number of bytes of a text in a buffer, at most `isize::MAX`. A longer one is
+    /// refused with `Fault::Size`.
     pub text: usize,
     ghost in_range: { text < 2 ^ 63 },
 }
 
-/// One gibibyte for a text.
+/// The default: one gibibyte for a text.
 impl Default for Limits {
     ghost use Rattle.std.specs.Prelude.{◌≡◌, ◌^◌};
 

@@ -1,4 +1,4 @@
-//! The matches that a report lists, looked up by position and by number.
+//! The matches in a report, looked up by position and by number.
 ghost use Rattle.std.specs.Prelude.{◌≡◌, ◌+◌, ◌^◌, ◌<◌, ◌≤◌, ℕ, length, take, slice_get, Some, IfNone, IfSome};
 ghost use Rattle.rope_search_reports.specs.Report.{match_count};
 ghost use Rattle.rope_search.specs.ListedMatches.{OfReport, TellsFirstFrom, TellsIndex, TellsLastBefore};
@@ -9,7 +9,7 @@ use rope_search_reports::{Position, Row};
 /// A match of a report.
 #[derive(Clone, Copy, Debug, PartialEq, Eq)]
 pub struct ListedMatch {
-    /// The line.
+    /// The line's index.
     pub line: usize,
     /// The number of the match in the row of that line, from 0.
     pub number: usize,
@@ -19,16 +19,16 @@ pub struct ListedMatch {
     pub end: usize,
 }
 
-/// The place of a match in the list of all matches of a report.
+/// The index of a match among all matches of a report.
 #[derive(Clone, Copy, Debug, PartialEq, Eq)]
 pub struct ListIndex {
-    /// How many matches are listed before it.
+    /// The number of matches before it.
     pub index: usize,
-    /// How many matches the report lists.
+    /// The number of all matches of the report.
     pub count: usize,
 }
 
-/// The number of the first match in a row that starts at a column or after it.
+/// Returns the number of the first match in a row that starts at a column or after it.
 fn first_in(row: &[(usize, usize)], column: usize) -> Option<usize>
     ensures from { IfSome result (λ number. (span : ℕ × ℕ)
         × (slice_get row.now number ≡ Some span) × (column ≤ span.0)) }
@@ -45,7 +45,7 @@ fn first_in(row: &[(usize, usize)], column: usize) -> Option<usize>
     None
 }
 
-/// The number of the last match in a row that starts before a column.
+/// Returns the number of the last match in a row that starts before a column.
 fn last_in(row: &[(usize, usize)], column: usize) -> Option<usize>
     ensures before { IfSome result (λ number. (span : ℕ × ℕ)
         × (slice_get row.now number ≡ Some span) × (span.0 < column)) }
@@ -64,7 +64,7 @@ fn last_in(row: &[(usize, usize)], column: usize) -> Option<usize>
     None
 }
 
-/// The match of a row under a number.
+/// Returns the match of a row with this number.
 fn listed_at(line: usize, row: &[(usize, usize)], number: usize) -> ListedMatch
     requires { number < length row.now }
     ensures line { result.line ≡ line }
@@ -80,7 +80,7 @@ fn listed_at(line: usize, row: &[(usize, usize)], number: usize) -> ListedMatch
     }
 }
 
-/// The first match of a report that starts at a position or after it.
+/// Returns the first match of a report that starts at a position or after it.
 fn first_from(rows: &[Row], position: Position) -> Option<ListedMatch>
     ensures { TellsFirstFrom rows.now position result }
 {
@@ -90,13 +90,13 @@ fn first_from(rows: &[Row], position: Position) -> Option<ListedMatch>
         if let Some(number) = first_in(row, column) {
             return Some(listed_at(line, row, number));
         }
-        // In the lines after it every match is after the position.
+        // In the following lines every match is after the position.
         column = 0;
     }
     None
 }
 
-/// The last match of the first `end` rows of a report.
+/// Returns the last match of the first `end` rows of a report.
 fn last_of(rows: &[Row], end: usize) -> Option<ListedMatch>
     requires { end ≤ length rows.now }
     ensures { TellsLastBefore rows.now (record { line = end; column = 0 }) result }
@@ -112,7 +112,7 @@ fn last_of(rows: &[Row], end: usize) -> Option<ListedMatch>
     None
 }
 
-/// The last match of a report that starts before a position.
+/// Returns the last match of a report that starts before a position.
 fn last_before(rows: &[Row], position: Position) -> Option<ListedMatch>
     ensures { TellsLastBefore rows.now position result }
 {
@@ -127,7 +127,7 @@ fn last_before(rows: &[Row], position: Position) -> Option<ListedMatch>
     }
 }
 
-/// How many matches the first `end` rows list.
+/// Returns the number of matches in the first `end` rows.
 fn count_before(rows: &[Row], end: usize) -> usize
     requires within { end ≤ length rows.now }
     requires few { match_count rows.now < 2 ^ 64 }
@@ -140,7 +140,7 @@ fn count_before(rows: &[Row], end: usize) -> usize
     count
 }
 
-/// The place of the match of a line and a number among all matches of a report.
+/// Returns the index, among all matches of a report, of the match of a line and a number.
 fn index_in(rows: &[Row], line: usize, number: usize) -> Option<ListIndex>
     requires few { match_count rows.now < 2 ^ 64 }
     ensures { TellsIndex rows.now line number result }
@@ -158,7 +158,7 @@ fn index_in(rows: &[Row], line: usize, number: usize) -> Option<ListIndex>
 }
 
 impl Buffer {
-    /// The rows of the report, of which there are none without a pattern.
+    /// Returns the rows of the report; none without a pattern.
     fn rows(&self) -> &[Row]
         ensures rows { OfReport self.now.state (λ rows. rows ≡ result.now) }
         ensures few { match_count result.now < 2 ^ 64 }
@@ -166,9 +166,8 @@ impl Buffer {
         self.report().unwrap_or(&[])
     }
 
-    /// Returns the first match of the report that starts at a position or after it, or `None` where
-    /// there is none, as without a pattern. The position need not be one of the text. Nothing is
-    /// searched.
+    /// Returns the first match of the report that starts at a position or after it, or `None` if
+    /// there is none or no pattern. The position need not be one of the text. Nothing is searched.
     ///
     /// # Complexity
     ///
@@ -180,8 +179,8 @@ impl Buffer {
         first_from(self.rows(), position)
     }
 
-    /// Returns the last match of the report that starts before a position, or `None` where there is
-    /// none, as without a pattern. The position need not be one of the text. Nothing is searched.
+    /// Returns the last match of the report that starts before a position, or `None` if there is
+    /// none or no pattern. The position need not be one of the text. Nothing is searched.
     ///
     /// # Complexity
     ///
@@ -193,8 +192,8 @@ impl Buffer {
         last_before(self.rows(), position)
     }
 
-    /// Returns how many matches the report lists before the one of a line and a number in its row,
-    /// from 0, and how many it lists in all; or `None` where no match is listed there.
+    /// Returns the number of matches in the report before match `number`, from 0, of a line, and
+    /// the number of all; or `None` if there is no such match.
     ///
     /// # Complexity
     ///

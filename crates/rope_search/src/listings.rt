@@ -1,4 +1,4 @@
-//! Writing a report.
+//! Writes reports.
 ghost use Rattle.std.specs.Prelude.{◌≡◌, ◌<◌, ◌^◌, [], ◌++◌, flat_map, OnOk, MatchResult};
 ghost use Rattle.rope_search_io.specs.WriteBuffer.{Puts, Writes, WritesUntil};
 ghost use Rattle.rope_search_reports.specs.Report.{match_count};
@@ -8,8 +8,8 @@ use itoa::Buffer as Digits;
 use rope_search_io::{Broken, Sink, WriteBuffer};
 use rope_search_reports::{Position, Row};
 
-/// Puts a match behind the bytes that wait: the number of its line, and its two columns. After an
-/// error the sink took a front of what waited and of this.
+/// Appends a match to the buffered bytes: the number of its line, and its two columns. After an
+/// error, a prefix of the buffered bytes and the match was written.
 fn put_match<W: Sink>(
     line: usize,
     span: (usize, usize),
@@ -33,8 +33,8 @@ fn put_match<W: Sink>(
     write_buffer.put_parts(sink, &[b"m ", line, b" ", start, b" ", end, b"\n"])
 }
 
-/// Writes a match: the line and the column where it starts, and those where it ends. After an error
-/// a front of it is written.
+/// Writes a match: the line and the column where it starts, and those where it ends. After an
+/// error, a prefix of it was written.
 pub fn write_found<W: Sink>(
     start: Position,
     end: Position,
@@ -70,8 +70,8 @@ pub fn write_found<W: Sink>(
     )
 }
 
-/// Puts the matches of a line behind the bytes that wait. After an error the sink took a front of
-/// what waited and of these.
+/// Appends the matches of a line to the buffered bytes. After an error, a prefix of the buffered
+/// bytes and these was written.
 fn put_row<W: Sink>(
     line: usize,
     matches: &[(usize, usize)],
@@ -90,8 +90,8 @@ fn put_row<W: Sink>(
     Ok(())
 }
 
-/// Writes a report: a line for each match, and then how many there are. After an error a front of
-/// it is written.
+/// Writes a report: a line for each match, followed by their number. After an error, a prefix of it
+/// was written.
 pub fn write_report<W: Sink>(
     rows: &[Row],
     write_buffer: &mut WriteBuffer,

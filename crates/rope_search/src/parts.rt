@@ -1,4 +1,4 @@
-//! A part of a text, between two places, and another text in its place.
+//! A part of a text, between two offsets, and its replacement.
 ghost use Rattle.std.specs.Prelude.{◌≡◌, ℕ, ◌+◌, ◌^◌, ◌<◌, ◌↔◌, List, [], ◌∷◌, length, IsTrue, IfOk, IfErr, IfSome, IfNone};
 ghost use Rattle.std.specs.Str.{chars};
 ghost use Rattle.str_indices.specs.Text.{byte_len};
@@ -11,7 +11,7 @@ use rope_search_io::Fault;
 use rope_search_reports::{Change, Place, Position, places_of};
 use ropey::Rope;
 
-/// A part of a text: from one place to another.
+/// A part of a text: from one offset to another.
 #[derive(Clone, Copy, Debug, PartialEq, Eq)]
 pub struct Part {
     /// Where it starts.
@@ -21,14 +21,14 @@ pub struct Part {
 }
 
 impl Part {
-    /// What stands between two positions of a text. None where one of them is nowhere, or the
-    /// second one is before the first.
+    /// Returns the part of a text between two positions, or `None` if one of them is nowhere, or
+    /// the second one is before the first.
     pub fn between(text: &Rope, from: Position, to: Position) -> Option<Part>
         ensures part { IfSome result (λ part.
             IsMarkedBetween (text_of text.now) from to part) }
         ensures none { IfNone result (HasNoneBetween (text_of text.now) from to) }
     {
-        // A law, for the proof alone.
+        // For the proof: a law.
         rope_search_reports::laws::one_place();
         let (start, end) = places_of(text, from, to)?;
         if end.char_idx < start.char_idx {
@@ -37,8 +37,8 @@ impl Part {
         Some(Part { start, end })
     }
 
-    /// Whether the text, with another one in this part's place, would have more bytes than the
-    /// limit.
+    /// Returns whether the text would have more bytes than the limit if another text replaced this
+    /// part.
     pub fn is_over(self, limit: usize, text: &Rope, inserted: &str) -> bool
         requires { IsMarked (text_of text.now) self }
         ensures { IsTrue result ↔ limit <
@@ -48,8 +48,7 @@ impl Part {
         limit < inserted.len() || limit - inserted.len() < kept
     }
 
-    /// The text with another one in this part's place. It may be refused with `Fault::Memory`
-    /// alone.
+    /// Returns the text with this part replaced by another text. Errors: `Fault::Memory` only.
     pub fn replaced(self, text: &Rope, inserted: &str) -> Result<Rope, Fault>
         requires marked { IsMarked (text_of text.now) self }
         requires fits { byte_len (with_replaced (text_of text.now) self (chars inserted.now))
@@ -58,7 +57,7 @@ impl Part {
             with_replaced (text_of text.now) self (chars inserted.now)) }
         ensures fault { IfErr result (λ fault. fault ≡ Fault.Memory) }
     {
-        // For its facts alone.
+        // For the proof: the text's facts.
         let _ = text.len_bytes();
         let mut new = text.clone()?;
         let range = self.start.byte_idx..self.end.byte_idx;
@@ -68,7 +67,7 @@ impl Part {
         Ok(new)
     }
 
-    /// The change that puts another text in this part's place.
+    /// Returns the change that replaces this part by another text.
     pub fn change(self, inserted: &str) -> Change
         requires { self.start.byte_idx + length inserted.now < 2 ^ 64 }
         ensures places { result ≡ record {

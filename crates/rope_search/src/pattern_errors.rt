@@ -1,4 +1,4 @@
-//! Where and why bytes are no pattern.
+//! Where and why bytes aren't a pattern.
 ghost use Rattle.std.specs.Prelude.{◌≡◌, ◌↔◌, ◌⊎◌, ℕ, IsSome, IfSome, IfOk, IfErr, Err};
 ghost use Rattle.std.specs.Str.{IsCharBoundary, IsUtf8};
 ghost use Rattle.rope_search_reports.specs.Explaining.{IsRefusedAs, default_settings};
@@ -12,17 +12,21 @@ use rope_search_reports::explaining::{Config, Refusal, explain};
 use simdutf8::compat::from_utf8;
 use std::alloc::Global;
 
-/// Returns where and why `Fault::Pattern` is what refuses these bytes as a pattern, and `None` where
-/// it isn't: they are a pattern, or they are refused with `Fault::Limit`, since they are more than
-/// 65,536 bytes, or a pattern that is too heavy.
+/// Returns where and why bytes are refused as a pattern with `Fault::Pattern`. Returns `None` if
+/// they are a pattern, or are refused with `Fault::Limit` because they are more than 65,536 bytes,
+/// or a pattern that is too heavy.
 ///
-/// `place` is the byte at which the first character begins with which the text can't go on to a
-/// pattern, and its length where the text ends too early: that a character begins there, or the
-/// text ends, is proved, and that it is the first one such is tested. `reason` is never
-/// `Reason::TooLong`. Time and memory are in proportion to the text, and to the square of the number
-/// of its groups' names.
+/// `place` is the byte offset of the first character that no valid pattern could contain there, or
+/// the text's length if it ends too early. That a character starts there, or the text ends, is
+/// proved; that it is the first such is tested. `reason` is never `Reason::TooLong`.
 ///
-/// Errors: `Fault::Utf8` where they aren't UTF-8; `Fault::Memory`, in place of any other answer.
+/// # Errors
+///
+/// `Fault::Utf8` if they aren't UTF-8; `Fault::Memory`, which may replace any result.
+///
+/// # Complexity
+///
+/// Time and memory proportional to the text, and to the square of the number of its group names.
 pub fn pattern_error(alloc: Global, pattern: &[u8]) -> Result<Option<Refusal>, Fault>
     ensures refused { IfOk result (λ found. (limit : ℕ) (session : State)
         → IsSome found ↔ Refuses limit session (SetPattern pattern.now) Fault.Pattern) }

@@ -1,4 +1,4 @@
-//! Reading a command's payload.
+//! Reads a command's payload.
 ghost use Rattle.std.specs.Prelude.{◌≡◌, ◌<◌, ◌≤◌, ◌++◌, [], List, ℕ, OnOk, length, take};
 ghost use Rattle.rope_search.specs.Stands.{StandsFor};
 ghost use Rattle.rope_search.specs.Requests.{Collects, CollectsMore, TakesPayload, TakesCollected};
@@ -7,20 +7,21 @@ use crate::commands::Payload;
 use rope_search_io::{Broken, ReadBuffer, Source, Utf8Judge};
 use std::alloc::{AllocError, Global};
 
-/// What is kept of a payload while it is read. It takes memory for the bytes that were read and at
-/// most as many again, and for no more than the line claims.
+/// What is kept of a payload while it is read. It takes memory for at most twice the bytes that
+/// were read, and never for more than the line's number of bytes.
 #[derive(Drop)]
 pub enum Collected {
     /// All bytes so far.
     Kept(Vec<u8>),
-    /// Whether they are UTF-8: the payload has more bytes than the limit on it.
+    /// Whether they are UTF-8; the payload has more bytes than its limit.
     Judged(Utf8Judge),
-    /// Nothing, since there was no memory.
+    /// Nothing, because there was no memory.
     Lost,
 }
 
 impl Collected {
-    /// Nothing yet of a payload of `len` bytes, which is kept where there are at most so many.
+    /// Returns the state before the first of `len` bytes, which are kept if they are at most
+    /// `most`.
     pub fn new(alloc: Global, len: u64, most: usize) -> Collected
         ensures collects { Collects most len result [] }
         ensures kept_or_judged { result ≡ Collected.Lost → ⊥ }
@@ -32,7 +33,7 @@ impl Collected {
         }
     }
 
-    /// The payload's next bytes, of `left` that are to come.
+    /// Adds the payload's next bytes; `left` is the number of bytes still to come.
     pub fn add(&mut self, bytes: &[u8], left: u64)
         ensures { CollectsMore self.old self.new bytes.now }
     {
@@ -47,7 +48,7 @@ impl Collected {
         }
     }
 
-    /// The payload, once all of it was read.
+    /// Returns the payload, after all of it was read.
     pub fn payload(&self) -> Payload<'_>
         ensures stands { (limit : ℕ) (bytes : List ℕ) → Collects limit (length bytes) self.now bytes
             → StandsFor limit result bytes }
@@ -63,7 +64,7 @@ impl Collected {
     }
 }
 
-/// Puts a payload's next bytes, of `left` that are to come, behind those that are kept.
+/// Appends a payload's next bytes to those kept; `left` is the number of bytes still to come.
 fn add_to(kept: &mut Vec<u8>, bytes: &[u8], left: u64) -> Result<(), AllocError>
     ensures more { OnOk result (kept.new.items ≡ kept.old.items ++ bytes.now) }
 {
@@ -75,7 +76,7 @@ fn add_to(kept: &mut Vec<u8>, bytes: &[u8], left: u64) -> Result<(), AllocError>
     kept.extend_from_slice(bytes)
 }
 
-/// The first bytes, at most so many, and all where there aren't more.
+/// Returns the first bytes, at most this number.
 fn front(bytes: &[u8], most: u64) -> &[u8]
     ensures front { result.now ≡ take (length result.now) bytes.now }
     ensures within { length result.now ≤ length bytes.now }
@@ -88,7 +89,7 @@ fn front(bytes: &[u8], most: u64) -> &[u8]
     &bytes[..most as usize]
 }
 
-/// Reads a payload of `len` bytes. False says that the input ended before.
+/// Reads a payload of `len` bytes. Returns `false` if the input ended before that.
 pub fn read_payload<R: Source>(
     read_buffer: &mut ReadBuffer,
     source: &mut R,
@@ -112,8 +113,8 @@ pub fn read_payload<R: Source>(
     Ok(true)
 }
 
-/// Reads a payload of `len` bytes, which is kept where there are at most so many. None says that
-/// the input ended before.
+/// Reads a payload of `len` bytes, which are kept if they are at most `most`. Returns `None` if the
+/// input ended before that.
 pub fn collect<R: Source>(
     read_buffer: &mut ReadBuffer,
     source: &mut R,

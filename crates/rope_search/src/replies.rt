@@ -1,4 +1,4 @@
-//! Writing the answer to a command.
+//! Writes the answer to a command.
 ghost use Rattle.std.specs.Prelude.{◌≡◌, [], OnOk, MatchResult};
 ghost use Rattle.rope_search_io.specs.WriteBuffer.{Writes, WritesUntil};
 ghost use Rattle.rope_search.specs.Shows.{IsShown};
@@ -10,7 +10,8 @@ use crate::texts::write_text;
 use itoa::Buffer as Digits;
 use rope_search_io::{Broken, Fault, Sink, WriteBuffer};
 
-/// Writes an answer, where this is the session after it. After an error a front of it is written.
+/// Writes an answer; the session is the one after the command. After an error, a prefix of the
+/// answer was written.
 pub fn write_answer<W: Sink>(
     session: &Session,
     answer: Result<Reply, Fault>,

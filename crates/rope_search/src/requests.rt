@@ -1,4 +1,4 @@
-//! Reading a whole command.
+//! Reads whole commands.
 ghost use Rattle.rope_search.specs.Requests.{TakesRequest, TakesRest};
 
 use crate::command_lines::{LINE_LEN, LineRead, read_line};
@@ -10,16 +10,16 @@ use crate::payloads::{Collected, collect};
 use rope_search_io::{Broken, ReadBuffer, Source};
 use std::alloc::Global;
 
-/// What was read next.
+/// The result of reading a command.
 #[derive(Drop)]
 pub enum Request {
-    /// A whole command, and what was kept of its payload.
+    /// A whole command, with what was kept of its payload.
     Given(Header, Collected),
     /// How the input ended.
     End(Ended),
 }
 
-/// Reads the next command, its payload too, or finds how the input ends.
+/// Reads the next command with its payload, or returns how the input ended.
 pub fn read_request<R: Source>(
     read_buffer: &mut ReadBuffer,
     source: &mut R,

@@ -13,8 +13,8 @@ use rope_search_io::{Broken, Failed, ReadBuffer, Sink, Source, WriteBuffer};
 use rope_search_reports::Lines;
 use std::alloc::Global;
 
-/// Reads commands to the input's end and writes their replies, under the default limits: a text has
-/// at most 1,073,741,824 bytes. Returns and errors are those of `run_limited`.
+/// Reads commands up to the end of the input and writes their replies, with the default limits: a
+/// text has at most 1,073,741,824 bytes. For the result and errors see `run_limited`.
 pub fn run<R: Source, W: Sink>(
     tick: &mut Lines,
     alloc: Global,
@@ -36,12 +36,14 @@ pub fn run<R: Source, W: Sink>(
     run_limited(tick, alloc, reader, writer, Limits::default())
 }
 
-/// Reads commands to the input's end and writes their replies, each whole before the next command
-/// is carried out, under these limits; then the ending's line, and then flushes, once. Returns how
-/// the input ended. Each read has room for 4,096 bytes, and none follows the one that tells the
-/// end.
+/// Reads commands up to the end of the input and writes their replies, with these limits. Each
+/// reply is written whole before the next command is executed. At the end the ending's line is
+/// written and the sink is flushed, once. Returns how the input ended. Each read has room for 4,096
+/// bytes; no read follows the one that reports the end.
 ///
-/// Errors: `Broken` says which call failed first, and what is written then. No call follows it.
+/// # Errors
+///
+/// `Broken` says which call failed first, and what was written by then. No call follows it.
 pub fn run_limited<R: Source, W: Sink>(
     tick: &mut Lines,
     alloc: Global,
@@ -49,17 +51,17 @@ pub fn run_limited<R: Source, W: Sink>(
     writer: &mut W,
     limits: Limits,
 ) -> Result<Ended, Broken>
-    // Where it ends, what it wrote is an answer to the whole input, however that was cut into
-    // reads; it made at most the rows of that answer's cost and the searches of whole texts that
-    // its commands may make; and it flushed once, after all that it wrote.
+    // If it ends, its output is an answer to the whole input, whatever the reads. It made at most
+    // the rows of that answer's cost and the whole searches of its commands, and flushed once,
+    // after all output.
     ensures answers { AnswersWhole limits.text result (R.state reader.old)
         (W.state writer.old) (W.state writer.new) tick.old tick.new }
 
-    // The same by what was read alone, with what each fault leaves.
+    // The same in terms of the bytes that were read, with the state after each fault.
     ensures ran { Ran limits.text result (R.state reader.old) (R.state reader.new)
         (W.state writer.old) (W.state writer.new) tick.old tick.new }
 
-    // A fault comes exactly where the source or the sink counted one.
+    // It fails exactly if the source or the sink counted a fault.
     ensures read { (result ≡ Err Broken.Read)
         ↔ ((R.state reader.old).failures < (R.state reader.new).failures) }
     ensures write { (result ≡ Err Broken.Write)
@@ -70,7 +72,7 @@ pub fn run_limited<R: Source, W: Sink>(
     run_turns(tick, alloc, reader, writer, limits)
 }
 
-/// The turns of a run, from the first session to the ending.
+/// Runs all turns, from the first session to the ending.
 fn run_turns<R: Source, W: Sink>(
     tick: &mut Lines,
     alloc: Global,
@@ -84,7 +86,7 @@ fn run_turns<R: Source, W: Sink>(
     let Ok(mut session) = Session::new(alloc, limits) else {
         return Err(Broken::Memory);
     };
-    // Laws, for the proof alone: the replies that a failed write keeps back can be told.
+    // For the proof: laws, so that the replies that a failed write kept back are known.
     laws::known();
     rope_search_reports::laws::has_report();
     let mut read_buffer = ReadBuffer::new();
@@ -107,7 +109,7 @@ fn run_turns<R: Source, W: Sink>(
     }
 }
 
-/// Reads one command, carries it out and writes its reply; or finds how the input ended.
+/// Reads one command, executes it and writes its reply; or returns how the input ended.
 fn turn<R: Source, W: Sink>(
     tick: &mut Lines,
     session: &mut Session,
@@ -135,7 +137,7 @@ fn turn<R: Source, W: Sink>(
           ticks = tick.new;
         }) }
 {
-    // A law, and the session's facts, for the proof alone: each command has a cost.
+    // For the proof: a law, that each command has a cost, and the session's facts.
     laws::known();
     let _ = session.buffer();
     let alloc = session.alloc();
@@ -150,7 +152,7 @@ fn turn<R: Source, W: Sink>(
     }
 }
 
-/// The line that is written last.
+/// Returns the last line.
 fn closing_line(ending: Ended) -> &'static [u8]
     ensures { result.now ≡ closing ending }
 {
@@ -161,7 +163,7 @@ fn closing_line(ending: Ended) -> &'static [u8]
     }
 }
 
-/// Writes the line that is written last, and flushes.
+/// Writes the last line, and flushes.
 fn close<W: Sink>(
     ending: Ended,
     write_buffer: &mut WriteBuffer,

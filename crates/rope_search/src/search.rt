@@ -1,4 +1,4 @@
-//! A pattern that is set, and its report, which edits and replacements patch.
+//! A pattern with its report, which edits and replacements patch.
 ghost use Rattle.std.specs.Prelude.{◌≡◌, None, Some, if◌then◌else◌, is_some, ℕ, ◌+◌, ◌^◌, ◌<◌, ◌≤◌, ◌↔◌, ◌⊎◌};
 ghost use Rattle.std.specs.Prelude.{length, chars, Err, OnOk, OnErr, IfOk, IfErr, IsSome};
 ghost use Rattle.ropey.specs.Chunks.{text_of};
@@ -29,7 +29,7 @@ use rope_search_templates::{Matches, Replacement, Template, is_over, replace_all
 use ropey::Rope;
 use std::alloc::Global;
 
-/// A pattern that is set, and the report of its matches: a row for each line of the text.
+/// A pattern, and the report of its matches: a row for each line of the text.
 #[derive(Drop)]
 pub struct Search {
     /// The pattern.
@@ -38,31 +38,31 @@ pub struct Search {
     pub rows: Vec<Row>,
 }
 
-/// The patches of a report, and room for what they bring.
+/// The patches of a report, and room for the new rows.
 #[derive(Drop)]
 pub struct Patches {
     /// The patches, from the first row on.
     pub patches: Vec<Patch>,
-    /// An empty list for the whole new report. None where the old one's list has room.
+    /// An empty list for the whole new report, or `None` if the old list has room.
     pub room: Option<Vec<Row>>,
-    /// Which rows they replace.
+    /// The rows that they replace.
     pub changed: Stretch,
 }
 
-/// A text with all matches replaced, and what that makes of its report.
+/// A text with all matches replaced, and the patches of its report.
 #[derive(Drop)]
 pub struct Replaced {
-    /// How many matches were replaced.
+    /// The number of replaced matches.
     pub count: usize,
     /// The new text.
     pub text: Rope,
-    /// The changes that make it of the old one.
+    /// The changes from the old text to the new one.
     pub changes: Changes,
-    /// The patches that make the report that of the new text.
+    /// The patches from the old report to the new one.
     pub patches: Patches,
 }
 
-/// How many rows the report of a text has, or none where there is no pattern.
+/// Returns the number of rows of the report of a text; 0 without a pattern.
 pub fn row_count(search: &Option<Search>, text: &Rope) -> usize
     ensures { result ≡ (if is_some search.now then line_count (text_of text.now) else 0) }
 {
@@ -72,10 +72,10 @@ pub fn row_count(search: &Option<Search>, text: &Rope) -> usize
     }
 }
 
-/// Room for patches. Where at most one of them moves the rows behind it, it is made in the report's
-/// own list, for those rows alone by which that grows, so an edit inside a line asks for none. Else
-/// it is made in a new one with room for `len` rows, into which each row is moved once. It may be
-/// refused with `Fault::Memory` alone; the report is as before.
+/// Reserves room for patches. If at most one of them moves the rows after it, space for the added
+/// rows only is reserved in place, so an edit inside a line needs none. Otherwise a new list with
+/// room for `len` rows is made, into which each row is moved once. Errors: `Fault::Memory` only;
+/// the report is unchanged.
 fn room_for(
     alloc: Global,
     rows: &mut Vec<Row>,
@@ -98,9 +98,9 @@ fn room_for(
     Ok(Some(room))
 }
 
-/// All matches in a text, as far as a template needs them: their spans alone, where it names no
-/// group but the whole match. One search of a whole text is counted. It may be refused with
-/// `Fault::Memory` alone.
+/// Returns all matches in a text, with the groups that a template needs: if it names no group
+/// except the whole match, only spans. Counts one search of a whole text. Errors: `Fault::Memory`
+/// only.
 fn matches_for(
     tick: &mut Lines,
     finder: &mut Finder,
@@ -115,7 +115,7 @@ fn matches_for(
     ensures wholes { tick.new.wholes ≤ tick.old.wholes + 1 }
     ensures grows { tick.old.wholes ≤ tick.new.wholes }
 {
-    // A law, for the proof alone.
+    // For the proof: a law.
     rope_search_templates::laws::spans_are_enough();
     if template.names_explicit_groups() {
         let groups = find_all(tick, finder, text)?;
@@ -126,9 +126,9 @@ fn matches_for(
 }
 
 impl Search {
-    /// The patches that make the report that of the text after some changes, and room for them. For
-    /// each change they make at most as many rows as what it puts in has lines, and never more than
-    /// the new text has. It may be refused with `Fault::Memory` alone. The report is as before.
+    /// Returns the patches that turn the report into that of the text after some changes, and room
+    /// for them. Makes at most as many rows as the inserted texts have lines, and at most as many
+    /// as the new text has. Errors: `Fault::Memory` only. The report is unchanged.
     pub fn patches(
         &mut self,
         tick: &mut Lines,
@@ -157,7 +157,7 @@ impl Search {
             → tick.new.count ≤ tick.old.count + n }
         ensures once { MakesAtMost (line_count (text_of new.now)) tick.old tick.new }
     {
-        // Laws, and the texts' facts, for the proof alone.
+        // For the proof: laws, and the texts' facts.
         rope_search_reports::laws::few_matches();
         rope_search_reports::laws::a_row_a_line();
         let _ = old.len_lines();
@@ -173,10 +173,10 @@ impl Search {
         })
     }
 
-    /// A text with all its matches replaced by what the template stands for at each, the changes
-    /// that make it of the old one, and the patches that make the report that of this text. It is
-    /// refused with `Fault::Size` where the new text would have more bytes than the limit, and
-    /// perhaps with `Fault::Memory`. The report is as before.
+    /// Returns a text with all its matches replaced by the expansions of the template, the changes
+    /// from the old text to it, and the patches from the old report to the new one. Errors:
+    /// `Fault::Size` if the new text would have more bytes than the limit; `Fault::Memory`. The
+    /// report is unchanged.
     pub fn replaced(
         &mut self,
         tick: &mut Lines,
@@ -217,7 +217,7 @@ impl Search {
         ensures wholes { tick.new.wholes ≤ tick.old.wholes + 1 }
         ensures never_fall { NeverFall tick.old tick.new }
     {
-        // Laws, and the text's facts, for the proof alone.
+        // For the proof: laws, and the text's facts.
         rope_search_reports::laws::replacements_are_changes();
         rope_search_reports::laws::one_list_of_groups();
         let _ = old.len_bytes();
@@ -236,7 +236,7 @@ impl Search {
         })
     }
 
-    /// Patches the report. It takes no memory.
+    /// Patches the report. Allocates nothing.
     pub fn apply(&mut self, patches: Patches)
         requires { FitIn self.old patches }
         ensures finder { self.new.finder ≡ self.old.finder }
@@ -250,9 +250,9 @@ impl Search {
         }
     }
 
-    /// Makes the report that of the text after some changes, as `patches` and `apply` do, and
-    /// returns which rows are replaced. It may be refused with `Fault::Memory` alone; the report is
-    /// then as before.
+    /// Turns the report into that of the text after some changes, as `patches` and `apply` do, and
+    /// returns the rows that are replaced. Errors: `Fault::Memory` only; the report is then
+    /// unchanged.
     pub fn follow(
         &mut self,
         tick: &mut Lines,
@@ -277,7 +277,7 @@ impl Search {
             tick.old.count + lines_put (bytes_of (text_of new.now)) changes.now }
         ensures once { MakesAtMost (line_count (text_of new.now)) tick.old tick.new }
     {
-        // A law, and the text's facts, for the proof alone.
+        // For the proof: a law, and the text's facts.
         rope_search_reports::laws::changes_put_lines();
         let _ = new.len_bytes();
         let patches = self.patches(tick, alloc, old, new, changes)?;
@@ -286,9 +286,9 @@ impl Search {
         Ok(changed)
     }
 
-    /// The first match in a whole text that starts at a position or behind it: the positions where
-    /// it starts and where it ends, or none. It is refused with `Fault::Range` where the position
-    /// is nowhere in the text, and perhaps with `Fault::Memory`. The report is as before.
+    /// Returns the first match in a whole text that starts at a position or after it: the positions
+    /// where it starts and where it ends, or `None`. Errors: `Fault::Range` if the position is
+    /// nowhere in the text; `Fault::Memory`. The report is unchanged.
     pub fn next_from(
         &mut self,
         tick: &mut Lines,
@@ -304,7 +304,7 @@ impl Search {
         ensures rows { self.new.rows.items ≡ self.old.rows.items }
         ensures searches { SearchesOneWhole tick.old tick.new }
     {
-        // A law, and the text's facts, for the proof alone.
+        // For the proof: a law, and the text's facts.
         rope_search_reports::laws::finds_are_in_text();
         let Some(place) = place_of(text, from) else {
             return Err(Fault::Range);
@@ -315,9 +315,9 @@ impl Search {
         Ok(Some((position_of(text, start), position_of(text, end))))
     }
 
-    /// The groups of the match of a number, from 0, in a line of a text, each by its columns. It is
-    /// refused with `Fault::Range` where there is no such line, or no such match in it, and perhaps
-    /// with `Fault::Memory`. A line that there is is searched, and counted. The report is as before.
+    /// Returns the groups, as columns, of match `number`, from 0, in a line of a text. Errors:
+    /// `Fault::Range` if there is no such line or no such match in it; `Fault::Memory`. If the line
+    /// exists, it is searched and counted. The report is unchanged.
     pub fn groups_at(
         &mut self,
         tick: &mut Lines,

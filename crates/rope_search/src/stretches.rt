@@ -1,4 +1,4 @@
-//! Which rows of a report others took the place of.
+//! Which rows of a report a call replaced.
 ghost use Rattle.std.specs.Prelude.{◌≡◌, ◌≤◌, List, ℕ, [], ◌∷◌};
 ghost use Rattle.ropey.specs.Chunks.{text_of};
 ghost use Rattle.rope_search_reports.specs.Text.{bytes_of, line_count};
@@ -12,21 +12,21 @@ ghost use Rattle.rope_search.specs.Stretches as stretches;
 use rope_search_reports::{Change, Patch};
 use ropey::Rope;
 
-/// Rows of a report that others took the place of: all rows before them are as they were, and so
-/// are all behind them, which may have moved.
+/// Replaced rows of a report: the rows before them are unchanged, and so are those after them,
+/// which may have moved.
 #[repr(C)]
 #[derive(Clone, Copy, Debug, PartialEq, Eq)]
 pub struct Stretch {
-    /// The first row that another one took the place of, or where rows came or went.
+    /// The first row that was replaced, or where rows were added or removed.
     pub first: usize,
-    /// How many rows of the old report are gone, from the first on.
+    /// The number of rows removed from the old report, from the first on.
     pub removed: usize,
-    /// How many rows of the new report stand in their place.
+    /// The number of rows of the new report in their place.
     pub added: usize,
 }
 
 impl Stretch {
-    /// No row.
+    /// Returns the stretch of no rows.
     pub(crate) fn none() -> Stretch
         ensures { result ≡ stretches.none }
     {
@@ -37,7 +37,7 @@ impl Stretch {
         }
     }
 
-    /// All rows of a report, by how many there were and are.
+    /// Returns the stretch of all rows of a report, from the old and the new number of rows.
     pub(crate) fn whole(removed: usize, added: usize) -> Stretch
         ensures { result ≡ stretches.whole_stretch removed added }
     {
@@ -49,7 +49,7 @@ impl Stretch {
     }
 }
 
-/// The change from where the first of some starts to where the last ends.
+/// Returns the change from where the first of the changes starts to where the last ends.
 fn hull(changes: &[Change]) -> Option<Change>
     ensures { result ≡ hull_of changes.now }
 {
@@ -62,13 +62,13 @@ fn hull(changes: &[Change]) -> Option<Change>
     })
 }
 
-/// The lines of a text that a change touches, and those that it makes of them.
+/// Returns the lines that a change touches, in the old and in the new text.
 fn lines_by(old: &Rope, new: &Rope, change: Change) -> Stretch
     requires { Lead (change ∷ []) (text_of old.now) (text_of new.now) }
     ensures lines { IsStretch (line_texts (text_of old.now)) (line_texts (text_of new.now)) result }
     ensures added { result.added ≤ lines_put (bytes_of (text_of new.now)) (change ∷ []) }
 {
-    // Laws, and the texts' facts, for the proof alone.
+    // For the proof: laws, and the texts' facts.
     rope_search_reports::laws::changes_keep_lines();
     rope_search_reports::laws::tails_keep_lines();
     rope_search_reports::laws::changes_put_lines();
@@ -86,9 +86,9 @@ fn lines_by(old: &Rope, new: &Rope, change: Change) -> Stretch
     }
 }
 
-/// The rows of a report that make way where changes lead to another text: those of the lines from
-/// where the first change starts to where the last ends. Requires changes that lead from the old
-/// text to the new one. `O(log n)`.
+/// Returns the rows of a report that changes replace: those of the lines from where the first
+/// change starts to where the last ends. Requires changes that lead from the old text to the new
+/// one. `O(log n)`.
 fn stretch_of(old: &Rope, new: &Rope, changes: &[Change]) -> Stretch
     requires { Lead changes.now (text_of old.now) (text_of new.now) }
     ensures rows { (pattern : List ℕ)
@@ -96,7 +96,7 @@ fn stretch_of(old: &Rope, new: &Rope, changes: &[Change]) -> Stretch
     ensures added { result.added
         ≤ lines_spanned (bytes_of (text_of new.now)) changes.now }
 {
-    // A law, for the proof alone.
+    // For the proof: a law.
     rope_search_reports::laws::one_list_of_matches();
     match hull(changes) {
         None => Stretch::none(),
@@ -104,8 +104,8 @@ fn stretch_of(old: &Rope, new: &Rope, changes: &[Change]) -> Stretch
     }
 }
 
-/// The rows of a report that make way for its patches where changes lead to another text, as
-/// `stretch_of` has them. Those of one change are told by its patch, without a look-up.
+/// Returns the rows of a report that patches replace, as `stretch_of` does. The patch of a single
+/// change has them, without a look-up.
 pub fn stretch_by(old: &Rope, new: &Rope, changes: &[Change], patches: &[Patch]) -> Stretch
     requires led { Lead changes.now (text_of old.now) (text_of new.now) }
     requires turn { AreInTurn 0 (line_count (text_of old.now)) patches.now }
@@ -117,7 +117,7 @@ pub fn stretch_by(old: &Rope, new: &Rope, changes: &[Change], patches: &[Patch])
         → ReplacesIn (text_of old.now) (text_of new.now) pattern result }
     ensures added { result.added ≤ lines_spanned (bytes_of (text_of new.now)) changes.now }
 {
-    // Laws, and the text's facts, for the proof alone.
+    // For the proof: laws, and the text's facts.
     rope_search_reports::laws::one_list_of_matches();
     let _ = new.len_bytes();
     if changes.len() != 1 || patches.len() != 1 {

@@ -5,8 +5,8 @@ ghost use Rattle.rope_search.specs.TextChanges.{range_from, range_in, ranges_in}
 
 use rope_search_reports::Change;
 
-/// A range of the old text and the range of the new text that took its place, in bytes. Either may
-/// be empty.
+/// A range of the old text and the range of the new text that replaced it, in bytes. Either may be
+/// empty.
 #[repr(C)]
 #[derive(Clone, Copy, Debug, PartialEq, Eq)]
 pub struct TextChange {
@@ -21,7 +21,7 @@ pub struct TextChange {
 }
 
 impl TextChange {
-    /// The range of a change, of which the one before it ends at these places of both texts.
+    /// Returns the range of a change; the one before it ends at these offsets of the two texts.
     fn from_change(change: Change, at: usize, at_new: usize) -> TextChange
         requires behind { at_new ≤ change.new_start }
         requires ordered { at + (change.new_start - at_new) ≤ change.old_end }
@@ -35,7 +35,7 @@ impl TextChange {
         }
     }
 
-    /// The range itself, or that of the way back.
+    /// Returns the range itself, or its reverse.
     fn directed(self, is_back: bool) -> TextChange
         ensures { result ≡ range_in is_back self }
     {
@@ -51,7 +51,7 @@ impl TextChange {
     }
 }
 
-/// Puts the ranges of changes, or of the way back, at the front of a buffer, as many as fit.
+/// Writes the ranges of changes, or of their reverse, to the front of a buffer, as many as fit.
 pub fn put_ranges(changes: &[Change], is_back: bool, out: &mut [TextChange])
     requires { (old : List ℕ) × (new : List ℕ) × Lead changes.now old new }
     ensures { out.new ≡ take (length out.old) (ranges_in is_back changes.now)

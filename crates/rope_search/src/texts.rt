@@ -1,4 +1,4 @@
-//! Writing a text.
+//! Writes texts.
 ghost use Rattle.std.specs.Prelude.{◌≡◌, [], ◌++◌, OnOk, MatchResult};
 ghost use Rattle.rope_search_io.specs.WriteBuffer.{Puts, Writes, WritesUntil};
 ghost use Rattle.rope_search_reports.specs.Text.{bytes_of};
@@ -9,8 +9,8 @@ use itoa::Buffer as Digits;
 use rope_search_io::{Broken, Sink, WriteBuffer};
 use ropey::Rope;
 
-/// Puts a text behind the bytes that wait, chunk by chunk. After an error the sink took a front of
-/// what waited and of this.
+/// Appends a text to the buffered bytes, chunk by chunk. After an error, a prefix of the buffered
+/// bytes and the text was written.
 fn put_text<W: Sink>(
     text: &Rope,
     write_buffer: &mut WriteBuffer,
@@ -28,7 +28,8 @@ fn put_text<W: Sink>(
     Ok(())
 }
 
-/// Writes a text: how many bytes it has, and then these. After an error a front of that is written.
+/// Writes a text: its number of bytes, followed by these. After an error, a prefix of that was
+/// written.
 pub fn write_text<W: Sink>(
     text: &Rope,
     write_buffer: &mut WriteBuffer,

@@ -1,4 +1,4 @@
--- The bytes so far are the front of the line, and no LF is among them.
+-- The bytes so far are the start of the line, and none of them is an LF.
 use Rattle.std.proofs.Common.{◌≡◌, length, take}
 use Rattle.rope_search_io.specs.ReadBuffer.{Takes}
 use Rattle.rope_search.specs.Reads.{HasNoLf}

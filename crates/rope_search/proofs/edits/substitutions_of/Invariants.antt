@@ -1,4 +1,4 @@
--- What is known of the edits up to some one.
+-- What is known of the edits so far.
 use Rattle.std.proofs.Common.{◌≡◌, length, drop, map, vec_len, vec_capacity}
 use Rattle.ropey.specs.Chunks.{text_of}
 use Rattle.rope_search_templates.specs.Substitutions.{told, AreUtf8}

@@ -1,4 +1,4 @@
--- No space is among the bytes so far.
+-- None of the bytes so far is a space.
 use Rattle.std.proofs.Common.{take}
 use Rattle.rope_search.specs.Header.{HasNoSpace}
 use Rattle.rope_search.proofs.headers.len_to_space.Given as goal

@@ -5,7 +5,7 @@ use Rattle.rope_search.specs.Header.{HasNoSpace, EndsNumber}
 use Rattle.rope_search.proofs.HeaderLemmas.{Begins-number, Begins-none}
 use Rattle.rope_search.proofs.headers.next_number.Goals as goal
 
--- bytes that are cut are the space, the digits and the others
+-- bytes that are split are the space, the digits and the others
 cut_whole : (bytes rest digits others : List ℕ) (k : ℕ) → bytes ≡ (32 ∷ []) ++ rest → digits ≡ take k rest → others ≡ drop k rest → bytes ≡ 32 ∷ digits ++ others
 cut_whole bytes rest digits others k whole front back =
     whole ∙ ap (λ l. 32 ∷ l) (sym (take-append-drop k rest) ∙ ap (λ l. l ++ drop k rest) (sym front) ∙ ap (λ l. digits ++ l) (sym back))

@@ -1,4 +1,4 @@
--- What is left of the digits spells, after the value so far, what all of them spell.
+-- The remaining digits spell, after the value so far, what all of them spell.
 use Rattle.std.proofs.Common.{◌↔◌, ◌<◌, ◌^◌, ℕ, drop}
 use Rattle.rope_search.specs.Header.{Spelling}
 use Rattle.rope_search.proofs.headers.number_of.Given as goal

@@ -1,4 +1,4 @@
--- The changes of the versions so far, put together.
+-- The changes of the versions so far, composed.
 use Rattle.std.proofs.Common.{◌≤◌}
 use Rattle.rope_search.specs.Joints.{version_changes, version_texts}
 use Rattle.rope_search.proofs.JoinedLemmas.{Between}

@@ -1,4 +1,4 @@
--- The changes that are put together so far.
+-- The changes composed so far.
 use Rattle.std.proofs.Common.{◌≡◌, ◌+◌}
 use Rattle.rope_search.proofs.JoinSteps.{SoFar}
 use Rattle.rope_search.proofs.joins.composed.Given as goal

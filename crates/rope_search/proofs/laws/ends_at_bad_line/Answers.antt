@@ -1,4 +1,4 @@
--- What is answered with more behind a bad line is answered without it, and the other way round.
+-- The answers with more bytes after a bad line are those without them, and the other way round.
 use Rattle.rope_search.proofs.RunLaws.{Answers-more}
 use Rattle.rope_search.proofs.AnswerLaws.{Answers-less}
 use Rattle.rope_search.proofs.laws.ends_at_bad_line.Goals as goal

@@ -1,4 +1,4 @@
--- Each command has a step, and apart from want of memory no other.
+-- Each command has a step, and except out of memory no other.
 use Rattle.rope_search.proofs.StepLaws.{step_exists, step_one}
 use Rattle.rope_search.proofs.laws.one_step.Goals as goal
 

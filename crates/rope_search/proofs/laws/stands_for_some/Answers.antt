@@ -1,4 +1,4 @@
--- Every command stands for some command of the definition.
+-- Every command represents some command of the definition.
 use Rattle.rope_search.proofs.StandLaws.{stands_exist}
 use Rattle.rope_search.proofs.laws.stands_for_some.Goals as goal
 

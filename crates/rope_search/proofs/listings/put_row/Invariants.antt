@@ -1,4 +1,4 @@
--- The matches so far went behind what waited.
+-- The matches so far were appended to the buffered bytes.
 use Rattle.std.proofs.Common.{take, flat_map}
 use Rattle.rope_search_io.specs.WriteBuffer.{Puts}
 use Rattle.rope_search.specs.Shows.{shown_match}

@@ -1,4 +1,4 @@
--- The rows so far went on their way, and their matches are counted.
+-- The rows so far were put, and their matches are counted.
 use Rattle.std.proofs.Common.{◌≡◌, [], take}
 use Rattle.rope_search_io.specs.WriteBuffer.{Puts}
 use Rattle.rope_search_reports.specs.Report.{match_count}

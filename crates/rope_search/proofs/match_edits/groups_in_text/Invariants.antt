@@ -1,4 +1,4 @@
--- The groups so far, by their places.
+-- The groups so far, as offsets.
 use Rattle.std.proofs.Common.{◌≡◌, length, map, option_map, take}
 use Rattle.ropey.specs.Slices.{slice_text}
 use Rattle.rope_search.specs.MatchEdits.{placed_behind}

@@ -1,4 +1,4 @@
--- The turns so far, from the first session; nothing waits to be written.
+-- The turns so far, from the first session; nothing is left to be written.
 use Rattle.std.proofs.Common.{◌≡◌, []}
 use Rattle.rope_search_io.specs.ReadBuffer.{most_to_come}
 use Rattle.rope_search.specs.Runs.{start, SoFar}

@@ -1,4 +1,4 @@
--- The ranges so far are at the buffer's front.
+-- The ranges so far are at the buffer's start.
 use Rattle.rope_search.proofs.TextChangeLemmas.{RangesPut}
 use Rattle.rope_search.proofs.text_changes.put_ranges.Given as goal
 

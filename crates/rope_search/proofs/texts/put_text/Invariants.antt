@@ -1,4 +1,4 @@
--- The chunks so far went behind what waited.
+-- The chunks so far were appended to the buffered bytes.
 use Rattle.ropey.specs.Chunks.{text_of}
 use Rattle.rope_search.proofs.PrintLemmas.{PutSoFar}
 use Rattle.rope_search.proofs.texts.put_text.Given as goal

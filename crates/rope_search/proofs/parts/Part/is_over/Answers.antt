@@ -6,7 +6,7 @@ use Rattle.ropey.specs.Chunks.{text_of}
 use Rattle.rope_search.proofs.PartLaws.{replaced_len, marked_within}
 use Rattle.rope_search.proofs.parts.Part.is_over.Goals as goal
 
--- a comparison tells what it compares
+-- a comparison returns what it compares
 told_less : (a b : ℕ) → a < b → IsTrue (nat_lt a b)
 told_less a b less = grind (arith, nat_tests, less)
 
