@@ -1,5 +1,5 @@
--- Columns in bytes, in UTF-16 code units and in characters. A `Position` has a column in UTF-16 code
--- units.
+-- Columns in bytes, in UTF-16 code units and in characters. A `Position` has a column in UTF-16
+-- code units.
 use Rattle.std.specs.Prelude.{◌≡◌, ℕ, ◌-◌, ◌≤◌, List, length}
 use Rattle.std.specs.Str.{IsCharBoundary}
 use Rattle.str_indices.specs.Laws.{AnyTexts, EndsAddUp, RisesWithPlace, NoMoreThanBytes, ComesBack, EndsAndPlacesAgree, LastEndIsBefore, CharsAndBoundariesAgree}

@@ -24,8 +24,8 @@ abbrev pub Refuses : ℕ → State → Order → Fault → Type 0
 Refuses limit session (SetText payload) Utf8 = ¬ (IsUtf8 payload)
 Refuses limit session (SetText payload) Size = limit < length payload
 Refuses limit session (SetText payload) fault = ⊥
--- a position is nowhere in the text, or the second one is before the first; the payload isn't UTF-8;
--- or the new text would have too many bytes
+-- a position is nowhere in the text, or the second one is before the first; the payload isn't
+-- UTF-8; or the new text would have too many bytes
 Refuses limit session (EditText from to payload) Range =
     HasNoneBetween (current_text (chosen_buffer session)) from to
 Refuses limit session (EditText from to payload) Utf8 = ¬ (IsUtf8 payload)

@@ -61,7 +61,7 @@ module _ {M : Type 1} {𝓤 : Ura M} {𝓛 : Logic 𝓤} {K : Type 0} {Γ : List
       fpack t (Valss (RawPtr ∷ bool ∷ G ∷ [])) (within (shape handle.the_type) (to handle.the_type d) (v ∷ []))
       (ptr_val d.ptr ∷ [], (vbool d.is_open ∷ [], (g ∷ [], tt))) $ fjoin t $ s)
 
-  -- and the other way
+  -- and the other way round
   pub handle_out : K → (d : H.Denot) (vs : List Val)
       → ((g : Val) → vs ≡ triple d.ptr d.is_open g ∷ [] → Good (layout G) g
       → Seq K 𝓛 (‵ (handle_owns d.alloc d.ptr d.is_open d.held) ∷ ‵ (G.own_val d.alloc (g ∷ [])) ∷ Γ) Q)

@@ -1,4 +1,4 @@
--- Rows whose columns are told in another encoding, and where they go in a buffer.
+-- Rows with columns in another encoding, and where they are in a buffer.
 use Rattle.std.proofs.Common.{◌≡◌, ℕ, zero, suc, ◌+◌, ◌-◌, ◌^◌, ◌<◌, ◌≤◌, List, [], ◌∷◌, ◌++◌, length, take, drop, map, get_or, refl, ap, sym, subst, ◌∙◌, arith, append-nil, inl, inr}
 use Rattle.std.specs.Prelude.{All, Option, None, Some}
 use Rattle.std.proofs.lemmas.Bool.{cases_lt}
@@ -14,7 +14,7 @@ use Rattle.rope_search.specs.Session.{BufferState, IsReportIn, current_text}
 use Rattle.rope_search.specs.declared.encodings.Encoding.{Encoding}
 use Rattle.rope_search_c.specs.Reading.{rows_between}
 
--- an element that there is, whatever stands for others
+-- an element inside the list, whatever the default
 pub same-inside : {X : Type 0} (xs : List X) (i : ℕ) (d e : X) → i < length xs → get_or xs i d ≡ get_or xs i e
 same-inside [] i d e inside = absurd (omega (arith, inside))
 same-inside (x ∷ xs) zero d e inside = refl
@@ -36,7 +36,7 @@ row-as e text line (row ∷ rows) zero = ap (λ n. map (columns_as e (line_text 
 row-as e text line (row ∷ rows) (suc i) =
     row-as e text (line + 1) rows i ∙ ap (λ n. map (columns_as e (line_text text n)) (get_or rows i [])) (omega arith)
 
--- they have as many matches
+-- they have equally many matches
 pub counts-as : (e : Encoding) (text : List ℕ) (line : ℕ) (rows : List (List (ℕ × ℕ))) (i : ℕ)
     → match_count (take i (rows_as e text line rows)) ≡ match_count (take i rows)
 unfolding rows_as

@@ -1,4 +1,4 @@
--- What C is told of bytes that may be a pattern, by what is answered of them.
+-- The result in C for bytes that may be a pattern.
 use Rattle.std.proofs.Common.{◌≡◌, ◌↔◌, ℕ, List, IsSome, ap, inl, inr, refl, sym, subst, ◌∙◌}
 use Rattle.std.specs.Prelude.{Option, None, Some}
 use Rattle.std.specs.Str.{IsCharBoundary}

@@ -1,4 +1,4 @@
--- The matches of rows, one after another, and buffers that have some of them at their front.
+-- The matches of rows, one after another, and buffers that start with some of them.
 use Rattle.std.proofs.Common.{◌≡◌, ℕ, suc, ◌+◌, ◌-◌, ◌<◌, ◌≤◌, List, [], ◌∷◌, ◌++◌, length, take, drop, map, set, get_or, ap, sym, ◌∙◌, append_assoc, append-nil, arith, refl}
 use Rattle.std.proofs.lemmas.List.{take_more, take_all, length-take-le, length-append, map-append, length-map}
 use Rattle.std.proofs.lemmas.List.Sums.{sum_by_more, sum_by-cons, sum_by-take-le, sum_by-take-drop}
@@ -15,7 +15,7 @@ spans_from-append line (x ∷ xs) ys =
     ap (λ l. map (span_in line) x ++ l) (spans_from-append (line + 1) xs ys ∙ ap (λ n. spans_from (line + 1) xs ++ spans_from n ys) (omega arith))
     ∙ sym (append_assoc (map (span_in line) x) (spans_from (line + 1) xs) (spans_from (line + length (x ∷ xs)) ys))
 
--- one row more
+-- one more row
 pub spans_from-more : (from : ℕ) (rows : List (List (ℕ × ℕ))) (i : ℕ) (d : List (ℕ × ℕ)) → i < length rows
     → spans_from from (take (i + 1) rows) ≡ spans_from from (take i rows) ++ map (span_in (from + i)) (get_or rows i d)
 unfolding spans_from
@@ -25,7 +25,7 @@ spans_from-more from rows i d inside =
     ∙ ap (λ n. spans_from from (take i rows) ++ spans_from n (get_or rows i d ∷ [])) here
     ∙ ap (λ l. spans_from from (take i rows) ++ l) (append-nil (map (span_in (from + i)) (get_or rows i d)))
 
--- they are as many as are counted
+-- their number is that counted
 pub length-spans_from : (from : ℕ) (rows : List (List (ℕ × ℕ))) → length (spans_from from rows) ≡ match_count rows
 unfolding spans_from
 length-spans_from from [] = refl
@@ -33,7 +33,7 @@ length-spans_from from (row ∷ rows) =
     length-append (map (span_in from) row) (spans_from (from + 1) rows)
     ∙ omega (arith, length-map row (span_in from), length-spans_from (from + 1) rows, sum_by-cons length row rows)
 
--- one match more
+-- one more match
 pub spans-more : (line : ℕ) (row : List (ℕ × ℕ)) (i : ℕ) (d : ℕ × ℕ) → i < length row
     → map (span_in line) (take (i + 1) row) ≡ map (span_in line) (take i row) ++ span_in line (get_or row i d) ∷ []
 spans-more line row i d inside = ap (map (span_in line)) (take_more row i d inside) ∙ map-append (span_in line) (take i row) (get_or row i d ∷ [])
@@ -50,7 +50,7 @@ module _ {X : Type 0} where
   pub with_no_front : (first : List X) → first ≡ with_front [] first
   with_no_front first = ap (λ l. l ++ first) (sym (take-nil (length first)))
 
-  -- one element more, which fits
+  -- one more element, which fits
   pub with_front-in : (done first : List X) (x : X) → length done < length first
       → set (with_front done first) (length done) x ≡ with_front (done ++ x ∷ []) first
   with_front-in [] [] x fits = absurd (omega (arith, fits))
@@ -58,7 +58,7 @@ module _ {X : Type 0} where
   with_front-in (z ∷ done) [] x fits = absurd (omega (arith, fits))
   with_front-in (z ∷ done) (y ∷ first) x fits = ap (λ l. z ∷ l) (with_front-in done first x (omega (arith, fits)))
 
-  -- one element more, for which there is no room
+  -- one more element, for which there is no room
   pub with_front-out : (done first : List X) (x : X) → length first ≤ length done
       → with_front done first ≡ with_front (done ++ x ∷ []) first
   with_front-out [] [] x full = refl
@@ -74,7 +74,7 @@ module _ {X : Type 0} where
 
 -- ---- one step of a copy
 
--- the match of one place more, which fits
+-- one more match, which fits
 pub put-match-in : (line at i next : ℕ) (row : List (ℕ × ℕ)) (d : ℕ × ℕ) (done first out : List Span) → i < length row → next ≡ at + i → at ≡ length done
     → out ≡ with_front (done ++ map (span_in line) (take i row)) first → next < length out
     → set out next (span_in line (get_or row i d)) ≡ with_front (done ++ map (span_in line) (take (i + 1) row)) first
@@ -99,7 +99,7 @@ put-match-out line at i next row d done first out inside is here so full =
     ∙ ap (λ l. with_front l first) (append_assoc done (map (span_in line) (take i row)) (span_in line (get_or row i d) ∷ [])
     ∙ ap (λ l. done ++ l) (sym (spans-more line row i d inside)))
 
--- the matches of one row more are counted
+-- the matches of one more row are counted
 pub count-more : (rows : List (List (ℕ × ℕ))) (i : ℕ) (d row : List (ℕ × ℕ)) (at : ℕ) → i < length rows → row ≡ get_or rows i d → at ≡ match_count (take i rows)
     → at + length row ≡ match_count (take (i + 1) rows)
 count-more rows i d row at inside is so = omega (arith, so, ap length is, sum_by_more length rows i d inside)
@@ -107,11 +107,11 @@ count-more rows i d row at inside is so = omega (arith, so, ap length is, sum_by
 pub count-within : (rows : List (List (ℕ × ℕ))) (i : ℕ) → match_count (take i rows) ≤ match_count rows
 count-within rows i = sum_by-take-le length rows i
 
--- rows between two lines have no more matches than all, and no line behind the last one
+-- rows between two lines have no more matches than all, and no line after the last one
 pub count_between : (from to : ℕ) (rows : List (List (ℕ × ℕ))) → match_count (rows_between from to rows) ≤ match_count rows
 count_between from to rows = omega (arith, sum_by-take-le length (drop from rows) (to - from), sum_by-take-drop length rows from)
 
--- and stand behind those before them
+-- and are after those before them
 pub put-more : (from line i at : ℕ) (rows : List (List (ℕ × ℕ))) (d row : List (ℕ × ℕ)) (first out new : List Span) → i < length rows → row ≡ get_or rows i d
     → line ≡ from + i → at ≡ match_count (take i rows) → out ≡ with_front (spans_from from (take i rows)) first
     → ((done before : List Span) → out ≡ with_front done before → at ≡ length done → new ≡ with_front (done ++ map (span_in line) row) before)

@@ -1,4 +1,4 @@
--- A text whose bytes are put at the front of a buffer, chunk by chunk.
+-- A text whose bytes are written to the start of a buffer, chunk by chunk.
 use Rattle.std.proofs.Common.{◌≡◌, ℕ, zero, suc, ◌+◌, ◌-◌, ◌≤◌, ◌==◌, true, false, nat_lt, List, [], ◌∷◌, ◌++◌, length, take, drop, chars, ap, sym, ◌∙◌, append_assoc, arith, refl}
 use Rattle.std.proofs.lemmas.Bool.{cond-true, cond-false}
 use Rattle.std.proofs.lemmas.Bool.Decides.{nat_tests}
@@ -37,10 +37,10 @@ pub none_is_some : {X : Type 0} (o : Option X) → ((x : X) → o ≡ Some x →
 none_is_some None absent some = absurd (cc some)
 none_is_some (Some x) absent some = absent x refl
 
--- ---- a text that is put at the front of a buffer
+-- ---- a text that is written to the start of a buffer
 
--- of a text so many bytes stand at the front of a buffer that has room for all, and these chunks of
--- it are left
+-- this number of bytes of a text is at the start of a buffer that has room for all, and these
+-- chunks of it are left
 pub record HasPut (text : List ℕ) (left : List (List ℕ)) (first out : List ℕ) (at : ℕ) : Type 0 where
   pub done : List ℕ
   pub parts : bytes_of text ≡ done ++ bytes_of (text_of left)
@@ -71,7 +71,7 @@ HasPut-room text left after first out chunk at so is utf8 =
       length-drop at first,
     )
 
--- it is put
+-- it is written
 pub HasPut-step : (text : List ℕ) (left after : List (List ℕ)) (first out chunk bytes : List ℕ) (at k : ℕ) → HasPut text left first out at
     → left ≡ chars chunk ∷ after → IsUtf8 chunk → bytes ≡ chunk → k ≡ length chunk
     → HasPut text after first (take at out ++ (bytes ++ drop k (drop at out))) (at + length chunk)

@@ -1,4 +1,4 @@
--- What the walks by hand cite of the logic.
+-- The words of the logic that the proofs by hand use.
 pub use mathlib.Core.Path.{◌≡◌, refl, sym, ap, subst, ◌∙◌}
 pub use mathlib.Core.Bool.{Bool, true, false}
 pub use mathlib.Core.List.{List, [], ◌∷◌, ◌++◌}

@@ -1,4 +1,4 @@
--- What a call for a command does, in the words of a session's commands.
+-- The effect of a call for a command, by a session's commands.
 use Rattle.std.specs.Prelude.{◌≡◌, ℕ, Result, Ok, Err, true, false, Option, None, MatchOption}
 use Rattle.rope_search_io.specs.Faults.{rank_of}
 use Rattle.rope_search_io.specs.declared.faults.Fault.{Fault}
@@ -12,26 +12,26 @@ use Rattle.rope_search.specs.TextsKept.{ChangesChosen, KeepsAfter, KeepsSteps, M
 use Rattle.rope_search_c.specs.declared.counting.CountingSession.{CountingSession}
 use Rattle.rope_search_c.specs.declared.matches.Match.{Match}
 
--- 0 where what is asked is done, else the rank of what refuses it
+-- 0 if the call succeeds, otherwise the rank of the fault
 abbrev pub status_of : {T : Type 0} → Result T Fault → ℕ
 status_of (Ok done) = 0
 status_of (Err fault) = rank_of fault
 
--- the number that a command is answered, else 0
+-- the number in a command's reply, otherwise 0
 abbrev pub number_of : Answer → ℕ
 number_of (Ok (Number number)) = number
 number_of answer = 0
 
--- what is told of a match that is found: where it starts and where it ends; else that there is none
+-- the match in a reply: where it starts and where it ends; otherwise that there is none
 abbrev pub TellsFound : Answer → Match → Type 0
 TellsFound (Ok (Found start end)) told = (told.found ≡ true) × (told.start ≡ start)
     × (told.stop ≡ end)
 TellsFound answer told = told.found ≡ false
 
--- the command leads from one session to another by a step, which is answered so, and makes no more
--- rows, and searches no more whole texts, than it costs; going back and forward makes no more than
--- what comes back has lines; the limit stays, and the buffers tell which rows, and which ranges of
--- their texts, were replaced
+-- the command leads from one session to another by a step with this answer, and makes at most the
+-- rows, and searches at most the whole texts, of its cost; undo and redo make at most as many rows
+-- as the text that comes back has lines; the limit stays, and the buffers report the replaced rows,
+-- and the replaced ranges of their texts
 pub record Carries (old : CountingSession) (order : Order) (answer : Answer)
     (new : CountingSession) : Type 0 where
   pub step : Step old.session.limit old.session.state order answer new.session.state
@@ -49,7 +49,7 @@ pub record DoesOrder (old : CountingSession) (order : Order) (status : ℕ)
   pub carries : Carries old order answer new
   pub told : status ≡ status_of answer
 
--- it does, and the number is told too
+-- it does, and the number is returned too
 pub record DoesAndCounts (old : CountingSession) (order : Order) (status number : ℕ)
     (new : CountingSession) : Type 0 where
   pub answer : Answer
@@ -57,7 +57,7 @@ pub record DoesAndCounts (old : CountingSession) (order : Order) (status number 
   pub told : status ≡ status_of answer
   pub numbered : number ≡ number_of answer
 
--- it does, and the match is told too
+-- it does, and the match is returned too
 pub record DoesAndFinds (old : CountingSession) (order : Order) (status : ℕ) (match : Match)
     (new : CountingSession) : Type 0 where
   pub answer : Answer
@@ -65,15 +65,15 @@ pub record DoesAndFinds (old : CountingSession) (order : Order) (status : ℕ) (
   pub told : status ≡ status_of answer
   pub tells : TellsFound answer match
 
--- a call on a handle that holds a session leads to another in its place, as P has it; on a closed
--- one it answers 8, and leaves it closed
+-- a call on a handle with a session replaces it by another, as P has it; on a closed handle it
+-- returns 8, and the handle stays closed
 abbrev pub LeadsHandle : Option CountingSession → ℕ → Option CountingSession
     → (CountingSession → CountingSession → Type 0) → Type 0
 LeadsHandle old status new P =
     MatchOption old ((status ≡ 8) × (new ≡ None)) (λ before. MatchOption new ⊥ (λ after. P before after))
 
--- the chosen buffer's history is dropped: of its texts the current one alone is left; its pattern,
--- the other buffers, the limit, what the buffers tell of their rows, and the counts stay
+-- the chosen buffer's history is dropped: only the current one of its texts is left; its pattern,
+-- the other buffers, the limit, the rows that the buffers report as replaced, and the counts stay
 pub record Forgets (old : CountingSession) (status : ℕ) (new : CountingSession) : Type 0 where
   pub state : new.session.state ≡ with_chosen old.session.state
       (with_text (chosen_buffer old.session.state) (current_text (chosen_buffer old.session.state)))

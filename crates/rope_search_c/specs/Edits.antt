@@ -1,4 +1,4 @@
--- Several edits as C hands them over, in the words of a session.
+-- Several edits as C passes them.
 use Rattle.std.specs.Prelude.{◌≡◌, ℕ, ◌⊎◌, List, [], ◌∷◌, length, take, drop, sum_by, Result, OnOk, OnErr}
 use Rattle.rope_search_io.specs.declared.faults.Fault.{Fault}
 use Rattle.rope_search_reports.specs.Ticks.{MakesAtMost}
@@ -9,20 +9,20 @@ use Rattle.rope_search_c.specs.Calls.{status_of}
 use Rattle.rope_search_c.specs.declared.counting.CountingSession.{CountingSession}
 use Rattle.rope_search_c.specs.declared.edits.TextEdit.{TextEdit}
 
--- the edits, each with its own of all bytes: the first has the first ones
+-- the edits, each with its part of the bytes, in order
 abbrev pub cut : List TextEdit → List ℕ → List FullEdit
 cut [] bytes = []
 cut (edit ∷ edits) bytes =
     record { from = edit.from; to = edit.to; payload = take edit.len bytes }
     ∷ cut edits (drop edit.len bytes)
 
--- there are as many bytes as they say
+-- the number of bytes is the sum of theirs
 abbrev pub Fit : List TextEdit → List ℕ → Type 0
 Fit edits bytes = sum_by (λ (edit : TextEdit). edit.len) edits ≡ length bytes
 
--- Edits lead from one session to another by a step, which is answered so, and make no more rows than
--- their texts have lines, and none where there is a reason to refuse them; the limit stays, and the
--- buffers tell which rows were replaced.
+-- Edits lead from one session to another by a step with this answer, and make at most as many rows
+-- as their texts have lines, and none if there is a reason to refuse them; the limit stays, and the
+-- buffers report the replaced rows.
 pub record CarriesEdits (old : CountingSession) (edits : List FullEdit)
     (answer : Result Unit Fault) (new : CountingSession) : Type 0 where
   pub step : StepByEdits old.session.limit old.session.state edits answer new.session.state
@@ -39,8 +39,8 @@ pub record CarriesEdits (old : CountingSession) (edits : List FullEdit)
   pub texts : OnOk answer (ChangesChosen (KeepsEditsOf edits) old.session new.session)
   pub still : OnErr answer (new.session.buffers ≡ old.session.buffers)
 
--- They do, where there are as many bytes as they say; and else they are refused as those are that
--- lie nowhere, with 2, or for want of memory, with 7. The status is that of the answer.
+-- They do, if the number of bytes is the sum of theirs; otherwise they are refused with 2, like
+-- edits that are nowhere, or with 7 if out of memory. The status is that of the answer.
 pub record MakesEdits (old : CountingSession) (edits : List TextEdit) (bytes : List ℕ)
     (status : ℕ) (new : CountingSession) : Type 0 where
   pub answer : Result Unit Fault

@@ -1,4 +1,4 @@
--- Lines of a session's chosen buffer, columns that count what C names, and edits by bytes.
+-- Lines of a session's chosen buffer, columns in a unit that C names, and edits by bytes.
 use Rattle.std.specs.Prelude.{◌≡◌, ℕ, ◌<◌, ◌≤◌, ◌⊎◌, List, length, Bool, true, false}
 use Rattle.str_indices.specs.Text.{byte_len}
 use Rattle.rope_search_reports.specs.Report.{match_count}
@@ -14,20 +14,20 @@ use Rattle.rope_search_c.specs.Reading.{AreRowsOf, bits_of, rows_between, spans_
 use Rattle.rope_search_c.specs.declared.counting.CountingSession.{CountingSession}
 use Rattle.rope_search_c.specs.declared.matches.Span.{Span}
 
--- nothing that columns count has this name
+-- no unit of columns has this name
 abbrev pub NamesNone : ℕ → Type 0
 NamesNone bits = (encoding : Encoding) → bits ≡ bits_of encoding → ⊥
 
--- the position to which a line and a column are clamped, with status 0; or what is counted has no
--- such name, with status 2, and what was in the position's place still is
+-- the position to which a line and a column are clamped, with status 0; or the unit has no such
+-- name, with status 2, and the position is unchanged
 abbrev pub TellsClamped : CountingSession → ℕ → ℕ → ℕ → ℕ → Position → Position → Type 0
 TellsClamped session bits line column status old new =
     ((encoding : Encoding) × (bits ≡ bits_of encoding) × (status ≡ 0)
     × IsClamped encoding (text_in session) line column new)
     ⊎ ((status ≡ 2) × (new ≡ old) × NamesNone bits)
 
--- how long a line's text is, with status 0; or there is no such line, or what is counted has no such
--- name, with status 2, and what was in the length's place still is
+-- the length of a line's text, with status 0; or there is no such line, or the unit has no such
+-- name, with status 2, and the length is unchanged
 abbrev pub TellsLineLen : CountingSession → ℕ → ℕ → ℕ → ℕ → ℕ → Type 0
 TellsLineLen session line bits status old new =
     ((encoding : Encoding) × (bits ≡ bits_of encoding) × (status ≡ 0)
@@ -36,8 +36,8 @@ TellsLineLen session line bits status old new =
     ⊎ ((status ≡ 2) × (new ≡ old) × ((encoding : Encoding) → bits ≡ bits_of encoding
     → line_count (text_in session) ≤ line))
 
--- the line's text fits, and is at the buffer's front; or there is no such line, or its text doesn't
--- fit, and the buffer is as it was
+-- the line's text fits, and is at the buffer's start; or there is no such line, or its text doesn't
+-- fit, and the buffer is unchanged
 abbrev pub CopiesLine : CountingSession → ℕ → Bool → List ℕ → List ℕ → Type 0
 CopiesLine session line true old new =
     (line < line_count (text_in session))
@@ -47,8 +47,8 @@ CopiesLine session line false old new =
     (line < line_count (text_in session)
     → length old < byte_len (line_text (text_in session) line)) × (new ≡ old)
 
--- the matches of rows `from` up to `to` of the report, with their columns in an encoding, are at the
--- buffer's front, as many as fit, and so many they are
+-- the matches of rows `from` up to `to` of the report, with columns in an encoding, are at the
+-- buffer's start, as many as fit, and this is their number
 pub record CopiesMatchesAs (session : CountingSession) (encoding : Encoding) (from to count : ℕ)
     (old new : List Span) : Type 0 where
   pub rows : List (List (ℕ × ℕ))
@@ -57,16 +57,16 @@ pub record CopiesMatchesAs (session : CountingSession) (encoding : Encoding) (fr
   pub copied : new ≡ with_front
       (spans_from from (rows_as encoding (text_in session) from (rows_between from to rows))) old
 
--- they are, in what C names; or what is counted has no such name, 0 is answered, and the buffer is as
--- it was
+-- they are, in the unit that C names; or the unit has no such name, the result is 0, and the buffer
+-- is unchanged
 abbrev pub CopiesMatchesIn : CountingSession → ℕ → ℕ → ℕ → ℕ → List Span → List Span → Type 0
 CopiesMatchesIn session bits from to count old new =
     ((encoding : Encoding) × (bits ≡ bits_of encoding)
     × CopiesMatchesAs session encoding from to count old new)
     ⊎ (NamesNone bits × (count ≡ 0) × (new ≡ old))
 
--- the session does what an edit between the positions at two bytes does; or no two positions are at
--- them in order, with status 2, and nothing changes
+-- the session makes the edit between the positions of two offsets; or no two positions are at them
+-- in order, with status 2, and nothing changes
 pub record EditsBytes (old : CountingSession) (from to : ℕ) (bytes : List ℕ) (status : ℕ)
     (new : CountingSession) : Type 0 where
   pub edits : (start stop : Position) → AreAtBytes (text_in old) from to start stop

@@ -1,4 +1,4 @@
--- The matches that the chosen buffer's report lists, as C is told of them.
+-- The matches in the chosen buffer's report, as C gets them.
 use Rattle.std.specs.Prelude.{◌≡◌, ℕ, true, false, Bool, Option, None, Some}
 use Rattle.rope_search_reports.specs.declared.positions.Position.{Position}
 use Rattle.rope_search.specs.declared.listed.ListIndex.{ListIndex}
@@ -8,7 +8,7 @@ use Rattle.rope_search.specs.Session.{chosen_buffer}
 use Rattle.rope_search_c.specs.declared.counting.CountingSession.{CountingSession}
 use Rattle.rope_search_c.specs.declared.listed.Listed.{Listed}
 
--- how C is told of a listed match
+-- a listed match as C gets it
 abbrev pub listed_as : ListedMatch → Listed
 listed_as match = record {
   line = match.line;
@@ -17,7 +17,7 @@ listed_as match = record {
   stop = match.end;
 }
 
--- a match is told, or none: then what stood in its place still does
+-- a match is returned, or none: then the output is unchanged
 abbrev pub PutsListed : Option ListedMatch → Bool → Listed → Listed → Type 0
 PutsListed None told old new = (told ≡ false) × (new ≡ old)
 PutsListed (Some match) told old new = (told ≡ true) × (new ≡ listed_as match)
@@ -38,14 +38,14 @@ pub record TellsListedBefore (session : CountingSession) (position : Position) (
       (λ rows. TellsLastBefore rows position match)
   pub put : PutsListed match told old new
 
--- both numbers are told, or nothing: then what stood in their places still does
+-- both numbers are returned, or nothing: then the outputs are unchanged
 abbrev pub PutsIndex : Option ListIndex → Bool → ℕ → ℕ → ℕ → ℕ → Type 0
 PutsIndex None told index index' count count' =
     (told ≡ false) × (index' ≡ index) × (count' ≡ count)
 PutsIndex (Some place) told index index' count count' =
     (told ≡ true) × (index' ≡ place.index) × (count' ≡ place.count)
 
--- how many matches are listed before the one of a line and a number, and how many in all
+-- the number of matches before the one of a line and a number, and the number of all
 pub record TellsListIndex (session : CountingSession) (line number : ℕ) (told : Bool)
     (index index' count count' : ℕ) : Type 0 where
   pub place : Option ListIndex

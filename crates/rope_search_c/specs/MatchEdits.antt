@@ -1,4 +1,4 @@
--- The replacement of one match of a report, in the words of a session.
+-- The replacement of one match of a report.
 use Rattle.std.specs.Prelude.{◌≡◌, ℕ, ◌+◌, ◌≤◌, List, None, IsUtf8, chars}
 use Rattle.rope_search_reports.specs.Text.{bytes_of}
 use Rattle.rope_search_reports.specs.declared.positions.Position.{Position}
@@ -14,8 +14,9 @@ use Rattle.rope_search_c.specs.Calls.{status_of}
 use Rattle.rope_search_c.specs.declared.counting.CountingSession.{CountingSession}
 
 -- An edit that replaces a match leads from one session to another by a step, and the status is that
--- of its answer. Beside the row for the groups of the template it makes no more rows than it costs;
--- the limit stays, and the buffers tell which rows, and which ranges of their texts, were replaced.
+-- of its answer. Besides the row for the template's groups it makes at most the rows of its cost;
+-- the limit stays, and the buffers report the replaced rows, and the replaced ranges of their
+-- texts.
 pub record CarriesMatch (old : CountingSession) (template : List ℕ) (order : Order) (status : ℕ)
     (new : CountingSession) : Type 0 where
   pub answer : Answer
@@ -30,9 +31,9 @@ pub record CarriesMatch (old : CountingSession) (template : List ℕ) (order : O
   pub grows : old.lines.count ≤ new.lines.count
   pub wholes : new.lines.wholes ≡ old.lines.wholes
 
--- The session does what the edit does that replaces the match of this number in a line by what the
--- template stands for; or there is no pattern, with status 1, or no such match, with status 2, or the
--- template isn't UTF-8, with status 3, and nothing changes.
+-- The session makes the edit that replaces match `number` in a line by the expansion of the
+-- template; or there is no pattern, with status 1, or no such match, with status 2, or the template
+-- isn't UTF-8, with status 3, and nothing changes.
 pub record ReplacesOne (old : CountingSession) (line number : ℕ) (template : List ℕ) (status : ℕ)
     (new : CountingSession) : Type 0 where
   pub edits : IsUtf8 template → (from to : Position) (inserted : List ℕ)

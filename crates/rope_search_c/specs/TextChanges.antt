@@ -1,4 +1,4 @@
--- The undo steps of a session's chosen buffer, and in which ranges its text was replaced.
+-- The undo steps of a session's chosen buffer, and the replaced ranges of its text.
 use Rattle.std.specs.Prelude.{◌≡◌, ℕ, ◌<◌, ◌≤◌, ◌↔◌, ◌⊎◌, List, length, Result, Err, IfErr, OnOk, OnErr}
 use Rattle.rope_search_io.specs.declared.faults.Fault.{Fault}
 use Rattle.rope_search_io.specs.declared.faults.Fault.TheVariants.{Memory, Nothing}
@@ -11,8 +11,8 @@ use Rattle.rope_search_c.specs.Calls.{status_of}
 use Rattle.rope_search_c.specs.Reading.{with_front}
 use Rattle.rope_search_c.specs.declared.counting.CountingSession.{CountingSession}
 
--- of the chosen buffer's texts at most so many before the current one are left, and none behind it; its
--- pattern, the other buffers, the limit, what the buffers tell, and the counts stay
+-- of the chosen buffer's texts at most `steps` before the current one are left, and none after it;
+-- its pattern, the other buffers, the limit, what the buffers report, and the counts stay
 pub record KeepsLast (old : CountingSession) (steps status : ℕ)
     (new : CountingSession) : Type 0 where
   pub state : new.session.state ≡ with_chosen old.session.state
@@ -23,8 +23,8 @@ pub record KeepsLast (old : CountingSession) (steps status : ℕ)
   pub lines : new.lines ≡ old.lines
   pub told : status ≡ 0
 
--- of the chosen buffer's last steps one is made, where there are so many, and else nothing changes; the
--- other buffers, the limit, what the buffers tell, and the counts stay
+-- the chosen buffer's last steps are joined into one, if there are that many, otherwise nothing
+-- changes; the other buffers, the limit, what the buffers report, and the counts stay
 pub record JoinsLast (old : CountingSession) (steps status : ℕ)
     (new : CountingSession) : Type 0 where
   pub answer : Result Unit Fault
@@ -40,8 +40,8 @@ pub record JoinsLast (old : CountingSession) (steps status : ℕ)
   pub err : OnErr answer (new.session ≡ old.session)
   pub told : status ≡ status_of answer
 
--- the ranges that the chosen buffer tells are at the front, as many as fit, and so many they are; it is
--- kept beside the state that the session has
+-- the ranges that the chosen buffer reports are at the start, as many as fit, and this is their
+-- number; they are stored beside the session's state
 pub record CopiesRanges (session : CountingSession) (count : ℕ)
     (out out' : List TextChange) : Type 0 where
   pub state : (chosen_in session.session).state ≡ chosen_buffer session.session.state

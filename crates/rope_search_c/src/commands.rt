@@ -1,4 +1,4 @@
-//! The calls for commands: one each, which answers 0, or why it is refused.
+//! The calls for commands, one each. A call returns 0, or why the command is refused.
 ghost use Rattle.std.specs.Prelude.{◌≡◌, ◌^◌, ◌≤◌, ◌↔◌, ◌⊎◌, None, MatchOption};
 ghost use Rattle.rope_search.specs.declared.commands.CommandOf.TheVariants.{Text as SetText, Edit as EditText, Undo as UndoEdit, Redo as RedoEdit, Fork as ForkBuffer, Pattern as SetPattern, Off as DropPattern, Next as FindNext, Replace as ReplaceAll, Use as UseBuffer};
 ghost use Rattle.rope_search.specs.Session.{opened_session};
@@ -12,11 +12,11 @@ use crate::matches::Match;
 use rope_search::{CallerInC, Position};
 use std::alloc::Global;
 
-/// Opens a handle: its session has one buffer, with an empty text and no pattern, and texts of at
-/// most `limit` bytes; its counts begin at 0. A session that the handle holds is ended.
+/// Opens a handle. Its session has one buffer, with an empty text and no pattern, and texts of at
+/// most `limit` bytes; its counts begin at 0. Ends the session that the handle had, if any.
 ///
-/// Returns 0; 6 for a limit above `isize::MAX`, or 7 where memory is refused, and the handle holds
-/// then what it held.
+/// Returns 0; 6 for a limit above `isize::MAX`; 7 if out of memory. After 6 and 7 the handle is
+/// unchanged.
 #[unsafe(no_mangle)]
 pub extern "C" fn rope_search_open(
     alloc: Global,
@@ -40,7 +40,7 @@ pub extern "C" fn rope_search_open(
     }
 }
 
-/// Closes a handle: its session is ended, where it holds one.
+/// Closes a handle, and ends its session, if it has one.
 #[unsafe(no_mangle)]
 pub extern "C" fn rope_search_close(alloc: Global, handle: &mut Handle)
     ensures { handle.new.held ≡ None }
@@ -48,7 +48,7 @@ pub extern "C" fn rope_search_close(alloc: Global, handle: &mut Handle)
     *handle = Handle::closed(alloc);
 }
 
-/// Makes the bytes the chosen buffer's text, as `Command::Text` does.
+/// Sets the chosen buffer's text, as `Command::Text` does.
 #[unsafe(no_mangle)]
 pub extern "C" fn rope_search_set_text(alloc: Global, handle: &mut Handle, text: &[u8]) -> u32
     ensures { LeadsHandle handle.old.held result handle.new.held (λ old new.
@@ -63,7 +63,7 @@ pub extern "C" fn rope_search_set_text(alloc: Global, handle: &mut Handle, text:
     status
 }
 
-/// Puts the bytes in the place of what stands between two positions, as `Command::Edit` does.
+/// Replaces the text between two positions by these bytes, as `Command::Edit` does.
 #[unsafe(no_mangle)]
 pub extern "C" fn rope_search_edit(
     alloc: Global,
@@ -84,9 +84,9 @@ pub extern "C" fn rope_search_edit(
     status
 }
 
-/// Makes several edits as one, as `Session::edit_all` does: `text` has their texts one after the
-/// other, with the number of bytes that each says. Where these are not all of its bytes, 2 is
-/// answered, as for edits that lie nowhere.
+/// Makes several edits as one, as `Session::edit_all` does. `text` has their texts one after the
+/// other, each with its number of bytes. If these don't add up to all of its bytes, returns 2, as
+/// for edits that are nowhere.
 #[unsafe(no_mangle)]
 pub extern "C" fn rope_search_edit_all(
     alloc: Global,
@@ -136,7 +136,7 @@ pub extern "C" fn rope_search_redo(alloc: Global, handle: &mut Handle) -> u32
     status
 }
 
-/// Makes the bytes the chosen buffer's pattern, as `Command::Pattern` does.
+/// Sets the chosen buffer's pattern, as `Command::Pattern` does.
 #[unsafe(no_mangle)]
 pub extern "C" fn rope_search_set_pattern(alloc: Global, handle: &mut Handle, pattern: &[u8]) -> u32
     ensures { LeadsHandle handle.old.held result handle.new.held (λ old new.
@@ -166,8 +166,8 @@ pub extern "C" fn rope_search_off(alloc: Global, handle: &mut Handle) -> u32
     status
 }
 
-/// Finds the first match at a position or behind it, as `Command::Next` does.
-/// `found` is written unless the handle is closed.
+/// Finds the first match at a position or after it, as `Command::Next` does. `found` is written
+/// unless the handle is closed.
 #[unsafe(no_mangle)]
 pub extern "C" fn rope_search_next(
     alloc: Global,
@@ -188,8 +188,8 @@ pub extern "C" fn rope_search_next(
     status
 }
 
-/// Replaces all matches by what a template stands for at each, as `Command::Replace` does, and
-/// tells how many: 0 where it is refused. `count` is written unless the handle is closed.
+/// Replaces all matches by the expansions of a template, as `Command::Replace` does, and writes
+/// their number to `count`, or 0 if it is refused. `count` is written unless the handle is closed.
 #[unsafe(no_mangle)]
 pub extern "C" fn rope_search_replace(
     alloc: Global,
@@ -210,8 +210,8 @@ pub extern "C" fn rope_search_replace(
     status
 }
 
-/// Adds a buffer with the chosen one's text, as `Command::Fork` does, and tells its number: 0 where
-/// it is refused. `number` is written unless the handle is closed.
+/// Adds a buffer with the chosen one's text, as `Command::Fork` does, and writes its number to
+/// `number`, or 0 if it is refused. `number` is written unless the handle is closed.
 #[unsafe(no_mangle)]
 pub extern "C" fn rope_search_fork(alloc: Global, handle: &mut Handle, number: &mut usize) -> u32
     ensures told { LeadsHandle handle.old.held result handle.new.held (λ old new.
@@ -242,7 +242,7 @@ pub extern "C" fn rope_search_choose(alloc: Global, handle: &mut Handle, number:
     status
 }
 
-/// Drops the chosen buffer's history, as `Session::forget` does: its text, its pattern and its
+/// Drops the chosen buffer's history, as `Session::forget` does. Its text, its pattern and its
 /// report stay. It is never refused.
 #[unsafe(no_mangle)]
 pub extern "C" fn rope_search_forget(alloc: Global, handle: &mut Handle) -> u32

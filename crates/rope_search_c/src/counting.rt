@@ -1,4 +1,4 @@
-//! A session that counts its searches, and its commands with a status for an answer.
+//! A session that counts its searches, and its commands, which return a status.
 ghost use Rattle.std.specs.Prelude.{◌≡◌, ◌^◌, ◌≤◌, ◌↔◌, ◌⊎◌, Err, IfOk, IfErr};
 ghost use Rattle.rope_search.specs.declared.commands.CommandOf.TheVariants.{Text as SetText, Edit as EditText, Undo as UndoEdit, Redo as RedoEdit, Fork as ForkBuffer, Pattern as SetPattern, Off as DropPattern, Next as FindNext, Replace as ReplaceAll, Use as UseBuffer};
 ghost use Rattle.rope_search.specs.Session.{opened_session};
@@ -19,7 +19,7 @@ pub struct CountingSession {
     pub(crate) lines: Lines,
 }
 
-/// 0 where what is asked is done, else the rank of what refuses it.
+/// Returns 0 for success, otherwise the rank of the fault.
 pub(crate) fn status_of<T: Drop>(answer: Result<T, Fault>) -> u32
     ensures { result ≡ calls.status_of answer }
 {
@@ -29,7 +29,7 @@ pub(crate) fn status_of<T: Drop>(answer: Result<T, Fault>) -> u32
     }
 }
 
-/// The number that a command is answered, else 0.
+/// Returns the number in a command's reply, otherwise 0.
 fn number_of(answer: Result<Reply, Fault>) -> usize
     ensures { result ≡ calls.number_of answer }
 {
@@ -39,7 +39,7 @@ fn number_of(answer: Result<Reply, Fault>) -> usize
     }
 }
 
-/// The match that is found, or that there is none.
+/// Returns the match in a reply, or that there is none.
 fn match_of(answer: Result<Reply, Fault>) -> Match
     ensures { TellsFound answer result }
 {
@@ -61,9 +61,9 @@ fn match_of(answer: Result<Reply, Fault>) -> Match
 }
 
 impl CountingSession {
-    /// A session of one buffer, with an empty text and no pattern, whose texts have at most `limit`
-    /// bytes; its counts begin at 0. It is refused with `Fault::Size` for a limit above
-    /// `isize::MAX`, and perhaps with `Fault::Memory`.
+    /// Returns a session of one buffer, with an empty text and no pattern, whose texts have at most
+    /// `limit` bytes; its counts begin at 0. Errors: `Fault::Size` for a limit above `isize::MAX`;
+    /// `Fault::Memory`.
     pub(crate) fn new(
         alloc: Global,
         caller: CallerInC,
@@ -86,7 +86,7 @@ impl CountingSession {
         Ok(counting)
     }
 
-    /// Carries out a command on the chosen buffer, as `Session::apply` does.
+    /// Executes a command on the chosen buffer, as `Session::apply` does.
     fn apply(&mut self, command: Command<'_>) -> Result<Reply, Fault>
         ensures { ForOrders self.old.session.limit command.entry (λ order.
             Carries self.old order result self.new) }

@@ -1,4 +1,4 @@
-//! Several edits as C hands them over: where each lies and how long its text is, and all texts.
+//! Several edits as C passes them: the positions and the text length of each, and all texts joined.
 ghost use Rattle.std.specs.Prelude.{◌≡◌, ◌⊎◌, map, Err, IfOk, IfErr, OnOk};
 ghost use Rattle.rope_search.specs.Edits.{in_full};
 ghost use Rattle.rope_search_c.specs.Edits.{Fit, cut};
@@ -6,20 +6,20 @@ ghost use Rattle.rope_search_c.specs.Edits.{Fit, cut};
 use rope_search::{Edit, Fault, Position};
 use std::alloc::Global;
 
-/// An edit, of several whose texts stand one after the other.
+/// One of several edits, whose texts are joined.
 #[repr(C)]
 #[derive(Clone, Copy, Debug, PartialEq, Eq)]
 pub struct TextEdit {
-    /// Where the part starts that is replaced.
+    /// Where the replaced part starts.
     pub from: Position,
     /// Where it ends.
     pub to: Position,
-    /// How many bytes the text has that comes in its place.
+    /// The number of bytes of the text that replaces it.
     pub len: usize,
 }
 
-/// The edits, each with its own of all bytes. They are refused with `Fault::Range` where these are
-/// not as many as the edits say, and perhaps with `Fault::Memory`.
+/// Returns the edits, each with its part of the bytes. Errors: `Fault::Range` if their lengths
+/// don't add up to the number of bytes; `Fault::Memory`.
 pub fn edits_of<'a>(
     alloc: Global,
     edits: &[TextEdit],

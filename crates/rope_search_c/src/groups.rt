@@ -1,4 +1,4 @@
-//! The groups of a match in a line, as C is told of them.
+//! The groups of a match in a line, as C gets them.
 ghost use Rattle.std.specs.Prelude.{◌≡◌, map};
 ghost use Rattle.rope_search_c.specs.Groups.{CopiesGroups};
 ghost use Rattle.rope_search_c.specs.Groups as told;
@@ -8,7 +8,7 @@ use crate::counting::CountingSession;
 use crate::matches::Group;
 use rope_search::Groups;
 
-/// What C is told of a group.
+/// Returns a group as C gets it.
 fn group_in(line: usize, group: Option<(usize, usize)>) -> Group
     ensures { result ≡ told.group_in line group }
 {
@@ -28,7 +28,7 @@ fn group_in(line: usize, group: Option<(usize, usize)>) -> Group
     }
 }
 
-/// Puts the groups of a match in a line at a buffer's front, as many as fit.
+/// Writes the groups of a match in a line to the start of a buffer, as many as fit.
 fn put_groups(line: usize, groups: &Groups, out: &mut [Group])
     ensures { out.new ≡ with_front (map (told.group_in line) groups.now) out.old }
 {
@@ -40,8 +40,9 @@ fn put_groups(line: usize, groups: &Groups, out: &mut [Group])
 }
 
 impl CountingSession {
-    /// Puts the groups 0 to 9 of a match of the chosen buffer's report at a buffer's front, as many
-    /// as fit, as `Session::groups_at` tells them: 0, or why they are refused, which leaves `out`.
+    /// Writes the groups 0 to 9 of a match of the chosen buffer's report to the start of a buffer,
+    /// as many as fit, as `Session::groups_at` returns them. Returns 0, or why they are refused;
+    /// `out` is then unchanged.
     pub(crate) fn groups_at(&mut self, line: usize, number: usize, out: &mut [Group]) -> u32
         ensures { CopiesGroups self.old line number result out.old out.new self.new }
     {

@@ -1,4 +1,4 @@
-//! What C holds of a session: a handle, open or closed.
+//! A session as C holds it: a handle, open or closed.
 ghost use Rattle.std.specs.Prelude.{◌≡◌, Option, None, Some, option_map};
 ghost use Rattle.rope_search_c.specs.declared.counting.CountingSession.{CountingSession};
 ghost use Rattle.rope_search_c.specs.Handles.{handle_owns, held_coded};
@@ -12,18 +12,18 @@ use std::alloc::Global;
 use std::marker::Model;
 use std::ptr::null_mut;
 
-/// What a call on a closed handle answers that may be refused.
+/// The status of a call on a closed handle, for calls that return a status.
 pub(crate) const CLOSED: u32 = 8;
 
-/// A session that C holds by a pointer, or none: the handle is then closed. C keeps it by value, as
-/// a pointer and a flag, and begins with zeros, which are a closed one. Two copies of an open one
-/// must not both be used.
+/// A session that C holds by a pointer, or none: then the handle is closed. C keeps it by value, as
+/// a pointer and a flag, and starts with zeros, which are a closed handle. Two copies of an open
+/// one must not both be used.
 #[repr(C)]
 pub struct Handle {
     ptr: *mut u8,
     is_open: bool,
     alloc: Global,
-    /// The session, where it is open.
+    /// The session, if the handle is open.
     pub ghost held: { Option CountingSession } by { held_coded },
 }
 
@@ -32,14 +32,14 @@ impl Model for Handle {
 }
 
 impl Handle {
-    /// An open handle.
+    /// Returns an open handle.
     pub fn of(session: Box<CountingSession>) -> Handle
         ensures { result.held ≡ Some session.value }
     {
         Handle::of_parts(RawBox::of(session))
     }
 
-    /// A closed handle.
+    /// Returns a closed handle.
     pub fn closed(alloc: Global) -> Handle
         ensures { result.held ≡ None }
     {
@@ -47,7 +47,7 @@ impl Handle {
         Handle::closed_at(alloc, ptr)
     }
 
-    /// Takes the session out, where it is open, and leaves it closed.
+    /// Takes the session out, if the handle is open, and leaves it closed.
     pub fn take(&mut self, alloc: Global) -> Option<Box<CountingSession>>
         ensures taken { option_map (λ session. session.value) result ≡ self.old.held }
         ensures closed { self.new.held ≡ None }
@@ -55,7 +55,7 @@ impl Handle {
         mem::replace(self, Handle::closed(alloc)).into_box()
     }
 
-    /// The session, where it is open.
+    /// Returns the session, if the handle is open.
     fn into_box(self) -> Option<Box<CountingSession>>
         ensures { option_map (λ session. session.value) result ≡ self.held }
     {
@@ -65,7 +65,7 @@ impl Handle {
         }
     }
 
-    // The three below are proved by hand: they name the pointer.
+    // The three functions below are proved by hand, because they name the pointer.
 
     fn closed_at(alloc: Global, ptr: *mut u8) -> Handle
         ensures { result.held ≡ None }

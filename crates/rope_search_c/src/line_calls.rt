@@ -1,4 +1,4 @@
-//! The calls for lines, for columns that count what C names, and for edits by bytes.
+//! The calls for lines, for columns in a unit that C names, and for edits by bytes.
 ghost use Rattle.std.specs.Prelude.{◌≡◌, false, MatchOption};
 ghost use Rattle.rope_search_c.specs.Calls.{LeadsHandle};
 ghost use Rattle.rope_search_c.specs.Lines.{CopiesLine, CopiesMatchesIn, EditsBytes, TellsClamped, TellsLineLen};
@@ -8,9 +8,9 @@ use crate::matches::Span;
 use rope_search::Position;
 use std::alloc::Global;
 
-/// Puts the bytes in the place of those from one offset to another, as `Session::edit_bytes` does.
-/// It returns 2 if an offset is past the text, inside a character or between the CR and the LF of a
-/// break, or the second is before the first.
+/// Replaces the bytes between two offsets by these bytes, as `Session::edit_bytes` does. Returns 2
+/// if an offset is past the text, inside a character or between the CR and the LF of a break, or
+/// the second is before the first.
 #[unsafe(no_mangle)]
 pub extern "C" fn rope_search_edit_bytes(
     alloc: Global,
@@ -31,8 +31,9 @@ pub extern "C" fn rope_search_edit_bytes(
     status
 }
 
-/// Tells the position to which a line and a column in what `bits` names are clamped, and returns 0;
-/// 2 if `bits` is none of 8, 16 and 32, or 8 on a closed handle, and `position` is then as it was.
+/// Writes the position to which a line and a column, in the unit that `bits` names, are clamped,
+/// and returns 0. Returns 2 if `bits` is none of 8, 16 and 32, or 8 on a closed handle; `position`
+/// is then unchanged.
 #[unsafe(no_mangle)]
 pub extern "C" fn rope_search_clamp(
     alloc: Global,
@@ -56,8 +57,9 @@ pub extern "C" fn rope_search_clamp(
     status
 }
 
-/// Tells how long a line's text is in what `bits` names, and returns 0; 2 past the last line or if
-/// `bits` is none of 8, 16 and 32, or 8 on a closed handle, and `len` is then as it was.
+/// Writes the length of a line's text, in the unit that `bits` names, and returns 0. Returns 2 past
+/// the last line or if `bits` is none of 8, 16 and 32, or 8 on a closed handle; `len` is then
+/// unchanged.
 #[unsafe(no_mangle)]
 pub extern "C" fn rope_search_line_len(
     alloc: Global,
@@ -79,9 +81,9 @@ pub extern "C" fn rope_search_line_len(
     status
 }
 
-/// Puts a line's text, without its break, at the front of `out`, and returns whether there is such a
-/// line and it fits; else, and on a closed handle, `out` is as it was. Of `out` nothing else is
-/// changed.
+/// Copies a line's text, without its break, to the start of `out`, and returns whether there is
+/// such a line and it fits. Otherwise, and on a closed handle, `out` is unchanged. Nothing else of
+/// `out` changes.
 #[unsafe(no_mangle)]
 pub extern "C" fn rope_search_copy_line(
     alloc: Global,
@@ -101,9 +103,9 @@ pub extern "C" fn rope_search_copy_line(
     is_copied
 }
 
-/// Puts the matches of the report's rows `from` up to `to`, with their columns in what `bits` names,
-/// at the front of `out`, as many as fit, and returns how many they are; 0 if `bits` is none of 8,
-/// 16 and 32, or on a closed handle. Of `out` nothing else is changed.
+/// Copies the matches of the report's rows `from` up to `to`, with columns in the unit that `bits`
+/// names, to the start of `out`, as many as fit, and returns their number. Returns 0 if `bits` is
+/// none of 8, 16 and 32, or on a closed handle. Nothing else of `out` changes.
 #[unsafe(no_mangle)]
 pub extern "C" fn rope_search_copy_matches_in(
     alloc: Global,

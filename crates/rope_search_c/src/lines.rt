@@ -1,4 +1,4 @@
-//! Lines of the chosen buffer, columns that count what C names, and edits by bytes.
+//! Lines of the chosen buffer, columns in a unit that C names, and edits by bytes.
 ghost use Rattle.std.specs.Prelude.{◌≡◌, ℕ, ◌+◌, ◌^◌, ◌<◌, ◌≤◌, ◌++◌, All, List, [], length, map, slice_index_or};
 ghost use Rattle.ropey.specs.Chunks.{text_of};
 ghost use Rattle.ropey.specs.Slices.{slice_text};
@@ -16,8 +16,8 @@ use crate::reading::{NOWHERE, encoding_of, put_text, rows_between};
 use rope_search::{Encoding, Position, Rope, Row, column_for, line_text};
 use ropey::RopeSlice;
 
-/// Puts the matches of a row, with their columns in an encoding, after those at a buffer's front, as
-/// many as fit. So many as `at` are there, or would be with more room.
+/// Appends the matches of a row, with columns in an encoding, to those at the start of a buffer, as
+/// many as fit. `at` is the number of matches that are there, or would be with more room.
 fn put_row_as(
     own: &RopeSlice<'_>,
     encoding: Encoding,
@@ -45,7 +45,7 @@ fn put_row_as(
     }
 }
 
-/// The same of a row of a line of a text, which is looked up if it has a match.
+/// Does the same for a row of a line of a text; the line is looked up if the row has a match.
 fn put_line_as(
     text: &Rope,
     encoding: Encoding,
@@ -68,8 +68,8 @@ fn put_line_as(
     put_row_as(&line_text(text, line), encoding, line, row, at, out);
 }
 
-/// Puts the matches of rows, with their columns in an encoding, at a buffer's front, as many as fit,
-/// and returns how many they are. The first row is that of line `from` of the text.
+/// Writes the matches of rows, with columns in an encoding, to the start of a buffer, as many as
+/// fit, and returns their number. The first row is that of line `from` of the text.
 fn put_rows_as(
     text: &Rope,
     encoding: Encoding,
@@ -86,7 +86,7 @@ fn put_rows_as(
     ensures put { out.new ≡ with_front
         (spans_from from (rows_as encoding (text_of text.now) from rows.now)) out.old }
 {
-    // The text's facts, for the proof alone.
+    // For the proof: the text's facts.
     let _ = text.len_bytes();
     let mut at = 0;
     let mut line = from;
@@ -100,8 +100,8 @@ fn put_rows_as(
 }
 
 impl CountingSession {
-    /// The position to which a line and a column are clamped: 0, or 2 if `bits` is none of 8, 16 and
-    /// 32, which leaves `position`.
+    /// Writes the position to which a line and a column are clamped. Returns 0, or 2 if `bits` is
+    /// none of 8, 16 and 32; `position` is then unchanged.
     pub(crate) fn clamp(
         &self,
         bits: u32,
@@ -118,8 +118,8 @@ impl CountingSession {
         0
     }
 
-    /// How long a line's text is: 0, or 2 past the last line or if `bits` is none of 8, 16 and 32,
-    /// which leaves `len`.
+    /// Writes the length of a line's text. Returns 0, or 2 past the last line or if `bits` is none
+    /// of 8, 16 and 32; `len` is then unchanged.
     pub(crate) fn line_len(&self, line: usize, bits: u32, len: &mut usize) -> u32
         ensures { TellsLineLen self.now line bits result len.old len.new }
     {
@@ -133,8 +133,8 @@ impl CountingSession {
         0
     }
 
-    /// Puts a line's text at a buffer's front, and returns whether there is such a line and it fits;
-    /// else the buffer is as it was.
+    /// Copies a line's text to the start of a buffer, and returns whether there is such a line and
+    /// it fits; otherwise the buffer is unchanged.
     pub(crate) fn copy_line(&self, line: usize, out: &mut [u8]) -> bool
         ensures { CopiesLine self.now line result out.old out.new }
     {
@@ -148,9 +148,9 @@ impl CountingSession {
         true
     }
 
-    /// Puts the matches of the report's rows `from` up to `to`, with their columns in what `bits`
-    /// names, at a buffer's front, as many as fit, and returns how many they are: 0 if `bits` is
-    /// none of 8, 16 and 32.
+    /// Writes the matches of the report's rows `from` up to `to`, with columns in the unit that
+    /// `bits` names, to the start of a buffer, as many as fit, and returns their number. Returns 0
+    /// if `bits` is none of 8, 16 and 32.
     pub(crate) fn copy_matches_in(
         &self,
         bits: u32,
@@ -163,7 +163,7 @@ impl CountingSession {
         let Some(encoding) = encoding_of(bits) else {
             return 0;
         };
-        // Laws, and the text's facts, for the proof alone.
+        // For the proof: laws, and the text's facts.
         rope_search::laws::reports_have_columns();
         rope_search_reports::laws::a_row_a_line();
         let _ = self.text().len_bytes();
@@ -171,8 +171,7 @@ impl CountingSession {
         put_rows_as(self.text(), encoding, rows, from, out)
     }
 
-    /// Puts the text in the place of the bytes from one offset to another, as `Session::edit_bytes`
-    /// does.
+    /// Replaces the bytes between two offsets by the text, as `Session::edit_bytes` does.
     pub(crate) fn edit_bytes(&mut self, from: usize, to: usize, text: &[u8]) -> u32
         ensures { EditsBytes self.old from to text.now result self.new }
     {

@@ -1,4 +1,4 @@
-//! The matches that the chosen buffer's report lists.
+//! The matches in the chosen buffer's report.
 ghost use Rattle.rope_search_c.specs.Listed.{PutsListed, TellsListIndex, TellsListedBefore, TellsListedFrom};
 
 use crate::counting::CountingSession;
@@ -8,7 +8,7 @@ use rope_search::{ListedMatch, Position};
 #[repr(C)]
 #[derive(Clone, Copy, Debug, PartialEq, Eq)]
 pub struct Listed {
-    /// The line.
+    /// The line's index.
     pub line: usize,
     /// The number of the match in the row of that line, from 0.
     pub number: usize,
@@ -18,7 +18,7 @@ pub struct Listed {
     pub stop: usize,
 }
 
-/// Writes a match that is found, and returns whether one is.
+/// Writes the match, if there is one, and returns whether there is.
 fn put_listed(found: Option<ListedMatch>, listed: &mut Listed) -> bool
     ensures { PutsListed found result listed.old listed.new }
 {
@@ -53,8 +53,8 @@ impl CountingSession {
         put_listed(self.session.buffer().listed_before(position), listed)
     }
 
-    /// Writes how many matches the report lists before the one of a line and a number, and how many
-    /// in all, and returns whether there is such a match.
+    /// Writes the number of matches in the report before the one of a line and a number, and the
+    /// number of all, and returns whether there is such a match.
     pub(crate) fn list_index(
         &self,
         line: usize,

@@ -1,4 +1,4 @@
-//! The calls for the matches that a report lists.
+//! The calls for the matches in a report.
 ghost use Rattle.std.specs.Prelude.{◌≡◌, false, MatchOption};
 ghost use Rattle.rope_search_c.specs.Listed.{TellsListIndex, TellsListedBefore, TellsListedFrom};
 
@@ -8,9 +8,12 @@ use rope_search::Position;
 use std::alloc::Global;
 
 /// Writes the first match of the chosen buffer's report that starts at a position or after it, and
-/// returns whether there is one. The position need not be one of the text. Without one, without a
-/// pattern and on a closed handle it returns false, and `listed` is as it was. Linear in the rows
-/// from the position's line to the match's.
+/// returns whether there is one. The position need not be one of the text. Without such a match,
+/// without a pattern and on a closed handle it returns false, and `listed` is unchanged.
+///
+/// # Complexity
+///
+/// Linear in the rows from the position's line to the match's.
 #[unsafe(no_mangle)]
 pub extern "C" fn rope_search_listed_from(
     alloc: Global,
@@ -31,9 +34,12 @@ pub extern "C" fn rope_search_listed_from(
 }
 
 /// Writes the last match of the chosen buffer's report that starts before a position, and returns
-/// whether there is one. The position need not be one of the text. Without one, without a pattern
-/// and on a closed handle it returns false, and `listed` is as it was. Linear in the rows from the
-/// match's line to the position's.
+/// whether there is one. The position need not be one of the text. Without such a match, without a
+/// pattern and on a closed handle it returns false, and `listed` is unchanged.
+///
+/// # Complexity
+///
+/// Linear in the rows from the match's line to the position's.
 #[unsafe(no_mangle)]
 pub extern "C" fn rope_search_listed_before(
     alloc: Global,
@@ -53,10 +59,14 @@ pub extern "C" fn rope_search_listed_before(
     is_found
 }
 
-/// Writes how many matches the chosen buffer's report lists before the one of a line and a number
-/// in its row, from 0, and how many it lists in all, and returns whether there is such a match.
-/// Without one, without a pattern and on a closed handle it returns false, and both are as they
-/// were. Linear in the rows of the report.
+/// Writes the number of matches in the chosen buffer's report before the match of a line and a
+/// number in its row, from 0, and the number of all, and returns whether there is such a match.
+/// Without such a match, without a pattern and on a closed handle it returns false, and both
+/// outputs are unchanged.
+///
+/// # Complexity
+///
+/// Linear in the rows of the report.
 #[unsafe(no_mangle)]
 pub extern "C" fn rope_search_list_index(
     alloc: Global,

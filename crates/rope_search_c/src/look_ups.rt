@@ -1,5 +1,5 @@
-//! The calls that read. Each leaves the session as it was, and a closed handle closed; one of them
-//! searches a line, and that is counted.
+//! The calls that read. Each leaves the session unchanged, and a closed handle closed. One of them
+//! searches a line, which is counted.
 ghost use Rattle.std.specs.Prelude.{◌≡◌, ◌+◌, ◌<◌, ◌↔◌, length, None, false, IsTrue, MatchOption};
 ghost use Rattle.rope_search.specs.Session.{chosen_buffer};
 ghost use Rattle.rope_search_reports.specs.Text.{line_count};
@@ -13,13 +13,13 @@ use crate::matches::{Group, Span};
 use rope_search::{Position, Stretch};
 use std::alloc::Global;
 
-/// What a session counted.
+/// The counts of a session.
 #[repr(C)]
 #[derive(Clone, Copy, Debug, PartialEq, Eq)]
 pub struct Counted {
-    /// The rows that were made.
+    /// The number of rows that were made.
     pub rows: u64,
-    /// The searches of a whole text.
+    /// The number of searches of a whole text.
     pub wholes: u64,
 }
 
@@ -68,8 +68,8 @@ pub extern "C" fn rope_search_rows(alloc: Global, handle: &mut Handle) -> usize
     rows
 }
 
-/// Returns how many matches the report's rows `from` up to `to` have, as far as there are such
-/// rows; 0 on a closed handle. `O(to - from)`.
+/// Returns the number of matches in the report's rows `from` up to `to`, or in as many of these as
+/// there are; 0 on a closed handle. `O(to - from)`.
 #[unsafe(no_mangle)]
 pub extern "C" fn rope_search_count_matches(
     alloc: Global,
@@ -89,8 +89,8 @@ pub extern "C" fn rope_search_count_matches(
     count
 }
 
-/// Puts the matches of the report's rows `from` up to `to` at the front of `out`, as many as fit,
-/// and returns how many they are; 0 on a closed handle. Of `out` nothing else is changed.
+/// Copies the matches of the report's rows `from` up to `to` to the start of `out`, as many as fit,
+/// and returns their number; 0 on a closed handle. Nothing else of `out` changes.
 #[unsafe(no_mangle)]
 pub extern "C" fn rope_search_copy_matches(
     alloc: Global,
@@ -111,11 +111,10 @@ pub extern "C" fn rope_search_copy_matches(
     count
 }
 
-/// Puts the groups 0 to 9 of a match of the report, by its line and its number in that row, from 0,
-/// at the front of `out`, as many as fit, and returns 0. Its line is searched for them, and that is
-/// counted. It returns 1 without a pattern, 2 where there is no such line or no such match, 7 where
-/// memory is refused, or 8 on a closed handle, and `out` is then as it was. Of `out` nothing else is
-/// changed.
+/// Copies the groups 0 to 9 of a match of the report, given by its line and its number in that row,
+/// from 0, to the start of `out`, as many as fit, and returns 0. Its line is searched for them,
+/// which is counted. Returns 1 without a pattern, 2 if there is no such line or no such match, 7 if
+/// out of memory, or 8 on a closed handle; `out` is then unchanged. Nothing else of `out` changes.
 #[unsafe(no_mangle)]
 pub extern "C" fn rope_search_groups_at(
     alloc: Global,
@@ -137,9 +136,9 @@ pub extern "C" fn rope_search_groups_at(
     status
 }
 
-/// Puts bytes `from` up to `to` of the chosen buffer's text at the front of `out`, and returns
-/// whether they are bytes of the text, cut no character and fit; else, and on a closed handle,
-/// `out` is as it was. Of `out` nothing else is changed.
+/// Copies bytes `from` up to `to` of the chosen buffer's text to the start of `out`, and returns
+/// whether they are bytes of the text, start and end at character boundaries and fit. Otherwise,
+/// and on a closed handle, `out` is unchanged. Nothing else of `out` changes.
 #[unsafe(no_mangle)]
 pub extern "C" fn rope_search_copy_text(
     alloc: Global,
@@ -160,7 +159,7 @@ pub extern "C" fn rope_search_copy_text(
     is_copied
 }
 
-/// Returns which rows of the chosen buffer's report the last accepted command replaced, as
+/// Returns the rows of the chosen buffer's report that the last accepted command replaced, as
 /// `Session::changed` does; zeros on a closed handle.
 #[unsafe(no_mangle)]
 pub extern "C" fn rope_search_changed(alloc: Global, handle: &mut Handle) -> Stretch
@@ -180,7 +179,7 @@ pub extern "C" fn rope_search_changed(alloc: Global, handle: &mut Handle) -> Str
     changed
 }
 
-/// Returns what the session counted; zeros on a closed handle.
+/// Returns the session's counts; zeros on a closed handle.
 #[unsafe(no_mangle)]
 pub extern "C" fn rope_search_counted(alloc: Global, handle: &mut Handle) -> Counted
     ensures same { handle.new.held ≡ handle.old.held }
@@ -230,7 +229,7 @@ pub extern "C" fn rope_search_chosen(alloc: Global, handle: &mut Handle) -> usiz
     chosen
 }
 
-/// Returns whether `rope_search_undo` has a text to go back to; not on a closed handle.
+/// Returns whether `rope_search_undo` has a text to go back to; false on a closed handle.
 #[unsafe(no_mangle)]
 pub extern "C" fn rope_search_can_undo(alloc: Global, handle: &mut Handle) -> bool
     ensures same { handle.new.held ≡ handle.old.held }
@@ -245,7 +244,7 @@ pub extern "C" fn rope_search_can_undo(alloc: Global, handle: &mut Handle) -> bo
     can_undo
 }
 
-/// Returns whether `rope_search_redo` has a text to go forward to; not on a closed handle.
+/// Returns whether `rope_search_redo` has a text to go forward to; false on a closed handle.
 #[unsafe(no_mangle)]
 pub extern "C" fn rope_search_can_redo(alloc: Global, handle: &mut Handle) -> bool
     ensures same { handle.new.held ≡ handle.old.held }
@@ -261,8 +260,8 @@ pub extern "C" fn rope_search_can_redo(alloc: Global, handle: &mut Handle) -> bo
     can_redo
 }
 
-/// Tells the byte of the chosen buffer's text at which a position is, and returns 0; 2 where it is
-/// nowhere, or 8 on a closed handle, and `byte_idx` is then as it was.
+/// Writes the byte offset of a position in the chosen buffer's text, and returns 0. Returns 2 if
+/// the position is nowhere, or 8 on a closed handle; `byte_idx` is then unchanged.
 #[unsafe(no_mangle)]
 pub extern "C" fn rope_search_byte_of(
     alloc: Global,
@@ -283,10 +282,10 @@ pub extern "C" fn rope_search_byte_of(
     status
 }
 
-/// Tells the position of a byte of the chosen buffer's text, and returns 0; between the CR and the
-/// LF of a break that is one past the end of the line's text. It returns 2 where no character
-/// begins there and the text doesn't end there, or 8 on a closed handle, and `position` is then as
-/// it was.
+/// Writes the position of a byte offset in the chosen buffer's text, and returns 0. The position
+/// between the CR and the LF of a break is one past the end of the line's text. Returns 2 if the
+/// offset is neither the start of a character nor the text's end, or 8 on a closed handle;
+/// `position` is then unchanged.
 #[unsafe(no_mangle)]
 pub extern "C" fn rope_search_position_of(
     alloc: Global,
@@ -307,9 +306,9 @@ pub extern "C" fn rope_search_position_of(
     status
 }
 
-/// Tells the column of a position of the chosen buffer's text in bytes, for `bits` of 8, in UTF-16
-/// code units, for 16, or in characters, for 32, and returns 0; 2 if it is nowhere or `bits` is
-/// another number, or 8 on a closed handle, and `column` is then as it was.
+/// Writes the column of a position of the chosen buffer's text, in bytes if `bits` is 8, in UTF-16
+/// code units if it is 16, or in characters if it is 32, and returns 0. Returns 2 if the position
+/// is nowhere or `bits` is another number, or 8 on a closed handle; `column` is then unchanged.
 #[unsafe(no_mangle)]
 pub extern "C" fn rope_search_column_in(
     alloc: Global,
@@ -331,9 +330,9 @@ pub extern "C" fn rope_search_column_in(
     status
 }
 
-/// Tells the position of a line and a column of the chosen buffer's text in bytes, for `bits` of 8,
-/// in UTF-16 code units, for 16, or in characters, for 32, and returns 0; 2 if they are nowhere or
-/// `bits` is another number, or 8 on a closed handle, and `position` is then as it was.
+/// Writes the position of a line and a column of the chosen buffer's text, in bytes if `bits` is 8,
+/// in UTF-16 code units if it is 16, or in characters if it is 32, and returns 0. Returns 2 if they
+/// are nowhere or `bits` is another number, or 8 on a closed handle; `position` is then unchanged.
 #[unsafe(no_mangle)]
 pub extern "C" fn rope_search_position_in(
     alloc: Global,

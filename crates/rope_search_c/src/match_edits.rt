@@ -8,7 +8,7 @@ use crate::handles::{CLOSED, Handle};
 use std::alloc::Global;
 
 impl CountingSession {
-    /// Replaces a match by what a template stands for, as `Session::replace_match` does.
+    /// Replaces a match by the expansion of a template, as `Session::replace_match` does.
     pub(crate) fn replace_match(&mut self, line: usize, number: usize, template: &[u8]) -> u32
         ensures { ReplacesOne self.old line number template.now result self.new }
     {
@@ -19,9 +19,8 @@ impl CountingSession {
     }
 }
 
-/// Replaces the match that the report lists under a number, from 0, in a line by what a template
-/// stands for, as `Session::replace_match` does. It returns 1 without a pattern, and 2 if no such
-/// match is listed.
+/// Replaces match `number`, from 0, in a line of the report by the expansion of a template, as
+/// `Session::replace_match` does. Returns 1 without a pattern, and 2 if there is no such match.
 #[unsafe(no_mangle)]
 pub extern "C" fn rope_search_replace_match(
     alloc: Global,

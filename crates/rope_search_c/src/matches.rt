@@ -1,11 +1,11 @@
-//! What C is told of matches.
+//! Matches as C gets them.
 use rope_search::Position;
 
 /// A match in a whole text, or that there is none.
 #[repr(C)]
 #[derive(Clone, Copy, Debug, PartialEq, Eq)]
 pub struct Match {
-    /// Whether there is one. Where there is none, the positions say nothing.
+    /// Whether there is one. If there is none, the positions have no meaning.
     pub found: bool,
     /// Where it starts.
     pub start: Position,
@@ -17,7 +17,7 @@ pub struct Match {
 #[repr(C)]
 #[derive(Clone, Copy, Debug, PartialEq, Eq)]
 pub struct Span {
-    /// The line.
+    /// The line's index.
     pub line: usize,
     /// The column where it starts, in UTF-16 code units from the line's start.
     pub start: usize,
@@ -25,13 +25,13 @@ pub struct Span {
     pub stop: usize,
 }
 
-/// A group of a match in a line, or that it takes no part in the match.
+/// A group of a match in a line, or that it doesn't take part in the match.
 #[repr(C)]
 #[derive(Clone, Copy, Debug, PartialEq, Eq)]
 pub struct Group {
-    /// Whether it takes part in the match. Where it doesn't, both columns are 0.
+    /// Whether it takes part in the match. If it doesn't, both columns are 0.
     pub found: bool,
-    /// The line.
+    /// The line's index.
     pub line: usize,
     /// The column where it starts, in UTF-16 code units from the line's start.
     pub start: usize,

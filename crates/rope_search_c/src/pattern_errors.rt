@@ -1,4 +1,4 @@
-//! Why bytes are no pattern, as C is told.
+//! Why bytes aren't a pattern, as C gets it.
 ghost use Rattle.std.specs.Prelude.{◌≡◌};
 ghost use Rattle.rope_search_c.specs.PatternErrors.{TellsError};
 ghost use Rattle.rope_search_c.specs.PatternErrors as errors;
@@ -6,18 +6,18 @@ ghost use Rattle.rope_search_c.specs.PatternErrors as errors;
 use rope_search::{Mistake, Reason, pattern_error};
 use std::alloc::Global;
 
-/// Why bytes are no pattern, and where.
+/// Why bytes aren't a pattern, and where.
 #[repr(C)]
 #[derive(Clone, Copy, Debug, PartialEq, Eq)]
 pub struct PatternReason {
-    /// Why, by its number: 0 where they are a pattern, or are refused for another reason.
+    /// The number of the reason; 0 if they are a pattern, or are refused for another reason.
     pub reason: u32,
-    /// The byte at which the character begins that can't stand there, or the length of a text that
-    /// ends too early; 0 where there is no reason.
+    /// The byte offset of the character that can't be there, or the length of a text that ends too
+    /// early; 0 if there is no reason.
     pub place: usize,
 }
 
-/// How C names a mistake in a pattern.
+/// Returns the number of a mistake in a pattern.
 fn mistake_number(mistake: Mistake) -> u32
     ensures { result ≡ errors.mistake_number mistake }
 {
@@ -39,7 +39,7 @@ fn mistake_number(mistake: Mistake) -> u32
     }
 }
 
-/// How C names why bytes are no pattern.
+/// Returns the number of the reason for which bytes aren't a pattern.
 fn reason_number(reason: Reason) -> u32
     ensures { result ≡ errors.reason_number reason }
 {
@@ -50,9 +50,9 @@ fn reason_number(reason: Reason) -> u32
     }
 }
 
-/// Tells where and why `rope_search_set_pattern` refuses bytes with 4, and returns 0; a reason of 0
-/// where it doesn't. It returns 3 where they aren't UTF-8, or 7 where memory is refused, and `error`
-/// is then as it was. No session takes part.
+/// Writes where and why `rope_search_set_pattern` refuses bytes with 4, and returns 0; the reason
+/// is 0 if it doesn't. Returns 3 if they aren't UTF-8, or 7 if out of memory; `error` is then
+/// unchanged. Needs no session.
 #[unsafe(no_mangle)]
 pub extern "C" fn rope_search_pattern_error(
     alloc: Global,

@@ -1,4 +1,4 @@
-//! The undo steps of the chosen buffer, and in which ranges its text was replaced.
+//! The undo steps of the chosen buffer, and the replaced ranges of its text.
 ghost use Rattle.std.specs.Prelude.{◌≡◌, MatchOption};
 ghost use Rattle.rope_search.specs.Session.{chosen_buffer};
 ghost use Rattle.rope_search.specs.UndoSteps.{redo_count, undo_count};
@@ -31,8 +31,8 @@ impl CountingSession {
     }
 }
 
-/// Drops all undo steps of the chosen buffer but the last `steps`, and what could be redone, as
-/// `Session::keep` does. Its text, pattern and report stay. It is never refused.
+/// Drops all undo steps of the chosen buffer except the last `steps`, and the texts that could be
+/// redone, as `Session::keep` does. Its text, pattern and report stay. It is never refused.
 #[unsafe(no_mangle)]
 pub extern "C" fn rope_search_keep(alloc: Global, handle: &mut Handle, steps: usize) -> u32
     ensures { LeadsHandle handle.old.held result handle.new.held (λ old new.
@@ -47,9 +47,9 @@ pub extern "C" fn rope_search_keep(alloc: Global, handle: &mut Handle, steps: us
     status
 }
 
-/// Makes the last `steps` undo steps of the chosen buffer one, as `Session::join` does: the texts
-/// directly before the current one, one less than the steps, leave the history. Refused: `NONE`
-/// where there are fewer steps; for two or more, `MEMORY`.
+/// Joins the last `steps` undo steps of the chosen buffer into one, as `Session::join` does: drops
+/// the `steps - 1` texts directly before the current one. Refused with `NONE` if there are fewer
+/// steps; for two or more, with `MEMORY`.
 #[unsafe(no_mangle)]
 pub extern "C" fn rope_search_join(alloc: Global, handle: &mut Handle, steps: usize) -> u32
     ensures { LeadsHandle handle.old.held result handle.new.held (λ old new.
@@ -94,9 +94,9 @@ pub extern "C" fn rope_search_redo_steps(alloc: Global, handle: &mut Handle) -> 
     steps
 }
 
-/// Puts the ranges in which the last accepted call on the chosen buffer replaced its text at the
-/// front of `out`, as many as fit, as `Session::text_changes` does, and returns their number; 0 on
-/// a closed handle. Nothing else of `out` is changed.
+/// Copies the ranges in which the last accepted call on the chosen buffer replaced its text to the
+/// start of `out`, as many as fit, as `Session::text_changes` returns them, and returns their
+/// number; 0 on a closed handle. Nothing else of `out` changes.
 #[unsafe(no_mangle)]
 pub extern "C" fn rope_search_text_changes(
     alloc: Global,

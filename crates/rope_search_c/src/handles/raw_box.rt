@@ -1,4 +1,4 @@
-// A `Box` as its pointer and its allocator, whose fields the module above reaches.
+// A `Box` as its pointer and its allocator; the parent module accesses its fields.
 ghost use Rattle.std.specs.Prelude.{◌≡◌};
 ghost use Rattle.std.specs.Box.Ownership.{box_owns};
 

@@ -1,4 +1,4 @@
--- The edits so far, and the bytes that are left for the others.
+-- The edits so far, and the bytes left for the others.
 use Rattle.std.proofs.Common.{◌≡◌, length, drop, vec_len, vec_capacity}
 use Rattle.rope_search_c.proofs.EditLemmas.{AreCut}
 use Rattle.rope_search_c.proofs.edits.edits_of.Given as goal

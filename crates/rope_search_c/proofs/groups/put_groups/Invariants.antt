@@ -1,4 +1,4 @@
--- The groups so far stand at the front.
+-- The groups so far are at the start.
 use Rattle.std.proofs.Common.{◌≡◌, map, take}
 use Rattle.rope_search_c.specs.Groups.{group_in}
 use Rattle.rope_search_c.specs.Reading.{with_front}

@@ -1,4 +1,4 @@
--- The matches so far stand behind what stood at the front.
+-- The matches so far are after those that were at the start.
 use Rattle.std.proofs.Common.{◌≡◌, ◌+◌, ◌++◌, List, length, take, map}
 use Rattle.ropey.specs.Slices.{slice_text}
 use Rattle.rope_search.specs.LineColumns.{columns_as}

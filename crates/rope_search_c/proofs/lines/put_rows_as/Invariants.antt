@@ -1,4 +1,4 @@
--- The matches of the rows so far are counted, and stand at the front.
+-- The matches of the rows so far are counted, and are at the start.
 use Rattle.std.proofs.Common.{◌≡◌, ◌+◌, take}
 use Rattle.ropey.specs.Chunks.{text_of}
 use Rattle.rope_search_reports.specs.Report.{match_count}

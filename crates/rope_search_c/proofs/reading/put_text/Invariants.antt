@@ -1,4 +1,4 @@
--- The chunks so far stand at the front.
+-- The chunks so far are at the start.
 use Rattle.ropey.specs.Slices.{slice_text}
 use Rattle.rope_search_c.proofs.TextLemmas.{HasPut}
 use Rattle.rope_search_c.proofs.reading.put_text.Given as goal

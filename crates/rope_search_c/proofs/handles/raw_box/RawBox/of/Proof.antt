@@ -1,4 +1,4 @@
--- `of`, by hand: the two that `Box::into_raw_with_allocator` answers own what the box owned.
+-- `of`, by hand: the two results of `Box::into_raw_with_allocator` own what the box owned.
 use Rattle.rope_search_c.proofs.Walks.{◌≡◌, refl, ap, ◌∙◌, [], ◌∷◌, ◌++◌, vstruct, of_list, id⊢, never, fst∗, ftrue, fsep, WpFn, sem, fact, tables, ‵, raw, prop, ◌⊛◌, some, later, ◌$◌, ◌∵◌, !, qed, move, drop, use1, split, join, pick, rewrite, regoal, fsplit, fjoin, fpick, feq_l, suffices, await, done, whole, sub, agg, stop, fld, no_more, and_then, of_opd, returns, enter, alloc_all, pass_all, free_all, look_at, get, get_in, sets, lands_as, no, RawPtr, Ptr, block_ptr, null_ptr, ptr_val, in_a_block, plain, heard, nothing, only, says, Stays, stay_dropped, walk_of, ends_at, proved_at, Bx, D, R, P, B, word, box_typed, box_out, box_in}
 use mir.MapTy.{inst_fn}
 use mir.Raw.{raw as bare}
