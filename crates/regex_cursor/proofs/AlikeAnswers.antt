@@ -1,4 +1,4 @@
--- What is told of inputs that show the same bytes and ask for the same.
+-- The results for inputs that show the same bytes and request the same.
 use Rattle.std.proofs.Common.{◌≡◌, ℕ, false, List, length, Option, option_map, sym, ap, ap₂, subst, ◌∙◌}
 use Rattle.rx_util.specs.Search.{Found}
 use Rattle.rx_input.specs.Inputs.{Asked, InputState}

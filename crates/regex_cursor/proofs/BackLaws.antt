@@ -1,4 +1,4 @@
--- Matches whose starts are searched for back from where they end.
+-- Matches whose starts are found by backward searches from where they end.
 use Rattle.std.proofs.Common.{◌≡◌, ℕ, zero, suc, ◌*◌, ◌+◌, ◌<◌, ◌≤◌, ◌^◌, Bool, false, [], ◌∷◌, length, Option, Some, None, IfSome, option_map, refl, sym, ap, ap₂, subst, ◌∙◌, arith}
 use Rattle.std.proofs.lemmas.Option.{same_Some}
 use Rattle.unicode.specs.Perl.{is_word_char}
@@ -32,7 +32,7 @@ use Rattle.regex_cursor.proofs.StrategyLaws.{InsideLaw, IsFirst, by_engine, lite
 
 -- ---- halves
 
--- what is found, by its half
+-- the match found, from its half
 pub up_to : (p : ByteProgram) (s : Search) (half : HalfFound) → IsHalfAnswer p s (Some half) → FindsUpTo p s half.pattern half.offset
 up_to p s half answer = by answer.found answer.finds answer.met_is
   where
@@ -53,7 +53,7 @@ half_up p s k end up = record {
 pub ends_half : (p : ByteProgram) (utf8_empty : Bool) (i : InputState) (k : ℕ) (half : HalfFound) → half.pattern ≡ k → half.offset ≡ i.asked.span.end → EndsLast p utf8_empty i k → IsHalfAnswer p (search_of utf8_empty i) (Some half)
 ends_half p utf8_empty i k half pattern offset last = subst (λ h. IsHalfAnswer p (search_of utf8_empty i) (Some h)) (ap₂ (λ j e. record { pattern = j; offset = e }) (sym pattern) (sym offset)) last
 
--- of an input whose span is cut to a part at whose end the match ends
+-- of an input whose span is limited to a part at whose end the match ends
 pub known_last : (p : ByteProgram) (utf8_empty : Bool) (s : Search) (i : InputState) (part : Span) (pattern : Option ℕ) → IfSome pattern (λ k. FindsUpTo p (within s part) k part.end) → search_of utf8_empty i ≡ within s part → i.asked.span.end ≡ part.end
     → IfSome pattern (EndsLast p utf8_empty i)
 known_last p utf8_empty s i part None up search end = tt
@@ -61,10 +61,10 @@ known_last p utf8_empty s i part (Some k) up search end =
     subst (λ x. IsHalfAnswer p x (Some (record { pattern = k; offset = i.asked.span.end }))) (sym search)
     (subst (λ e. IsHalfAnswer p (within s part) (Some (record { pattern = k; offset = e }))) (sym end) (half_up p (within s part) k part.end up))
 
--- ---- what is told
+-- ---- results
 
 module _ (e : Engine) (first : IsFirst e) (s : Search) (found : Found) where
-  -- it is a match that is found
+  -- it is the match found
   record HasOutcome : Type 0 where
     outcome : Outcome Notes
     finds : EngineFinds e s (Some outcome)
@@ -85,7 +85,7 @@ module _ (e : Engine) (first : IsFirst e) (s : Search) (found : Found) where
         exact = λ any. (Some h.outcome, h.finds, ap Some h.is);
       }
 
-  -- in two slots or fewer
+  -- in at most two slots
   same_slots : (t : Outcome Notes) (n : ℕ) → n ≤ 2 → slot_of t.notes 0 ≡ Some found.span.start → slot_of t.notes 1 ≡ Some found.span.end → answer_slots n (Some (literal_match found.span)) ≡ answer_slots n (Some t)
   same_slots t zero few start end = refl
   same_slots t (suc zero) few start end = ap (λ a. a ∷ []) (sym start)
@@ -113,7 +113,7 @@ module _ (e : Engine) (first : IsFirst e) (s : Search) (found : Found) where
         none = λ nothing_there. absurd (cc nothing_there);
       }
 
--- ---- what comes next
+-- ---- the next match
 
 module _ (e : Engine) (first : IsFirst e) where
   pub exactly : (i : InputState) (found : Option Found) → i.asked.earliest ≡ false → searches.TellsMatch e i found → IsFound (Finds e.program) (search_of e.utf8_empty i) found
@@ -122,7 +122,7 @@ module _ (e : Engine) (first : IsFirst e) where
   pub comes_next : (s : Search) (last : Option ℕ) (found : Option Found) → IsFoundNext (Finds e.program) s last found → IsFoundNext (EngineFinds e) s last found
   comes_next s last found next = by_engine e first (λ finding. IsFoundNext finding s last found) next
 
--- ---- places in slots
+-- ---- offsets in slots
 
 pub whole_fits : (p : ByteProgram) (utf8_empty : Bool) (i : InputState) (found : Found) → length i.cursor.content < 2 ^ 63 → IsFound (Finds p) (search_of utf8_empty i) (Some found) → (found.span.start < 2 ^ 63) × (found.span.end < 2 ^ 63)
 whole_fits p utf8_empty i found bound is = by is.0 is.1 is.2
@@ -137,7 +137,7 @@ whole_fits p utf8_empty i found bound is = by is.0 is.1 is.2
         let within : end_of t ≤ length i.cursor.content = lies.inside.4 in
         (omega (arith, bound, start, within, lies.ordered), omega (arith, bound, end, within))
 
--- ---- halves that are told
+-- ---- halves that are reported
 
 module _ (e : Engine) (first : IsFirst e) (i : InputState) (part : Part) (k : ℕ) (is : IsPart e.program (search_of e.utf8_empty i) part) (known : part.pattern ≡ Some k) where
   ends_there : FindsUpTo e.program (within (search_of e.utf8_empty i) part.span) k part.span.end

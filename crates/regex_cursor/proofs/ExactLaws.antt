@@ -1,4 +1,4 @@
--- What comes next of a literal that each match is.
+-- The next match if each match is a literal.
 use Rattle.std.proofs.Common.{◌≡◌, ℕ, ◌+◌, ◌<◌, ◌≤◌, ◌^◌, List, length, take, Option, Some, None, refl, sym, ap, subst, ◌∙◌, arith}
 use Rattle.std.proofs.lemmas.List.{length-take}
 use Rattle.std.proofs.lemmas.Option.{same_Some}
@@ -43,7 +43,7 @@ pub found_ordered : {bytes : List ℕ} {needles : List (List ℕ)} {from to : �
 found_ordered (nowhere none) e = absurd (cc e)
 found_ordered (at_least_place i low high here before) e = at_ordered here e
 
--- its places fit slots
+-- its offsets fit slots
 pub found_fits : (needles : List (List ℕ)) (i : InputState) (span : Span) → FoundInSpan needles i (Some span) → length i.cursor.content < 2 ^ 63 → (span.start < 2 ^ 63) × (span.end < 2 ^ 63)
 found_fits needles i span found bound =
     let ends_ = end_inside found in
@@ -54,7 +54,7 @@ module _ (needles : List (List ℕ)) (are : AreNeedles needles) (e : Engine) (li
   abbrev S : Search
   S = search_of e.utf8_empty i
 
-  -- in a span that is inside the slice the literal's occurrence is what is found
+  -- in a span that is inside the slice the literal's occurrence is the match found
   pub finds_there : (span : Span) → FoundInSpan needles i (Some span) → FindsLiteral (character_program e.program) is_word_char S span
   finds_there span found =
       let law = literals_find needles (character_program e.program) is_word_char S are literal in
@@ -77,7 +77,7 @@ module _ (needles : List (List ℕ)) (are : AreNeedles needles) (e : Engine) (li
   no_match_comes first last none = none_found_next e first S last (finds_none none)
 
   module _ (first : IsFirst e) (last : Option ℕ) (slots : Slots) (n : ℕ) where
-    -- so it comes next: it isn't empty
+    -- so it is the next match: it isn't empty
     pub literal_comes : (span : Span) → slots ≡ answer_slots n (Some (literal_match span)) → FoundInSpan needles i (Some span) → TellsWhatComes (EngineFinds e) S last (Some (record { pattern = 0; offset = span.end })) slots
     literal_comes span is found =
         let there = finds_there span found in
@@ -92,7 +92,7 @@ module _ (needles : List (List ℕ)) (are : AreNeedles needles) (e : Engine) (li
     pub none_comes : slots ≡ no_slots n → FoundInSpan needles i None → TellsWhatComes (EngineFinds e) S last None slots
     none_comes is none = tells_none (EngineFinds e) S last slots (nothing_comes e first S last slots n (finds_none none) is)
 
--- what comes next ends ahead
+-- the next match ends ahead
 pub next_ahead : (e : Engine) (s : Search) (last : Option ℕ) (found : Option Found) → IsFoundNext (EngineFinds e) s last found → ForSome found (λ m. EndsAhead last s m.span.end)
 next_ahead e s last None is = λ m some. absurd (cc some)
 next_ahead e s last (Some a) is = λ m some. subst (λ (x : Found). EndsAhead last s x.span.end) (same_Some a m some) (found_ends (EngineFinds e) last s a (inside_of e) is)

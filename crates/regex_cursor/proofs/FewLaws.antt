@@ -1,4 +1,4 @@
--- How many items an iterator has left fits a machine word.
+-- The number of items that an iterator has left fits a machine word.
 use Rattle.std.proofs.Common.{◌≡◌, ℕ, ◌+◌, ◌<◌, ◌^◌, Bool, true, false, arith}
 use Rattle.std.specs.Iterator.{size}
 use Rattle.rx_input.specs.Searchers.{items_at_most}
@@ -12,15 +12,15 @@ few_items true has_matched ahead low = omega arith
 few_items false true ahead low = omega (arith, low)
 few_items false false ahead low = omega (arith, low)
 
--- nor does one more for the last part
+-- and so does one more for the last part
 pub few_parts : (has_matched : Bool) (ahead : ℕ) → ahead < 2 ^ 63 → items_at_most false has_matched ahead + 1 < 2 ^ 64
 few_parts true ahead low = omega (arith, low)
 few_parts false ahead low = omega (arith, low)
 
--- behind a match fewer are left
+-- after a match fewer are left
 pub fewer_behind : (m : MatchesLeft) (end : ℕ) → m.is_over ≡ false → EndsAhead m.last_end m.search end → size (matches_left (left_behind m end)) < size (matches_left m)
 fewer_behind m end on ends = fewer_are_left.behind m end on ends
 
--- and where no more come
+-- and after the end
 pub fewer_over : (m n : MatchesLeft) → m.is_over ≡ false → n.is_over ≡ true → size (matches_left n) < size (matches_left m)
 fewer_over m n on over = fewer_are_left.over m n on over

@@ -1,4 +1,4 @@
--- What comes next, and is told in two slots or fewer.
+-- The next match, in at most two slots.
 use Rattle.std.proofs.Common.{◌≡◌, ℕ, zero, suc, ◌+◌, ◌*◌, ◌<◌, ◌≤◌, ◌^◌, [], ◌∷◌, length, Option, Some, None, option_map, refl, sym, ap, ap₂, subst, ◌∙◌, arith}
 use Rattle.std.proofs.lemmas.List.{length-replicate}
 use Rattle.std.proofs.lemmas.Option.{same_Some}
@@ -18,7 +18,7 @@ use Rattle.rx_chunk.proofs.FoundLaws.{notes_places}
 use Rattle.rx_chunk.proofs.KindLaws.{inside_of}
 use Rattle.regex_cursor.proofs.StrategyLaws.{IsFirst}
 
--- what comes next is found from some place of the same content on
+-- the next match is found from some offset of the same haystack on
 pub record IsFoundOn (finding : Finding) (s : Search) (t : Outcome Notes) : Type 0 where
   pub search : Search
   pub content : search.content ≡ s.content
@@ -30,7 +30,7 @@ found_on finding s last t out (at_once {t = u} finds not) e = record { search = 
 found_on finding s last t out (passed {t = u} finds empty further) e = record { search = from_place_on s (s.start + 1); content = refl; finds = subst (λ o. finding (from_place_on s (s.start + 1)) o) e further }
 
 module _ (e : Engine) (of_trees : IsEngine e) (first : IsFirst e) (s : Search) (last : Option ℕ) (found : Found) where
-  -- so its places are small enough for slots
+  -- so its offsets are small enough for slots
   pub next_fits : length s.content < 2 ^ 63 → IsFoundNext (EngineFinds e) s last (Some found) → (found.span.start < 2 ^ 63) × (found.span.end < 2 ^ 63)
   next_fits bound is = by is.0 is.1 is.2
     where
@@ -46,14 +46,14 @@ module _ (e : Engine) (of_trees : IsEngine e) (first : IsFirst e) (s : Search) (
           let content : length on.search.content ≡ length s.content = ap length on.content in
           (omega (arith, bound, start, within, content, lies.ordered), omega (arith, bound, end, within, content))
 
-  -- two slots or fewer are those of the whole match
+  -- at most two slots are those of the whole match
   same_slots : (t : Outcome Notes) (n : ℕ) → n ≤ 2 → slot_of t.notes 0 ≡ Some found.span.start → slot_of t.notes 1 ≡ Some found.span.end → answer_slots n (Some (literal_match found.span)) ≡ answer_slots n (Some t)
   same_slots t zero few start end = refl
   same_slots t (suc zero) few start end = ap (λ a. a ∷ []) (sym start)
   same_slots t (suc (suc zero)) few start end = ap₂ (λ a b. a ∷ b ∷ []) (sym start) (sym end)
   same_slots t (suc (suc (suc n))) few start end = absurd (omega (arith, few))
 
-  -- and in slots for the whole match alone it is told by them
+  -- and in slots for the whole match only it has these
   pub next_told : (slots : Slots) (n : ℕ) → n ≤ 2 → 2 * length e.groups ≤ n → length slots ≡ n → slots ≡ answer_slots n (Some (literal_match found.span)) → IsFoundNext (EngineFinds e) s last (Some found)
       → IsNextAnswer (EngineFinds e) s last (Some found.pattern) slots
   next_told slots n few room len slots_are is = by is.0 is.1 is.2
@@ -76,7 +76,7 @@ module _ (e : Engine) (of_trees : IsEngine e) (first : IsFirst e) (s : Search) (
             slots_are = slots_are ∙ same_slots t n few start end ∙ ap (λ k. answer_slots k (Some t)) (sym len);
           }
 
--- and where nothing does, no slot holds a place
+-- and if there is none, all slots are empty
 pub none_next_told : (e : Engine) (s : Search) (last : Option ℕ) (slots : Slots) (n : ℕ) → slots ≡ no_slots n → IsFoundNext (EngineFinds e) s last None → IsNextAnswer (EngineFinds e) s last None slots
 none_next_told e s last slots n none is = by is.0 is.1 is.2
   where

@@ -1,5 +1,5 @@
--- Matches that are found back from the slice's end, where all matches end there; and the part that a
--- match takes.
+-- Matches that are found backward from the slice's end, if all matches end there; and the part that
+-- a match takes.
 use Rattle.std.proofs.Common.{◌≡◌, ℕ, ◌<◌, ◌≤◌, true, IsTrue, List, length, min, Option, Some, None, option_map, refl, sym, ap, ap₂, subst, ◌∙◌, arith, inl, inr}
 use Rattle.std.proofs.lemmas.Option.{same_Some}
 use Rattle.std.specs.Str.{IsCharBoundary}
@@ -48,7 +48,7 @@ module _ (p : ByteProgram) (s : Search) (t : Outcome Notes) where
   abbrev On : Search
   On = from_place_on s (start_of t)
 
-  -- what is found is found from its start on
+  -- the match found is found from its start on
   begun_from : (q i : ℕ) → start_of t ≡ i → Counts (machine_of is_in is_word_char C s) fresh_notes s q i t → IsFind (machine_of is_in is_word_char C On) fresh_notes On q (Some t)
   begun_from q i at counts =
       let inside = counts.possible.0 in
@@ -69,7 +69,7 @@ module _ (p : ByteProgram) (s : Search) (t : Outcome Notes) where
           let kept = walk_keeps is_in is_word_char C s counts.least.walk in
           begun_from q i kept.start counts
 
--- in it that is found alone
+-- in it only that match is found
 pub found_part : (p : ByteProgram) (s : Search) (t : Outcome Notes) → Finds p s (Some t) → IsPart p s (record { span = (match_of t).span; pattern = Some t.pattern })
 found_part p s t finds =
     let lies = inside_law is_in is_word_char (character_program p) s t finds in
@@ -121,7 +121,7 @@ module _ (p : ByteProgram) (s : Search) (turned : ReverseByteProgram) (of : IsRe
   ends_there : (t : Outcome Notes) → Finds p s (Some t) → t.end ≡ s.end
   ends_there t finds = ends_last p s ends free t finds ∙ sym last
 
-  -- what is found back from there is what is found
+  -- the match found backward from there is the match found
   back_is : (t : Outcome Notes) (out : Option PatternMatch) → Finds p s (Some t) → ProgramFindsBack is_in is_word_char P (back_from s s.end) out → out ≡ Some (own_match t)
   back_is t out finds found =
       finds_match_back is_in is_word_char P s of.above (of.keeps s) t out finds
@@ -149,7 +149,7 @@ module _ (p : ByteProgram) (s : Search) (turned : ReverseByteProgram) (of : IsRe
       by (least_back counts best) =
           (starts_first is_in is_word_char P s P.start (ap (start_node P) free)).not_found none a.start a.pattern a.end (begins_there a counts) (walk_reaches counts.reaches)
 
-  -- nothing, where nothing is found back
+  -- there is none if none is found backward
   pub none_last : IsHalfAnswerBack p (back_from s s.end) None → Finds p s None
   none_last answer = let there = exist_law is_in is_word_char P s in by there.0 there.1
     where
@@ -157,7 +157,7 @@ module _ (p : ByteProgram) (s : Search) (turned : ReverseByteProgram) (of : IsRe
       by None finds = finds
       by (Some t) finds = absurd (cc (answer.met_is ∙ ap (option_map back_half) (back_is t answer.found finds answer.finds)))
 
-  -- and else the match with that start
+  -- otherwise the match with that start
   pub some_last : (h : HalfFound) → IsHalfAnswerBack p (back_from s s.end) (Some h) → IsFound (Finds p) s (Some (whole_of (record { pattern = h.pattern; offset = s.end }) h.offset))
   some_last h answer = let there = exist_law is_in is_word_char P s in by there.0 there.1
     where
@@ -173,11 +173,11 @@ module _ (p : ByteProgram) (s : Search) (turned : ReverseByteProgram) (of : IsRe
 
 -- ---- a part that is shortened
 
--- what is found in a part is what it takes
+-- the match found in a part takes that part
 pub part_of_found : (p : ByteProgram) (s inner : Search) (part : Part) (found : Found) → IsPart p s part → inner ≡ within s part.span → IsFound (Finds p) inner (Some found) → IsPart p s (record { span = found.span; pattern = Some found.pattern })
 part_of_found p s inner part found is same there = found_left p s found (there.0, is.holds.finds there.0 (subst (λ x. Finds p x there.0) same there.1), there.2)
 
--- ---- an input that may stand elsewhere
+-- ---- an input that may be at another position
 
 pub same_slots_told : (e : Engine) (i k : InputState) (pattern : Option ℕ) (slots : Slots) → IsSameContent i.cursor k.cursor → k.asked ≡ i.asked → searches.TellsSlots e k pattern slots → searches.TellsSlots e i pattern slots
 same_slots_told e i k pattern slots same asked told =

@@ -1,4 +1,4 @@
--- What is left of a search by what was told of it.
+-- What is left of a search, from what is known of it.
 use Rattle.std.proofs.Common.{◌≡◌, ℕ, ◌<◌, ◌≤◌, Bool, false, true, IfSome, IsTrue, nat_lt, Option, Some, None, refl, sym, ap, ap₂, subst, ◌∙◌, arith}
 use Rattle.std.proofs.lemmas.Bool.{ltb-true}
 use Rattle.std.proofs.lemmas.Option.{same_Some}
@@ -36,7 +36,7 @@ module _ (p : ByteProgram) (s : Search) where
   pub all_left : (span : Span) → s.start ≡ span.start → s.end ≡ span.end → span.start ≤ span.end → IsPart p s (record { span = span; pattern = None })
   all_left span start end ordered = record { holds = all_holds span start end ordered; match = tt }
 
-  -- up to the end of the match that is found
+  -- up to the end of the match found
   pub up_to_left : OneLaw → InsideLaw → CutLaw → (start k end : ℕ) → s.start ≡ start → FindsUpTo p s k end → IsPart p s (record { span = record { start = start; end = end }; pattern = Some k })
   up_to_left one inside cut start k end same up =
       let t = up.found in
@@ -69,7 +69,7 @@ module _ (p : ByteProgram) (s : Search) where
         match = record { found = t; finds = literal.alone; pattern_is = refl; end_is = refl };
       }
 
-  -- ---- what comes next
+  -- ---- the next match
 
   pub all_next : (last : Option ℕ) (whole : Span) (part : Part) → s.start ≡ whole.start → s.end ≡ whole.end → IsPart p s part → HoldsNext p s last whole
   all_next last whole part start end is = record {
@@ -103,7 +103,7 @@ module _ (p : ByteProgram) (s : Search) where
           let lies = inside is_in is_word_char (character_program p) (within s part.span) t finds in
           never (unknown (end_of t) has ends_ (omega (arith, lies.found.possible.0.2, lies.found.ordered)))
 
-  -- ---- from a place on
+  -- ---- from an offset on
 
   pub left_from : (place : ℕ) (left : Left) → BeginsFrom p s place → IsLeft p (from_place_on s place) left → IsLeft p s left
   left_from place Nothing begins left = begins.finds None left

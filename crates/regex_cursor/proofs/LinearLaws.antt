@@ -1,4 +1,4 @@
--- Lists of the matches behind one, and the one that comes next.
+-- Lists of the matches after one, and the next match.
 use Rattle.std.proofs.Common.{◌≡◌, ℕ, zero, suc, ◌+◌, ◌-◌, ◌*◌, ◌≤◌, ◌==◌, Bool, true, false, cond, List, [], ◌∷◌, length, map, take, drop, Option, Some, None, is_some, IfSome, option_map, refl, sym, ap, ap₂, subst, ◌∙◌, arith}
 use Rattle.std.proofs.lemmas.Bool.{eqb-true, eqb-false}
 use Rattle.std.proofs.lemmas.Option.{same_Some}
@@ -28,7 +28,7 @@ use Rattle.regex_cursor.specs.Linear.{AreBehind, GivesSlots, IsLeftBehind, IsRes
 use Rattle.regex_cursor.proofs.FurtherLaws.{found_on}
 use Rattle.regex_cursor.proofs.StrategyLaws.{IsFirst, by_engine}
 
--- ---- what is listed from a place on
+-- ---- what is listed from an offset on
 
 module _ (e : Engine) (s : Search) where
   behind_first : (len : ℕ) (t : Outcome Notes) (ms : List (Outcome Notes)) (b : Bool) → (end_of t == s.start) ≡ b → EngineFinds e (from_place_on s s.start) (Some t) → Further (finds_on (EngineFinds e) s) (end_of t) ms
@@ -53,7 +53,7 @@ behind_listed e leftmost s len listed all =
     subst (λ xs. AreBehind e s s.start len (drop (passed_over s.start xs) xs)) (sym all.found_are)
     (behind_by e s len all.matches (by_engine e leftmost (λ finding. Matches (finds_on finding s) s.start all.matches) all.are_all))
 
--- ---- what comes next of it
+-- ---- the next match in it
 
 module _ (e : Engine) (s : Search) where
   next_by : (out : Option (Outcome Notes)) → Next (finds_on (EngineFinds e) s) s.start out → FindsNext (EngineFinds e) s (Some s.start) out
@@ -63,7 +63,7 @@ module _ (e : Engine) (s : Search) where
       not (empty.0 ∙ sym same) (sym same))
   next_by out (matches.moved {a = t} found starts ends further) = iterating.passed found (starts ∙ sym ends, ap Some (sym ends)) further
 
-  -- nothing, where the list is empty
+  -- none, if the list is empty
   pub nothing_behind : (len : ℕ) → AreBehind e s s.start len [] → ComesNext (EngineFinds e) s (Some s.start) None
   nothing_behind len behind = by behind.matches behind.further behind.found_are
     where
@@ -71,7 +71,7 @@ module _ (e : Engine) (s : Search) where
       by [] (matches.last none) are = next_by None none
       by (t ∷ ms) further are = absurd (cc are)
 
-  -- and else its first member, and the others lie behind that
+  -- otherwise its first member, and the others are after that
   pub record IsHead (len : ℕ) (l : Listed) (others : List Listed) : Type 0 where
     pub outcome : Outcome Notes
     pub comes : ComesNext (EngineFinds e) s (Some s.start) (Some outcome)
@@ -90,13 +90,13 @@ module _ (e : Engine) (s : Search) where
         behind = record { matches = ms; further = further; found_are = cc are };
       }
 
--- so many slots are the first ones of more
+-- this number of slots are the first ones of more
 pub first_slots : (n first len : ℕ) (notes : Notes) → n ≤ len → take n (slots_from first len notes) ≡ slots_from first n notes
 first_slots zero first len notes few = refl
 first_slots (suc n) first zero notes few = absurd (omega (arith, few))
 first_slots (suc n) first (suc len) notes few = ap (λ xs. slot_of notes first ∷ xs) (first_slots n (suc first) len notes (omega (arith, few)))
 
--- ---- the same for a search of the same, and for an engine that finds the same
+-- ---- for a search with the same request, and for an engine that finds the same
 
 pub behind_moved : (e : Engine) (s t : Search) (start end len : ℕ) (found : List Listed) → t ≡ from_place_on s start → AreBehind e s end len found → AreBehind e t end len found
 behind_moved e s t start end len found same behind = record {
@@ -131,7 +131,7 @@ left_on e m n end starts last on =
     ap₂ (λ s (o : Option ℕ). record { search = s; last_end = o; is_over = n.is_over }) (moved_search e.utf8_empty m.input n.input end starts) last
     ∙ ap (λ b. record { search = from_place_on (search_of e.utf8_empty m.input) end; last_end = Some end; is_over = b }) on
 
--- ---- what comes next, by its places in slots
+-- ---- the next match, by its offsets in slots
 
 module _ (e : Engine) (of_trees : IsEngine e) (s : Search) (last : Option ℕ) (k : ℕ) (slots : Slots) (room : 2 * length e.groups ≤ length slots) where
   record HasPlaces : Type 0 where
@@ -183,13 +183,13 @@ tells_none finding s last slots answer = by answer.out answer.comes answer.patte
     by None comes is are = record { out = None; comes = comes; half_is = refl; slots_are = are }
     by (Some t) comes is are = absurd (cc is)
 
--- ---- what is taken from a list
+-- ---- taking from a list
 
 pub so : {A : Type 0} (P Q : A → Type 0) (o : Option A) → ((a : A) → P a → Q a) → IfSome o P → IfSome o Q
 so P Q None f p = tt
 so P Q (Some a) f p = f a p
 
--- a match was taken, with its places in slots
+-- a match was taken, with its offsets in slots
 abbrev pub IsTakenFrom : FurtherMatches → FurtherMatches → Slots → Slots → HalfFound → Type 0
 IsTakenFrom old new before after half = (l : Listed) × (old.found ≡ l ∷ new.found) × (half.pattern ≡ l.pattern) × (half.offset ≡ l.end) × (after ≡ take (length before) l.slots)
 
@@ -221,7 +221,7 @@ module _ (m : LinearState) (old new : FurtherMatches) (before after : Slots) (ha
         slots_are = slots ∙ ap (λ k. slots_from 0 k t.notes) (sym len);
       }
 
-  -- the others lie behind it
+  -- the others are after it
   pub taken_rest : (n : LinearState) → StartsFrom m.input n.input half.offset → n.last_end ≡ Some half.offset → new.engine ≡ old.engine → new.slot_len ≡ old.slot_len → IsRestOf n new
   taken_rest n starts last engine slot_len =
       let T : Search = search_of old.engine.utf8_empty n.input in
@@ -249,7 +249,7 @@ none_taken m old before after is none clear =
       slots_are = none.1 ∙ clear ∙ ap no_slots (ap length (sym none.1));
     }
 
--- what comes next in the list
+-- the next match in the list
 pub tells_taken : (m : LinearState) (old new : FurtherMatches) (before after : Slots) (half : Option HalfFound) → IsRestOf m old → length before ≤ old.slot_len → before ≡ no_slots (length before)
     → (half ≡ None → (old.found ≡ []) × (after ≡ before)) → IfSome half (IsTakenFrom old new before after) → TellsWhatComes (EngineFinds old.engine) (search_of old.engine.utf8_empty m.input) m.last_end half after
 tells_taken m old new before after half is few clear none some =
@@ -281,9 +281,9 @@ rest_as m n r input last is = record {
   behind = subst (λ (i : InputState). AreBehind r.engine (search_of r.engine.utf8_empty i) is.end r.slot_len r.found) (sym input) is.behind;
 }
 
--- ---- what was given
+-- ---- a match that was returned
 
--- a match was given: its places, and what is left behind it
+-- a match was returned: its offsets, and what is left after it
 pub record IsGiven (e : Engine) (m n : MatchesLeft) (k : ℕ) (slots : Slots) : Type 0 where
   pub outcome : Outcome Notes
   pub comes : ComesNext (EngineFinds e) m.search m.last_end (Some outcome)
@@ -321,7 +321,7 @@ given_none finding m n slots gives = by gives.out gives.comes gives.pattern_is
     by None comes is = comes
     by (Some t) comes is = absurd (cc is)
 
--- the number of all places stays
+-- the number of all offsets stays
 pub same_places : (m n : LinearState) (start : ℕ) → StartsFrom m.input n.input start → n.first ≡ m.first → all_places n ≡ all_places m
 same_places m n start starts first =
     ap (λ s. highest s + 1 - n.first) (moved_search true m.input n.input start starts) ∙ ap (λ k. highest (search_of true m.input) + 1 - k) first
@@ -335,13 +335,13 @@ tells_ahead e s last half slots tells = by tells.out tells.comes tells.half_is
     by None comes is = subst (λ o. IfSome o (λ (h : HalfFound). EndsAhead last s h.offset)) (sym is) tt
     by (Some t) comes is = subst (λ o. IfSome o (λ (h : HalfFound). EndsAhead last s h.offset)) (sym is) (comes_ahead e s last t comes)
 
--- ---- how much is read
+-- ---- offsets read
 
 read_alone : (o : Option FurtherMatches) (n k : ℕ) → o ≡ None → n + cond (is_some o) (6 * k) 0 ≡ n
 read_alone None n k none = omega arith
 read_alone (Some r) n k none = absurd (cc none)
 
--- finds alone, or the list too
+-- finds only, or the list too
 pub places_alone : (m : LinearState) → m.rest ≡ None → places_read m ≡ m.finds_read
 places_alone m none = read_alone m.rest m.finds_read (all_places m) none
 
@@ -350,6 +350,6 @@ pub is_none : (o : Option FurtherMatches) → is_some o ≡ false → o ≡ None
 is_none None none = refl
 is_none (Some r) none = absurd (cc none)
 
--- what finds read is within the bound of all
+-- what finds read is within the bound on all
 pub bound_by_finds : (m : LinearState) (found before after : ℕ) → m.rest ≡ None → found ≤ 4 * all_places m + 10 → after + m.finds_read ≡ before + found → after + places_read m ≤ before + 10 * all_places m + 10
 bound_by_finds m found before after none few counted = subst (λ k. after + k ≤ before + 10 * all_places m + 10) (sym (places_alone m none)) (omega (arith, few, counted))

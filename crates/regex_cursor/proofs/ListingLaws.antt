@@ -1,4 +1,4 @@
--- Lists of all matches, and what is told of each.
+-- Lists of all matches, and the item of each.
 use Rattle.std.proofs.Common.{◌≡◌, Bool, ℕ, ◌*◌, ◌≤◌, List, [], ◌∷◌, ◌++◌, length, map, Some, option_map, refl, sym, ap, ap₂, subst, ◌∙◌, arith, All}
 use Rattle.std.proofs.lemmas.List.Elements.{All-cons, All-head, All-map, All-nil, All-tail, All-weaker}
 use Rattle.std.proofs.lemmas.Simd.{map-map}
@@ -115,13 +115,13 @@ module _ (e : Engine) (len : ℕ) (s : Search) (listed : List Listed) (all : Are
     items_are = are ∙ ap (λ ls. map (captures_listed e.groups) ls) all.found_are ∙ map-map (captures_listed e.groups) (listed_of len) all.matches;
   }
 
--- ---- lists that are made one by one
+-- ---- lists that are built one by one
 
 pub map_one_more : {A B : Type 0} (f : A → B) (xs : List A) (x : A) → map f (xs ++ x ∷ []) ≡ map f xs ++ f x ∷ []
 map_one_more f [] x = refl
 map_one_more f (y ∷ xs) x = ap (λ zs. f y ∷ zs) (map_one_more f xs x)
 
--- ---- what was listed is what an engine finds
+-- ---- the listed matches are those that an engine finds
 
 pub list_of : (e : Engine) (p : ByteProgram) (b : Bool) (i : InputState) (len : ℕ) (listed : List Listed) → p ≡ e.program → b ≡ e.utf8_empty → AreAllMatches p (search_of b i) len listed → AreAllMatches e.program (search_by e i) len listed
 list_of e p b i len listed program empty all = subst (λ x. AreAllMatches x (search_by e i) len listed) program (subst (λ x. AreAllMatches p (search_of x i) len listed) empty all)

@@ -1,4 +1,4 @@
--- Laws of the crates below, in the form in which proofs here take them.
+-- Laws of the crates below, in the form in which proofs here use them.
 use Rattle.rx_walks.proofs.CutLaws.{finds_stay_in_cut_spans}
 use Rattle.rx_walks.proofs.ExistLaws.{program_find_exists}
 use Rattle.rx_walks.proofs.InsideLaws.{finds_lie_inside}

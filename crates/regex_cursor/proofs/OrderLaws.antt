@@ -1,4 +1,5 @@
--- What iterators over matches give, in order, and that parts are the gaps between them, or the first of these.
+-- The items of iterators over matches, in order, and that parts are the gaps between them, or the
+-- first of these.
 use Rattle.std.proofs.Common.{◌≡◌, ◌⊎◌, inl, inr, ℕ, zero, suc, ◌+◌, ◌<◌, true, false, List, [], ◌∷◌, ◌++◌, take, Option, Some, None, Result, Ok, Err, append_assoc, refl, sym, ap, ap₂, subst, ◌∙◌, arith}
 use Rattle.std.specs.List.{last_or}
 use Rattle.std.specs.Iterator.{Yields}
@@ -53,7 +54,7 @@ captures_in_order {C} {cursor} re s m is stands =
 
 -- ---- parts
 
--- what is left to an iterator over parts behind the last match
+-- the state of an iterator over parts after the last match
 abbrev parts_behind : Search → Option FoundMatch → PartsLeft
 parts_behind s None = parts_of (matches_from s)
 parts_behind s (Some t) = record { matches = left_behind s (Some t); last = end_of t; is_over = false }
@@ -79,14 +80,14 @@ ends_there : (s : Search) (last : Option FoundMatch) → end_of_search (left_beh
 ends_there s None = refl
 ends_there s (Some t) = refl
 
--- the last part is where there is one
+-- the last part is at these offsets if there is one
 last-is : (start end : ℕ) (x : Span) → EndsWith start end (Some x) → last_part start end ≡ x ∷ []
 last-is start end x (part ordered) = rw (le-ltb end start ordered) refl
 
 none-is-last : (start end : ℕ) → EndsWith start end None → last_part start end ≡ []
 none-is-last start end (none behind) = rw (lt-ltb end start behind) refl
 
--- a step that gives a part: it ends at a match, or at the end of all
+-- a step that yields a part: it ends at a match, or at the end of all
 record AtMatch (finding : Finding) (a b : PartsLeft) (x : Span) : Type 0 where
   found : Found
   next : GivesNext finding match_of a.matches (Some (Ok found)) b.matches
@@ -103,7 +104,7 @@ gives-part : (finding : Finding) (a b : PartsLeft) (x : Span) → SplitsOff find
 gives-part finding a b x (at_match {a = f} going next last_is on) = inl (record { found = f; next = next; last_is = last_is; goes_on = on; part_is = refl })
 gives-part finding a b x (at_end going next rest done) = inr (record { next = next; rest = rest; is_over = done })
 
--- a step that gives none, where more may come
+-- a step that yields none before the end
 record NoEnd (finding : Finding) (a b : PartsLeft) : Type 0 where
   next : GivesNext {A = Found} finding match_of a.matches None b.matches
   rest : EndsWith a.last (end_of_search a.matches.search) None
@@ -130,14 +131,14 @@ none-refused : (xs : List Span) → not_refused {E = MatchError} xs ≡ [] → x
 none-refused [] e = refl
 none-refused (x ∷ xs) e = absurd (cc e)
 
--- ---- steps where so many parts may still come
+-- ---- steps with a number of parts still allowed
 
 abbrev part-in : Span → Option (Result Span MatchError) → Span
 part-in x (Some (Ok y)) = y
 part-in x (Some (Err error)) = x
 part-in x None = x
 
--- one that gives a part: it is the next one of all parts, or the last of so many
+-- one that yields a part: it is the next one of all parts, or the last one allowed
 record NextOfAll (finding : Finding) (a b : PartsLeft) (limit left : ℕ) (item : Option (Result Span MatchError)) : Type 0 where
   more : 0 < left
   limit_is : limit ≡ suc left
@@ -160,7 +161,7 @@ few-part finding a b limit left item x is (last_one {part = Some y} going rest l
     inr (record { limit_is = refl; left_is = refl; rest = subst (λ z. EndsWith a.last (end_of_search a.matches.search) (Some z)) (ap (part-in x) is) rest })
 few-part finding a b limit left item x is (last_one {part = None} going rest left_is) = absurd (cc is)
 
--- one that gives none, where none was refused and the last part didn't come yet
+-- one that yields none, without an error and before the last part
 few-none : (finding : Finding) (a b : PartsLeft) (limit left : ℕ) (item : Option (Result Span MatchError)) → item ≡ None → a.is_over ≡ false → SplitsFew finding a b limit left item
     → (limit ≡ 0) ⊎ NextOfAll finding a b limit left None ⊎ LastOfFew a limit left None
 few-none finding a b limit left item is going (enough same) = inl refl
@@ -169,7 +170,7 @@ few-none finding a b limit left item is going (few.over done same) = absurd (let
 few-none finding a b limit left item is going (last_one {part = Some y} going' rest left_is) = absurd (cc is)
 few-none finding a b limit left item is going (last_one {part = None} going' rest left_is) = inr (inr (record { limit_is = refl; left_is = refl; rest = rest }))
 
--- one that is refused
+-- one that is an error
 few-refused : (finding : Finding) (a b : PartsLeft) (limit left : ℕ) (item : Option (Result Span MatchError)) (error : MatchError) → item ≡ Some (Err error) → SplitsFew finding a b limit left item → b.is_over ≡ true
 few-refused finding a b limit left item error is (enough same) = absurd (cc is)
 few-refused finding a b limit left item error is (some more step) = is-refused finding a b error (subst (SplitsOff finding a b) is step)
@@ -177,7 +178,7 @@ few-refused finding a b limit left item error is (few.over done same) = absurd (
 few-refused finding a b limit left item error is (last_one {part = Some y} going rest left_is) = absurd (cc is)
 few-refused finding a b limit left item error is (last_one {part = None} going rest left_is) = absurd (cc is)
 
--- none gives anything where no more may come
+-- nothing is yielded after the end
 few-over : (finding : Finding) (a b : PartsLeft) (limit left : ℕ) (item : Option (Result Span MatchError)) (x : Result Span MatchError) → item ≡ Some x → (limit ≡ 0) ⊎ (a.is_over ≡ true)
     → SplitsFew finding a b limit left item → ⊥
 few-over finding a b limit left item x is done (enough same) = absurd (cc is)
@@ -213,7 +214,7 @@ module _ (C : Type 0) (re : RegexView) (s : Search) where
   over-none m n (item ∷ items) of done run =
       absurd (over-gives (EngineFinds re.engine) (splitting.left_of m) (splitting.left_of run.0) item done (step-of m run.0 (Some item) of run.1).1)
 
-  -- where the matches are, behind so many of them
+  -- where the matches are, after the first of them
   matches-stand : (ms : List FoundMatch) (a : PartsLeft) → Stands ms a → a.matches ≡ left_behind s (last_or None ms)
   matches-stand ms a stands = ap (λ x. x.matches) stands ∙ matches_behind s (last_or None ms)
 
@@ -228,7 +229,7 @@ module _ (C : Type 0) (re : RegexView) (s : Search) where
   end-is : (ms : List FoundMatch) (a : PartsLeft) → Stands ms a → end_of_search a.matches.search ≡ end_of_search s
   end-is ms a stands = ap (λ x. end_of_search x.search) (matches-stand ms a stands) ∙ ends_there s (last_or None ms)
 
-  -- one match more, and the part before it
+  -- one more match, and the part before it
   record OneMore (ms : List FoundMatch) (b : PartsLeft) (x : Span) : Type 0 where
     t : FoundMatch
     first : First (ms ++ t ∷ [])
@@ -253,7 +254,7 @@ module _ (C : Type 0) (re : RegexView) (s : Search) where
   abbrev Gaps : List FoundMatch → List FoundMatch → List Span
   Gaps ms more = gaps (part_start (last_or None ms)) (end_of_search s) more
 
-  -- the gaps with one match more
+  -- the gaps with one more match
   gaps-more : (ms : List FoundMatch) (b : PartsLeft) (x : Span) (one : OneMore ms b x) (more : List FoundMatch) → Gaps ms (one.t ∷ more) ≡ x ∷ Gaps (ms ++ one.t ∷ []) more
   gaps-more ms b x one more =
       ap₂ (λ y ys. y ∷ ys) (sym one.part_is) (ap (λ o. gaps (part_start o) (end_of_search s) more) (sym (last_of_more None ms one.t)))
@@ -339,7 +340,7 @@ module _ (C : Type 0) (re : RegexView) (s : Search) where
     refused = λ n xs error others run. none-behind-refusal m n xs error others of run;
   }
 
-  -- ---- at most so many parts
+  -- ---- at most `limit` parts
 
   abbrev SplitsToo : SplitN C → Type 0
   SplitsToo m = few.regex_of m ≡ re
@@ -369,7 +370,7 @@ module _ (C : Type 0) (re : RegexView) (s : Search) where
   few-gaps-last : (limit : ℕ) (ms : List FoundMatch) → FewGaps (suc limit) ms [] ≡ Gaps ms []
   few-gaps-last limit ms = ap (Gaps ms) (take-none limit)
 
-  -- the last part of all, and the last of so many
+  -- the last part of all, and the last one allowed
   last-of-all : (limit left : ℕ) (ms : List FoundMatch) (a : PartsLeft) (x : Span) → Stands ms a → limit ≡ suc left → EndsWith a.last (end_of_search a.matches.search) (Some x) → FewGaps limit ms [] ≡ x ∷ []
   last-of-all limit left ms a x stands limit_is rest = ap (λ k. FewGaps k ms []) limit_is ∙ few-gaps-last left ms ∙ last-gap ms a x stands rest
 
@@ -466,6 +467,6 @@ module _ (C : Type 0) (re : RegexView) (s : Search) where
     refused = λ n xs error others run. few-none-behind-refusal m n xs error others of run;
   }
 
--- that captures have room is told in one way
+-- captures have room in only one way
 pub same-room : (re : RegexView) (caps : Captured) (one other : HasRoom re caps) → one ≡ other
 same-room re caps = hlevel props

@@ -1,4 +1,4 @@
--- Two slots or fewer of a match that isn't of the first pattern: they hold no place.
+-- At most two slots of a match that isn't of the first pattern: they are empty.
 use Rattle.std.proofs.Common.{◌≡◌, ℕ, zero, suc, ◌+◌, ◌<◌, ◌≤◌, ◌⊎◌, Bool, cond, [], ◌∷◌, length, Option, Some, None, option_map, refl, sym, ap, ap₂, ◌∙◌, arith, inl, inr}
 use Rattle.std.proofs.lemmas.Bool.{lt-ltb}
 use Rattle.std.proofs.lemmas.List.{length-replicate}
@@ -55,7 +55,7 @@ module _ (e : Engine) (of_trees : IsEngine e) (s : Search) (t : Outcome Notes) (
         none = λ nothing_there. absurd (cc nothing_there);
       }
 
--- so of one of which its end is told
+-- also of one whose end is known
 pub half_elsewhere : (e : Engine) → IsFirst e → IsEngine e → (s : Search) (half : HalfFound) (earliest : Bool) (n : ℕ) (slots : Slots) → IsHalfAnswer e.program s (Some half) → (half.pattern ≡ 0 → ⊥) → n ≤ 2 → slots ≡ no_slots n
     → TellsSlots earliest (EngineFinds e) s (Some half.pattern) slots
 half_elsewhere e first of_trees s half earliest n slots answer other few none =

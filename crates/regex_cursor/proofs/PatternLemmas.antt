@@ -1,4 +1,4 @@
--- What a regex of a pattern is, in words of the pattern's tree.
+-- A regex of a pattern, in terms of the pattern's tree.
 use Rattle.std.proofs.Common.{◌≡◌, ℕ, ◌≤◌, inl, inr, Bool, false, true, List, [], ◌∷◌, length, Option, Some, refl, sym, ap, subst, ◌∙◌, arith}
 use Rattle.std.specs.Prelude.{option_map, unwrap_or}
 use Rattle.std.proofs.lemmas.Bool.{cases_lt}
@@ -35,7 +35,7 @@ light-of text re built = elim (cases_lt weight_limit (pattern_weight built.tree)
   | inr light ↦ omega (arith, light)
 ]
 
--- the search that an input asks for
+-- the search that an input requests
 search_with : List ℕ → Asked → Bool → Search
 search_with content asked utf8_empty = record {
   content = content;
@@ -62,11 +62,11 @@ search-is re content from input utf8 asks =
 pub program-is : (text : List ℕ) (re : RegexView) → (built : IsRegexOf text re) → character_program re.engine.program ≡ program_for built.tree
 program-is text re built = built.built.engine.of_trees.program ∙ ap (λ t. program_of (built.tree ∷ []) t) built.built.engine.line_terminator
 
--- it searches for the leftmost match: it finds what its program does
+-- it searches for the leftmost match: its results are those of its program
 first-finds : (text : List ℕ) (re : RegexView) → IsRegexOf text re → (s : Search) (out : Option FoundMatch) → EngineFinds re.engine s out → Finds re.engine.program s out
 first-finds text re built s out finds = subst (λ (finding : Finding). finding s out) (sym (finds_first re.engine built.built.engine.match_kind)) finds
 
--- what it finds for an input is what the tree has there
+-- its result for an input is that of the tree
 tree-finds : (text : List ℕ) (re : RegexView) → (built : IsRegexOf text re) → (content : List ℕ) (from : ℕ) (input : InputState) (out : Option FoundMatch) → AsksFrom content from input
     → EngineFinds re.engine (search_by re.engine input) out → TreeFinds built.tree content from out
 tree-finds text re built content from input out asks finds =
@@ -74,7 +74,7 @@ tree-finds text re built content from input out asks finds =
     let Q : Search → Type 0 = λ s. ProgramFinds is_in is_word_char (program_for built.tree) s out in
     subst Q (search-is re content from input built.built.engine.utf8_empty asks) (subst P (program-is text re built) (first-finds text re built (search_by re.engine input) out finds))
 
--- the same of whatever an input asks for
+-- the same for any request of an input
 asked-finds : (text : List ℕ) (re : RegexView) → (built : IsRegexOf text re) → (s : Search) (out : Option FoundMatch) → EngineFinds re.engine s out → TreeFindsIn built.tree s out
 asked-finds text re built s out finds =
     let P : Program Look (List Range) → Type 0 = λ p. ProgramFinds is_in is_word_char p s out in
@@ -108,7 +108,8 @@ slots-of text re built content from input pattern slots asks tells =
     let is = tells.exact earliest in
     (is.found, tree-finds text re built content from input is.found asks is.finds, is.pattern_is, is.slots_are)
 
--- what comes next for an input, behind a match that ended where its span starts, comes next of the tree
+-- the next match for an input, after a match that ended where its span starts, is the next one of
+-- the tree
 pub next-of : (text : List ℕ) (re : RegexView) → (built : IsRegexOf text re) → (content : List ℕ) (last : Option ℕ) (input : InputState) (out : Option FoundMatch)
     → AsksFrom content (unwrap_or last 0) input → FindsNext (EngineFinds re.engine) (search_by re.engine input) last out → TreeFindsNext built.tree content last out
 next-of text re built content last input out asks comes =
@@ -123,7 +124,7 @@ next-of text re built content last input out asks comes =
 pub one-of : (text : List ℕ) (re : RegexView) → IsRegexOf text re → length re.engine.groups ≡ 1
 one-of text re built = noted_count (built.tree ∷ []) re.engine.groups re.engine.which_captures built.built.engine.of_trees.groups
 
--- what is found of a pattern's tree has noted its groups
+-- a match of a pattern's tree has noted its groups
 pub notes-of : MatchesNoteTheirPlaces → GroupsAreNotedWhole → (text : List ℕ) (re : RegexView) → (built : IsRegexOf text re) → (s : Search) (t : FoundMatch)
     → TreeFindsIn built.tree s (Some t) → HasNotedGroups t
 notes-of places groups text re built s t finds =

@@ -1,4 +1,4 @@
--- The place before the chunk that holds a byte.
+-- The position before the chunk that contains a byte.
 use Rattle.std.proofs.Common.{◌≡◌, ℕ, zero, suc, ◌+◌, ◌-◌, ◌<◌, ◌≤◌, ◌^◌, ◌⊎◌, inl, inr, List, [], ◌∷◌, ◌++◌, length, take, drop, refl, ap, sym, subst, ◌∙◌, arith}
 use Rattle.std.specs.Prelude.{reverse, min, encode_utf8_all}
 use Rattle.std.proofs.lemmas.List.{length-append, reverse-reverse}
@@ -30,7 +30,7 @@ module _ (pieces : List (List ℕ)) (place : TwoWay (List ℕ)) (i byte char lin
   len_parts : len ≡ byte + length (bytes st.after)
   len_parts = omega (arith, len_is, st.byte_is, ap (λ p. length (bytes p)) st.parts, ap length (bytes-append st.before st.after), length-append (bytes st.before) (bytes st.after))
 
-  -- behind the last chunk there is none at all
+  -- there is no chunk after the last one
   pub nothing : st.after ≡ [] → len ≡ 0
   nothing none = omega (arith, len_parts, ap (λ p. length (bytes p)) none, st.not_past, st.byte_is, below)
 

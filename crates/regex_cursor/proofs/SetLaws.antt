@@ -1,4 +1,4 @@
--- Equations of programs are told in one way, so that a cache serves a regex is.
+-- Equations of programs hold in one way, so that "a cache is for a regex" does too.
 use Rattle.std.proofs.Common.{◌≡◌, ℕ, Bool, ap₂}
 use Rattle.std.proofs.Props.{props}
 use Rattle.rx_program.specs.declared.states.State.{State}
@@ -18,7 +18,7 @@ answers-are-a-set = hlevel props
 numbers-are-a-set : IsSet ℕ
 numbers-are-a-set = hlevel props
 
--- what it knows beside the program
+-- its other facts
 abbrev Rest : RegexView → CacheView → Type 0
 Rest re cache = (cache.utf8_empty ≡ re.engine.utf8_empty) × (cache.capacity ≡ capacity_of re.settings)
 

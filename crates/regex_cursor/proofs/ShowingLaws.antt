@@ -1,4 +1,4 @@
--- Chunks one after the other, of which one is shown.
+-- Chunks in order, one of which is the current one.
 use Rattle.std.proofs.Common.{◌≡◌, ℕ, ◌+◌, ◌-◌, ◌<◌, ◌≤◌, ◌^◌, true, List, [], ◌∷◌, ◌++◌, length, take, drop, refl, ap, ap₂, sym, subst, ◌∙◌, append_assoc, append-nil, arith}
 use Rattle.std.specs.Prelude.{reverse, Option, Some, None, unwrap_or, encode_utf8_all}
 use Rattle.std.specs.Borrow.{Bor}
@@ -20,7 +20,7 @@ bytes chunks = encode_utf8_all (text_of chunks)
 pub bytes-append : (ps qs : List (List ℕ)) → bytes (ps ++ qs) ≡ bytes ps ++ bytes qs
 bytes-append ps qs = ap encode_utf8_all (concat-append ps qs) ∙ encodes-append (text_of ps) (text_of qs)
 
--- ---- the chunk that is shown
+-- ---- the current chunk
 
 no_chars_of : (shown : List ℕ) → shown ≡ [] → chars shown ≡ []
 no_chars_of shown none = ap chars none ∙ chars-nil
@@ -44,7 +44,7 @@ reverse-piece : (text : List ℕ) → reverse (rope.lone_piece text) ≡ rope.lo
 reverse-piece [] = refl
 reverse-piece (c ∷ cs) = refl
 
--- ---- where it stands in the content
+-- ---- where it is in the haystack
 module _ (place : TwoWay (List ℕ)) (shown : List ℕ) (offset len : ℕ) (s : IsShowing place shown offset len) where
   behind_is : reverse place.behind ≡ reverse s.earlier ++ rope.lone_piece (chars shown)
   behind_is = ap reverse s.stands ∙ reverse-append (rope.lone_piece (chars shown)) s.earlier ∙ ap (λ p. reverse s.earlier ++ p) (reverse-piece (chars shown))
@@ -88,7 +88,7 @@ module _ (place : TwoWay (List ℕ)) (shown : List ℕ) (offset len : ℕ) (s : 
       ∙ ap (take (length shown)) (drop-append_seam (bytes (reverse s.earlier)) (shown ++ bytes place.ahead))
       ∙ take-append_seam shown (bytes place.ahead)
 
-  -- behind it
+  -- after it
   pub ends_last : place.ahead ≡ [] → offset + length shown ≡ length (bytes (all_chunks place))
   ends_last none = omega (arith, length_is, ap (λ p. length (bytes p)) none)
 
@@ -139,7 +139,7 @@ module _ (place new : TwoWay (List ℕ)) (shown next : List ℕ) (offset len : �
       let more : bytes place.ahead ≡ encode_utf8_all (chars next) ++ bytes new.ahead = ap bytes ahead ∙ encodes-append (chars next) (text_of new.ahead) in
       omega (arith, length_is place shown offset len s, ap length more, length-append (encode_utf8_all (chars next)) (bytes new.ahead), ap length (encodes-chars next utf8), some_bytes next next_filled)
 
--- ---- steps back and forth
+-- ---- steps backward and forward
 one_step : (old new : TwoWay (List ℕ)) (given : Option (Bor (List ℕ))) (chunk : List ℕ) (rest : List (List ℕ)) → GivesChunk old given new → old.ahead ≡ chunk ∷ rest → (new.ahead ≡ rest) × (new.behind ≡ chunk ∷ old.behind)
 one_step old new None chunk rest gives ahead = let none : [] ≡ chunk ∷ rest = sym gives.0.0 ∙ ahead in absurd (cc none)
 one_step old new (Some item) chunk rest gives ahead =
@@ -153,23 +153,23 @@ given_chunk old new (Some item) other chunk rest gives ahead =
     let same : chars item.now ∷ new.ahead ≡ chunk ∷ rest = sym gives.0.0 ∙ ahead in
     (cc same, gives.1)
 
--- ---- the chunk before: from before the one that is shown back over that before it
+-- ---- the previous chunk: from before the current one backward over the one before it
 some_earlier : (earlier : List (List ℕ)) → 1 ≤ length (bytes (reverse earlier)) → (e : List ℕ) × (es : List (List ℕ)) × (earlier ≡ e ∷ es)
 some_earlier [] some = absurd (omega (arith, some))
 some_earlier (e ∷ es) some = (e, es, refl)
 
--- on over the chunk ahead
+-- forward over the next chunk
 pub over_next : (old new : TwoWay (List ℕ)) (given : Option (Bor (List ℕ))) → GivesChunk old given new → new ≡ behind_next old.ahead old.behind
 over_next old new None gives = gives.0.1 ∙ ap (λ a. record { ahead = a; behind = old.behind }) gives.0.0 ∙ sym (ap (λ a. behind_next a old.behind) gives.0.0)
 over_next old new (Some item) gives = ap (λ b. record { ahead = new.ahead; behind = b }) gives.0.1 ∙ sym (ap (λ a. behind_next a old.behind) gives.0.0)
 
--- and back over the one behind
+-- backward over the previous one
 pub back_over : (old new : TwoWay (List ℕ)) (given : Option (Bor (List ℕ))) → GivesPrev GivesChunk old given new → IsBeforeLast old new
 back_over old new given gives = λ last earlier is.
     let step = one_step (turned old) (turned new) given last earlier gives is in
     ap₂ (λ a b. record { ahead = a; behind = b }) step.1 step.0
 
--- an iterator that stands before the chunk ahead stands before the last one behind that
+-- an iterator before the next chunk is before the previous one of the position after it
 pub stays_before : (place : TwoWay (List ℕ)) → IsSomeAhead place → IsBeforeLast (behind_next place.ahead place.behind) place
 stays_before place some = by place.ahead refl
   where
@@ -210,7 +210,7 @@ module _ (place one two : TwoWay (List ℕ)) (second : Option (Bor (List ℕ))) 
   given : (chars before ≡ some.0) × IsUtf8 before
   given = given_chunk (turned one) (turned two) second other some.0 some.1 again behind_one
 
-  -- where the chunk that is shown then ends
+  -- where the current chunk then ends
   abbrev passed : TwoWay (List ℕ)
   passed = behind_shown true two
 
@@ -259,7 +259,7 @@ module _ (place one two : TwoWay (List ℕ)) (second : Option (Bor (List ℕ))) 
   pub moves_back : IsNext (showing passed (offset - length before) before) (showing place offset shown)
   moves_back = record { same = record { content = ap bytes same_back; is_sized = refl }; meets = omega (arith, back_fits) }
 
--- ---- the first chunk that is shown
+-- ---- the first current chunk
 piece_of_none : (shown : List ℕ) → shown ≡ [] → rope.lone_piece (chars shown) ≡ []
 piece_of_none shown none = ap rope.lone_piece (no_chars_of shown none)
 
@@ -302,7 +302,7 @@ pub same_content : (place new : TwoWay (List ℕ)) (given : Option (Bor (List �
 same_content place new None gives = ap (λ p. bytes (all_chunks p)) gives.0.1
 same_content place new (Some item) gives = ap bytes (all_the_same place new (chars item.now) gives.0.0 gives.0.1)
 
--- ---- the place before a chunk of a text
+-- ---- the position before a chunk of a text
 pub filled_pieces : (pieces : List (List ℕ)) → IsCutting pieces → HaveCharacters pieces
 filled_pieces (p ∷ []) cut [] back chunk parts none =
     let first : p ≡ chunk = cc parts in

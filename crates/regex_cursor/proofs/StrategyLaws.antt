@@ -1,4 +1,4 @@
--- What is found in a part of a search's span, and what that tells of the span.
+-- The result in a part of a search's span, and what that means for the span.
 use Rattle.std.proofs.Common.{◌≡◌, ℕ, zero, suc, ◌+◌, ◌<◌, ◌≤◌, ◌^◌, Bool, false, true, List, [], ◌∷◌, length, replicate, Option, Some, None, IfSome, SomeIff, is_some, cond, set, refl, sym, ap, ap₂, subst, ◌∙◌, arith}
 use Rattle.std.proofs.lemmas.Bool.{ne_eqb}
 use Rattle.std.proofs.lemmas.List.{length-replicate}
@@ -31,7 +31,7 @@ use Rattle.rx_chunk.specs.Iterating.{ComesNext, IsFoundNext, IsNextAnswer}
 use Rattle.regex_cursor.specs.declared.engines.meta.left.Part.{Part}
 use Rattle.regex_cursor.specs.Strategies.{FindsUpTo, HoldsFind, HoldsNext, IsPart, IsNextLeft}
 
--- the laws of rx_walks, as calls of them tell them
+-- the laws of rx_walks, in the form in which they are called
 abbrev pub OneLaw : Type 0
 OneLaw = (member : List Range → ℕ → Bool) (is_word : ℕ → Bool) (c : Program walks.Look (List Range)) → FindsAtMostOne member is_word c
 
@@ -46,11 +46,11 @@ CutLaw = (member : List Range → ℕ → Bool) (is_word : ℕ → Bool) (c : Pr
 
 -- ---- engines for the leftmost match
 
--- so is each engine that these proofs are about: it finds what its program does
+-- all engines that these proofs are about: their results are those of their program
 abbrev pub IsFirst : Engine → Type 0
 IsFirst e = e.match_kind ≡ LeftmostFirst
 
--- what is told by its program is told by it
+-- the results of its program are its own
 pub by_engine : (e : Engine) → IsFirst e → (P : Finding → Type 0) → P (Finds e.program) → P (EngineFinds e)
 by_engine e first P told = subst P (finds_first e first) told
 
@@ -70,7 +70,7 @@ search_by utf8_empty content asked = record {
 abbrev cut_to : Span → Asked → Asked
 cut_to span a = record a { span = span }
 
--- an input of which the same was asked as of another one, and whose span is cut
+-- an input with the same request as another one, and whose span is limited
 pub cut_asked : (i j k : InputState) (span : Span) → j.asked ≡ i.asked → k.asked ≡ record j.asked { span = span } → k.asked ≡ record i.asked { span = span }
 cut_asked i j k span asked cut = cut ∙ ap (cut_to span) asked
 
@@ -78,7 +78,7 @@ pub cut_search : (utf8_empty : Bool) (i j k : InputState) (span : Span) → IsSa
     → search_of utf8_empty k ≡ within (search_of utf8_empty i) span
 cut_search utf8_empty i j k span same asked same' cut = ap₂ (search_by utf8_empty) (same'.content ∙ same.content) (cut_asked i j k span asked cut)
 
--- what ends in the cut span ends in the whole one
+-- a match that ends in the limited span ends in the whole one
 pub whole_inside : (i k : InputState) (span : Span) (at : ℕ) → k.asked ≡ record i.asked { span = span } → i.asked.span.start ≤ span.start → span.end ≤ i.asked.span.end → EndsInside k at → EndsInside i at
 whole_inside i k span at asked from to ends = record {
   behind_start = omega (arith, ap (λ (a : Asked). a.span.start) asked, ends.behind_start, from);
@@ -86,13 +86,13 @@ whole_inside i k span at asked from to ends = record {
   fits = ends.fits;
 }
 
--- the span of which a part was searched
+-- the span, a part of which was searched
 pub whole_is_span : (p : ByteProgram) (utf8_empty : Bool) (i j : InputState) (part whole : Span) → HoldsFind p (search_of utf8_empty i) part → j.asked ≡ i.asked → whole ≡ j.asked.span → IsSpan whole
 whole_is_span p utf8_empty i j part whole holds asked is =
     let same : whole ≡ i.asked.span = is ∙ ap (λ (a : Asked). a.span) asked in
     omega (arith, ap (λ (x : Span). x.start) same, ap (λ (x : Span). x.end) same, holds.behind, holds.ordered, holds.before)
 
--- ---- what is found
+-- ---- the match found
 
 module _ (e : Engine) (first : IsFirst e) (s : Search) (part : Span) (holds : HoldsFind e.program s part) where
   finds_there : (out : Option (Outcome Notes)) → EngineFinds e (within s part) out → EngineFinds e s out
@@ -107,7 +107,7 @@ module _ (e : Engine) (first : IsFirst e) (s : Search) (part : Span) (holds : Ho
   pub whole_whether : (is_there : Bool) → TellsWhether (EngineFinds e) (within s part) is_there → TellsWhether (EngineFinds e) s is_there
   whole_whether is_there told = (told.0, finds_there told.0 told.1, told.2)
 
-  -- of an input whose span is cut to the part it is told what is told of the whole one
+  -- the result for an input whose span is limited to the part is that for the whole one
   pub whole_match : (i k : InputState) (found : Option Found) → k.asked ≡ record i.asked { span = part }
       → search_of e.utf8_empty k ≡ within s part → TellsMatch k.asked.earliest (EngineFinds e) (search_of e.utf8_empty k) found → TellsMatch i.asked.earliest (EngineFinds e) s found
   whole_match i k found asked search tells =
@@ -120,7 +120,7 @@ module _ (e : Engine) (first : IsFirst e) (s : Search) (part : Span) (holds : Ho
       let told : TellsSlots i.asked.earliest (EngineFinds e) (within s part) pattern slots = subst (λ x. TellsSlots i.asked.earliest (EngineFinds e) x pattern slots) search (subst (λ (a : Asked). TellsSlots a.earliest (EngineFinds e) (search_of e.utf8_empty k) pattern slots) asked tells) in
       record { whether = whole_whether (is_some pattern) told.whether; exact = λ any. whole_answer pattern slots (told.exact any); none = told.none }
 
--- ---- what comes next
+-- ---- the next match
 
 module _ (e : Engine) (first : IsFirst e) (s : Search) (last : Option ℕ) (part : Span) (next : HoldsNext e.program s last part) where
   comes_there : (out : Option (Outcome Notes)) → ComesNext (EngineFinds e) (within s part) last out → ComesNext (EngineFinds e) s last out
@@ -136,14 +136,14 @@ module _ (e : Engine) (first : IsFirst e) (s : Search) (last : Option ℕ) (part
 pub next_there : (p : ByteProgram) (s : Search) (last : Option ℕ) (next : Option Part) (part : Part) → IsNextLeft p s last next → next ≡ Some part → HoldsNext p s last part.span
 next_there p s last next part is there = subst (λ o. IsNextLeft p s last o) there is
 
--- ---- what is told
+-- ---- results
 
 module _ (e : Engine) (first : IsFirst e) (s : Search) where
   -- nothing is found
   pub none_by : Finds e.program s None → EngineFinds e s None
   none_by finds = by_engine e first (λ finding. finding s None) finds
 
-  -- nothing comes next
+  -- there is no next match
   pub nothing_comes : (last : Option ℕ) (slots : Slots) (n : ℕ) → Finds e.program s None → slots ≡ replicate n None → IsNextAnswer (EngineFinds e) s last None slots
   nothing_comes last slots n finds is =
       let len : length slots ≡ n = ap (λ xs. length xs) is ∙ length-replicate n None in
@@ -186,7 +186,7 @@ module _ (e : Engine) (first : IsFirst e) (s : Search) where
     exact = λ any. (Some (literal_match span), literal_found span literal, ap₂ (λ k (x : Span). Some (record { pattern = k; span = x })) pattern at);
   }
 
--- and captures in which nothing is noted tell no match
+-- and captures in which nothing is noted have no match
 pub nothing_whole : (e : Engine) → IsFirst e → (i : InputState) (caps : Captured) (groups : GroupNames) (n : ℕ) → Finds e.program (search_of e.utf8_empty i) None → caps ≡ nothing_noted groups n → TellsWhole e i caps
 nothing_whole e first i caps groups n finds is =
     subst (λ (x : Captured). TellsWhole e i x) (sym is) (record {
@@ -209,7 +209,7 @@ literal_slots_told e first s earliest span slots n is literal =
       none = λ nothing_there. absurd (cc nothing_there);
     }
 
--- its places fit slots
+-- its offsets fit slots
 pub literal_fits : (p : ByteProgram) (utf8_empty : Bool) (i : InputState) (span : Span) → InsideLaw → length i.cursor.content < 2 ^ 63 → FindsLiteral (character_program p) is_word_char (search_of utf8_empty i) span
     → (span.start < 2 ^ 63) × (span.end < 2 ^ 63)
 literal_fits p utf8_empty i span inside bound literal =
@@ -229,9 +229,9 @@ literal_inside p utf8_empty i span end is inside bound literal =
       fits = omega (arith, is, fits.1);
     }
 
--- ---- the literal's match as slots have it
+-- ---- the literal's match in slots
 
--- a place that fits a slot
+-- an offset that fits a slot
 pub some_given : (o : Option ℕ) (place : ℕ) → place < 2 ^ 63 → SomeIff o (place + 1 < 2 ^ 64) place → o ≡ Some place
 some_given None place low given = absurd (given (omega (arith, low)))
 some_given (Some x) place low given = ap Some given.1

@@ -1,4 +1,4 @@
--- The laws of what patterns spell and of what searches for them find, for proofs in the crates above.
+-- The laws of the spelling of patterns and of searches for them, for proofs in the crates above.
 use Rattle.std.proofs.Common.{◌≡◌, ℕ, List, Option, inl, inr, length}
 use Rattle.std.specs.Prelude.{unwrap_or}
 use Rattle.unicode.specs.Perl.{is_word_char}
@@ -58,12 +58,12 @@ regexes_have_trees = record {
   refused = says-of;
 }
 
--- what comes next for an input over a content, behind a match that ended where it starts, or first of
--- all, is what comes next of the tree
+-- the next match for an input over a haystack, after a match that ended where it starts, or the
+-- first, is the next one of the tree
 pub next_of_trees : (text : List ℕ) (re : RegexView) → (built : IsRegexOf text re) → (content : List ℕ) (last : Option ℕ) (input : InputState) (out : Option FoundMatch)
     → AsksFrom content (unwrap_or last 0) input → FindsNext (EngineFinds re.engine) (search_by re.engine input) last out → TreeFindsNext built.tree content last out
 next_of_trees text re built content last input out asks comes = next-of text re built content last input out asks comes
 
--- a regex of one pattern has its groups alone
+-- a regex of one pattern has only its groups
 pub one_of_trees : (text : List ℕ) (re : RegexView) → IsRegexOf text re → length re.engine.groups ≡ 1
 one_of_trees text re built = one-of text re built

@@ -1,4 +1,4 @@
--- What the iterator over matches with their groups gives.
+-- The items of the iterator over matches with their groups.
 use Rattle.std.specs.Prelude.{◌≡◌, Option, Result}
 use Rattle.rx_util.specs.declared.search.MatchError.{MatchError}
 use Rattle.rx_util.specs.Captured.{Captured}
@@ -11,7 +11,7 @@ use Rattle.rx_chunk.specs.Iterating.{GivesInOrder, MatchesLeft, GivesNext, captu
 use Rattle.regex_cursor.specs.declared.engines.meta.captures_matches.CapturesMatches.{CapturesMatches}
 use Rattle.regex_cursor.specs.Regexes.{RegexView, search_by}
 
--- the regex that an iterator searches for, and what it has left
+-- the regex of an iterator, and the matches that it has left
 abbrev pub regex_of : {C : Type 0} {cursor : Ghosts C} → CapturesMatches C cursor → RegexView
 regex_of m = m.re.now
 
@@ -26,8 +26,8 @@ left_of m = record {
 abbrev pub input_of : {C : Type 0} {cursor : Ghosts C} → CapturesMatches C cursor → InputState
 input_of m = m.input
 
--- a step of the iterator, which searches for the same regex on: of each match it tells all slots of
--- its groups
+-- a step of the iterator, which continues the search for the same regex: each match has all slots
+-- of its groups
 pub record Gives {C : Type 0} {cursor : Ghosts C} (m : CapturesMatches C cursor)
     (item : Option (Result Captured MatchError)) (n : CapturesMatches C cursor) : Type 0 where
   pub next : GivesNext (EngineFinds (regex_of m).engine)
@@ -35,7 +35,7 @@ pub record Gives {C : Type 0} {cursor : Ghosts C} (m : CapturesMatches C cursor)
       (left_of m) item (left_of n)
   pub same_regex : regex_of n ≡ regex_of m
 
--- what an iterator of such steps gives, in order, as that over matches does
+-- the items of an iterator of such steps, in order, as of the iterator over matches
 abbrev pub GivesAll : {C : Type 0} {cursor : Ghosts C} → RegexView → Search
     → CapturesMatches C cursor → Type 0
 GivesAll re s m = GivesInOrder re.engine

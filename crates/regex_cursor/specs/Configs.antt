@@ -1,4 +1,4 @@
--- The settings of a regex, and what they ask of its engines.
+-- The settings of a regex, and those of its engines.
 use Rattle.std.specs.Prelude.{◌≡◌, ℕ, ◌-◌, ◌^◌, Bool, true, false, List, Option, Some, None, unwrap_or}
 use Rattle.std.specs.Option.{option_or}
 use Rattle.rx_util.specs.declared.search.MatchKind.{MatchKind}
@@ -13,7 +13,7 @@ pub record RegexSettings : Type 0 where
   pub match_kind : Option MatchKind
   pub utf8_empty : Option Bool
   pub auto_prefilter : Option Bool
-  -- the needles, or none
+  -- the literals, or none
   pub prefilter : Option (Option (List (List ℕ)))
   pub which_captures : Option WhichCaptures
   pub nfa_size_limit : Option (Option ℕ)
@@ -46,7 +46,7 @@ none_set = record {
   line_terminator = None;
 }
 
--- settings that are set in the first, and else those of the second
+-- settings that are set in the first, otherwise those of the second
 abbrev pub regex_settings_over : RegexSettings → RegexSettings → RegexSettings
 regex_settings_over new old = record {
   match_kind = option_or new.match_kind old.match_kind;
@@ -72,19 +72,19 @@ regex_settings_over new old = record {
 abbrev pub match_kind_of : RegexSettings → MatchKind
 match_kind_of settings = unwrap_or settings.match_kind LeftmostFirst
 
--- whether empty matches inside a character are passed over
+-- whether empty matches inside a character are skipped
 abbrev pub utf8_empty_of : RegexSettings → Bool
 utf8_empty_of settings = unwrap_or settings.utf8_empty true
 
--- whether literals that matches begin with are read from the patterns, to be looked for
+-- whether literals that matches begin with are extracted from the patterns, for scans
 abbrev pub auto_prefilter_of : RegexSettings → Bool
 auto_prefilter_of settings = unwrap_or settings.auto_prefilter true
 
--- the needles of the caller's own
+-- the literals of the caller's prefilter
 abbrev pub prefilter_of : RegexSettings → Option (List (List ℕ))
 prefilter_of settings = unwrap_or settings.prefilter None
 
--- neither are to be looked for
+-- there are neither, so no scans
 abbrev pub WantsNoLiterals : RegexSettings → Type 0
 WantsNoLiterals settings =
     (auto_prefilter_of settings ≡ false) × (prefilter_of settings ≡ None)
@@ -101,22 +101,22 @@ nfa_size_limit_of settings = unwrap_or settings.nfa_size_limit (Some 10485760)
 abbrev pub capacity_of : RegexSettings → ℕ
 capacity_of settings = unwrap_or settings.hybrid_cache_capacity 2097152
 
--- whether states are made as searches come to them
+-- whether to use the automaton whose states are made on demand
 abbrev pub hybrid_of : RegexSettings → Bool
 hybrid_of settings = unwrap_or settings.hybrid true
 
--- whether all states are made before, where they are few
+-- whether all states of an automaton are made in advance, if they are few
 abbrev pub dfa_of : RegexSettings → Bool
 dfa_of settings = unwrap_or settings.dfa true
 
--- and how few: so many bytes and so many states at most, if there is a limit
+-- and how few: the maximum number of bytes and of states, if there is a limit
 abbrev pub dfa_size_limit_of : RegexSettings → Option ℕ
 dfa_size_limit_of settings = unwrap_or settings.dfa_size_limit (Some 40960)
 
 abbrev pub dfa_state_limit_of : RegexSettings → Option ℕ
 dfa_state_limit_of settings = unwrap_or settings.dfa_state_limit (Some 30)
 
--- how many a limit lets there be
+-- the maximum of a limit
 abbrev pub most : Option ℕ → ℕ
 most limit = unwrap_or limit (2 ^ 64 - 1)
 
@@ -124,7 +124,7 @@ most limit = unwrap_or limit (2 ^ 64 - 1)
 abbrev pub line_terminator_of : RegexSettings → ℕ
 line_terminator_of settings = unwrap_or settings.line_terminator 10
 
--- ---- what is asked of the engine that serves any search
+-- ---- the settings of the engine for any search
 
 abbrev pub engine_settings : RegexSettings → EngineSettings
 engine_settings settings = record {
@@ -135,7 +135,7 @@ engine_settings settings = record {
   which_captures = Some (which_captures_of settings);
 }
 
--- what a builder was given: the regex's settings, and those of the syntax
+-- the settings of a builder: the regex's, and those of the syntax
 pub record RegexWanted : Type 0 where
   pub settings : RegexSettings
   pub syntax : Settings
@@ -146,6 +146,6 @@ engine_wanted wanted = record {
   syntax = wanted.syntax;
 }
 
--- nothing was given
+-- nothing is set
 abbrev pub default_regex : RegexWanted
 default_regex = record { settings = none_set; syntax = default_settings }

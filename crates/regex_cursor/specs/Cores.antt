@@ -9,21 +9,21 @@ use Rattle.rx_dfa.specs.Alphabets.{AlphabetView, IsAlphabetOf}
 use Rattle.rx_engine.specs.Engines.{Engine, IsEngine}
 use Rattle.regex_cursor.specs.Configs.{RegexSettings, capacity_of}
 
--- what is searched for, the automaton of its program, and the settings
+-- the engine, the automaton of its program, and the settings
 pub record CoreView : Type 0 where
   pub vm : Engine
   pub dfa : AlphabetView
   pub settings : RegexSettings
 
--- the program is that of a tree, both pass over the same empty matches, and the automaton's states
--- may take as much room as is set
+-- the program is that of a tree, both skip the same empty matches, and the automaton's states may
+-- take as much room as is set
 pub record IsCore (c : CoreView) : Type 0 where
   pub engine : IsEngine c.vm
   pub dfa : IsAlphabetOf c.vm.program c.dfa
   pub utf8_empty : c.dfa.utf8_empty ≡ c.vm.utf8_empty
   pub capacity : c.dfa.capacity ≡ capacity_of c.settings
 
--- caches for searches by each, and perhaps the program turned round
+-- caches for searches by each, and perhaps the reversed program
 pub record AreCachesOf (c : CoreView) (vm : steps.CacheView) (automaton : automata.CacheView)
     (back : Option ReverseByteProgram) : Type 0 where
   pub for_vm : steps.IsCacheOf c.vm.program vm

@@ -1,5 +1,4 @@
--- Why a text is refused as a pattern: the words of the crate below, for crates that stand on this
--- one.
+-- Why a text is refused as a pattern: words of `rx_grammar`, for the crates above.
 pub use Rattle.rx_grammar.specs.Refusals.{IsRefusedAs, SpellsSome}
 pub use Rattle.rx_grammar.specs.Settings.{Settings, default_settings}
 pub use Rattle.rx_grammar.specs.declared.refusals.Refusal.{Refusal}

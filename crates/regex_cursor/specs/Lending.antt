@@ -1,5 +1,5 @@
--- Inputs that iterators lend, to be changed: each ends with the input that was left behind the
--- reference, and is as before in all else.
+-- Inputs that iterators lend for changes: each iterator ends with the input after the borrow, and
+-- is unchanged otherwise.
 use denote.RattleType.{RattleType}
 use mir.Syntax.{named}
 use Rattle.std.specs.Prelude.{[]}

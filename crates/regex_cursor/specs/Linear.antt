@@ -1,6 +1,6 @@
--- All matches of a regex in an input, one after the other, in time linear in the input: by finds as
--- long as these read at most all places once and three times those that lie behind them, and then
--- by a list.
+-- All matches of a regex in an input, in order, in time linear in the input: by single finds as
+-- long as these read at most all offsets once and three times those before them, and after that
+-- from a list.
 use Rattle.std.specs.Prelude.{◌≡◌, ℕ, ◌+◌, ◌-◌, ◌*◌, ◌≤◌, ◌==◌, Bool, true, false, cond, is_some, length, List, [], ◌∷◌, map, Option, Some, None, option_map, IfSome}
 use Rattle.rx_util.specs.declared.search.MatchKind.TheVariants.{LeftmostFirst}
 use Rattle.rx_util.specs.Search.{HalfFound}
@@ -18,15 +18,15 @@ use Rattle.rx_chunk.specs.Engines.{Engine, EngineFinds}
 use Rattle.rx_chunk.specs.Iterating.{ComesNext, MatchesLeft, left_behind}
 use Rattle.regex_cursor.specs.Regexes.{search_by}
 
--- matches that were listed: for which engine, in how many slots each, and what was listed of them
+-- matches that were listed: for which engine, with how many slots each, and what was listed of them
 pub record FurtherMatches : Type 0 where
   pub engine : Engine
   pub slot_len : ℕ
   pub found : List Listed
 
--- where it has come: the input, whose span starts where the last match ended; that place, if there
--- was a match; whether no more come; the first place of the whole; how many places finds read; and
--- the further matches, if they were listed
+-- The state: the input, whose span starts where the last match ended; that offset, if there was a
+-- match; whether it has ended; the first offset of the whole; the number of offsets that finds
+-- read; and the further matches, if they were listed
 pub record LinearState : Type 0 where
   pub input : InputState
   pub last_end : Option ℕ
@@ -35,7 +35,7 @@ pub record LinearState : Type 0 where
   pub finds_read : ℕ
   pub rest : Option FurtherMatches
 
--- none of the matches in an input has come yet
+-- before the first match of an input
 abbrev pub linear_from : InputState → LinearState
 linear_from i = record {
   input = i;
@@ -46,13 +46,13 @@ linear_from i = record {
   rest = None;
 }
 
--- what it has left, by an engine
+-- the matches that it has left, by an engine
 abbrev pub left_of : Engine → LinearState → MatchesLeft
 left_of e m = record { search = search_by e m.input; last_end = m.last_end; is_over = m.is_over }
 
--- ---- what comes next
+-- ---- the next match
 
--- this comes next in a search, told by its pattern and its end, and in slots by its places
+-- the next match of a search, by its pattern and its end, with its offsets in slots
 pub record TellsWhatComes (finding : Finding) (s : Search) (last : Option ℕ)
     (half : Option HalfFound)
     (slots : List (Option ℕ)) : Type 0 where
@@ -61,12 +61,12 @@ pub record TellsWhatComes (finding : Finding) (s : Search) (last : Option ℕ)
   pub half_is : half ≡ option_map (λ t. record { pattern = t.pattern; offset = end_of t }) out
   pub slots_are : slots ≡ answer_slots (length slots) out
 
--- what is left behind that, or that no more come
+-- what is left after that, or that the search has ended
 abbrev pub IsLeftBehind : MatchesLeft → Option (Outcome Notes) → MatchesLeft → Type 0
 IsLeftBehind m None n = n.is_over ≡ true
 IsLeftBehind m (Some t) n = n ≡ left_behind m (end_of t)
 
--- a step: what comes next, told by its pattern and by its places in slots, and what is left then
+-- a step: the next match, by its pattern and by its offsets in slots, and what is left then
 pub record GivesSlots (finding : Finding) (m : MatchesLeft) (pattern : Option ℕ)
     (slots : List (Option ℕ)) (n : MatchesLeft) : Type 0 where
   pub out : Option (Outcome Notes)
@@ -77,15 +77,15 @@ pub record GivesSlots (finding : Finding) (m : MatchesLeft) (pattern : Option �
 
 -- ---- lists of what is left
 
--- these are the matches of an engine in a search behind one that ended at a place, each told in so
--- many slots
+-- these are the matches of an engine in a search after one that ended at `end`, each with `len`
+-- slots
 pub record AreBehind (e : Engine) (s : Search) (end len : ℕ) (found : List Listed) : Type 0 where
   pub matches : List (Outcome Notes)
   pub further : Further (finds_on (EngineFinds e) s) end matches
   pub found_are : found ≡ map (listed_of len) matches
 
--- how many of those that were listed from a place on lie behind a match that ended there: all, but
--- an empty one at that place
+-- how many of the matches listed from an offset on are skipped after a match that ended there: only
+-- an empty one at that offset
 abbrev pub passed_over : ℕ → List Listed → ℕ
 passed_over end [] = 0
 passed_over end (l ∷ others) = cond (l.end == end) 1 0
@@ -108,23 +108,23 @@ pub record FindAlike (e f : Engine) : Type 0 where
 abbrev pub IsListedFor : Engine → LinearState → Type 0
 IsListedFor e m = IfSome m.rest (λ r. FindAlike r.engine e)
 
--- ---- how much is read
+-- ---- offsets read
 
--- the number of places of the whole
+-- the number of offsets of the whole
 abbrev pub all_places : LinearState → ℕ
 all_places m = highest (search_of true m.input) + 1 - m.first
 
--- at most so many places were read: those that finds read, and six times all for a list
+-- a bound on the number of offsets read: those that finds read, and six times all for a list
 abbrev pub places_read : LinearState → ℕ
 places_read m = m.finds_read + cond (is_some m.rest) (6 * all_places m) 0
 
--- if the further matches were listed, it was in so many slots each, or more
+-- if the further matches were listed, it was with this number of slots each, or more
 abbrev pub HasListed : ℕ → LinearState → Type 0
 HasListed len m = IfSome m.rest (λ r. len ≤ r.slot_len)
 
--- finds read at most four times the places, and ten; nothing was read before the first match; while
--- more may come, the span starts where the last match ended, not before the first place; and what
--- was listed is what is left
+-- finds read at most four times the offsets, and ten; nothing was read before the first match;
+-- until it has ended, the span starts where the last match ended, not before the first offset; and
+-- what was listed is what is left
 pub record IsLinear (m : LinearState) : Type 0 where
   pub few : m.finds_read ≤ 4 * all_places m + 10
   pub further : m.is_over ≡ false → m.first ≤ lowest (search_of true m.input)

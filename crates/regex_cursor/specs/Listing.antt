@@ -11,30 +11,30 @@ use Rattle.rx_chunk.specs.Engines.{Engine, whole_span}
 use Rattle.rx_chunk.specs.Iterating.{EngineMatches}
 use Rattle.rx_lists.specs.Lists.{Listed}
 
--- the engine, where the leftmost match is found, and of those that start there the preferred one
+-- the engine, for leftmost-first matches
 abbrev pub leftmost_first : Engine → Engine
 leftmost_first e = record e { match_kind = LeftmostFirst }
 
--- of all matches of an engine in a search, in order, this is told
+-- these are the items of all matches of an engine in a search, in order
 pub record TellsAll {A : Type 0} (e : Engine) (s : Search) (item_of : Outcome Notes → A)
     (items : List A) : Type 0 where
   pub matches : List (Outcome Notes)
   pub are_all : EngineMatches e s matches
   pub items_are : items ≡ map item_of matches
 
--- ---- of one that was listed
+-- ---- a listed match
 
--- the match by the two slots of its pattern's group 0
+-- the match in the two slots of its pattern's group 0
 abbrev pub match_listed : Listed → Option Found
 match_listed l =
     option_map (λ span. record { pattern = l.pattern; span = span }) (whole_span l.pattern l.slots)
 
--- both are there, in order
+-- both offsets exist, in order
 pub record IsWhole (l : Listed) : Type 0 where
   pub match : Found
   pub is_listed : match_listed l ≡ Some match
   pub ordered : match.span.start ≤ match.span.end
 
--- what is noted of it in captures
+-- the match in captures
 abbrev pub captures_listed : GroupNames → Listed → Captured
 captures_listed groups l = record { groups = groups; pattern = Some l.pattern; slots = l.slots }

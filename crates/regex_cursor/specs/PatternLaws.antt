@@ -1,4 +1,4 @@
--- Laws of what patterns spell, and of what searches for them find.
+-- Laws of the spelling of patterns, and of searches for them.
 use Rattle.std.specs.Prelude.{◌≡◌, ◌⊎◌, ℕ, ◌*◌, ◌<◌, ◌≤◌, false, List, length, Option, Some, option_map}
 use Rattle.std.specs.Str.{chars}
 use Rattle.unicode.specs.Perl.{is_word_char}
@@ -19,13 +19,13 @@ abbrev pub SpellsOneTree : Type 0
 SpellsOneTree =
     (text : List ℕ) (tree other : Tree) → SpellsTree text tree → SpellsTree text other → tree ≡ other
 
--- it spells a tree, or none
+-- it spells a tree, or it spells none
 abbrev pub SpellsTreeOrNone : Type 0
 SpellsTreeOrNone = (text : List ℕ) → ((tree : Tree) × SpellsTree text tree) ⊎ SpellsNone text
 
--- of what is searched for a tree: a search finds exactly one thing, and there is exactly one list of
--- matches; how these lie in the content, and that they are whole characters; and what the first
--- members of the list are
+-- searches for a tree: a search has exactly one result, and there is exactly one list of matches;
+-- where these are in the haystack, and that they are whole characters; and the first members of the
+-- list
 pub record HasFinds (tree : Tree) : Type 0 where
   pub one_find : FindsAtMostOne is_in is_word_char (program_for tree)
   pub has_find : FindsExist is_in is_word_char (program_for tree)
@@ -40,7 +40,7 @@ pub record HasFinds (tree : Tree) : Type 0 where
 
 -- ---- regexes
 
--- what a refusal says of a pattern's text, given as its bytes
+-- what an error means for a pattern's text, given as its bytes
 abbrev pub SaysOfText : List ℕ → BuildError → Type 0
 SaysOfText text (Syntax pattern error) = (65536 < length text) ⊎ SpellsNone (chars text)
 SaysOfText text (Size limit) =
@@ -53,10 +53,10 @@ pub record HasNotedGroups (t : FoundMatch) : Type 0 where
   pub whole : HasNoted (start_of t) t
   pub groups : (k : ℕ) → IsNotedWhole t.notes (2 * k)
 
--- A regex that is built of a pattern searches for the tree that this spells, which isn't too heavy:
--- what it tells of an input, where not any match will do, is what the tree has in the search that
--- the input asks for, also in slots, and each match of that tree has noted its groups; and so it is
--- for an input over a content from a place on. A refusal says why there is none.
+-- A regex built from a pattern searches for the tree that the pattern spells, which isn't too
+-- heavy. Its result for an input, unless any match may be returned, is that of the tree in the
+-- search that the input requests, also in slots, and each match of that tree has noted its groups.
+-- The same holds for an input over a haystack from an offset on. An error says why there is none.
 pub record RegexesHaveTrees : Type 0 where
   pub spells : (text : List ℕ) (re : RegexView) → (built : IsRegexOf text re)
       → SpellsTree (chars text) built.tree

@@ -1,5 +1,5 @@
--- What a pattern's text spells, and what a search for it finds over a whole content: the words of
--- the crates below, for crates that stand on this one.
+-- The tree that a pattern's text spells, and the result of a search for it in a whole haystack:
+-- words of the crates below, for the crates above.
 use Rattle.std.specs.Prelude.{◌≡◌, ℕ, ◌≤◌, Bool, false, true, List, [], ◌∷◌, length, Option, None}
 use Rattle.unicode.specs.Perl.{is_word_char}
 use Rattle.rx_util.specs.declared.search.Anchored.TheVariants.{No}
@@ -22,7 +22,7 @@ pub use Rattle.rx_walks.specs.ProgramFinds.{ProgramFinds, ProgramMatches, Progra
 pub use Rattle.rx_chunk.specs.Engines.{match_of}
 pub use Rattle.rx_util.specs.Search.{Found}
 
--- ---- what is spelled
+-- ---- spelling
 
 -- under the default settings the text, of at most 65,536 bytes of UTF-8, spells the tree
 abbrev pub SpellsTree : List ℕ → Tree → Type 0
@@ -32,22 +32,22 @@ SpellsTree text tree = Spells text default_settings tree
 abbrev pub SpellsNone : List ℕ → Type 0
 SpellsNone text = (tree : Tree) → SpellsTree text tree → ⊥
 
--- how much a pattern of a regex may weigh by default
+-- the maximum weight of a pattern of a regex by default
 abbrev pub weight_limit : ℕ
 weight_limit = 262144
 
--- ---- what is found
+-- ---- matches
 
--- what a search comes to: a match with its start, its end and the places in its slots
+-- a match with its start, its end and the offsets in its slots
 abbrev pub FoundMatch : Type 0
 FoundMatch = Outcome Notes
 
--- the program of a tree that stands alone; lines end in LF
+-- the program of a single tree; lines end in LF
 abbrev pub program_for : Tree → Program Look (List Range)
 program_for tree = program_of (tree ∷ []) 10
 
--- the search of a whole content from a place on: looks see all of it, and an empty match inside a
--- character is passed over
+-- the search of a whole haystack from an offset on: look-around assertions see all of it, and an
+-- empty match inside a character is skipped
 abbrev pub search_from : List ℕ → ℕ → Search
 search_from content from = record {
   content = content;
@@ -59,11 +59,12 @@ search_from content from = record {
   utf8_empty = true;
 }
 
--- the search of all of a content, where an empty match inside a character is passed over or isn't
+-- the search of all of a haystack, in which an empty match inside a character is skipped or isn't
 abbrev pub search_part : Bool → List ℕ → Search
 search_part utf8_empty content = record (search_from content 0) { utf8_empty = utf8_empty }
 
--- an input that asks for it: for any match from a place on, and looks see all of the content
+-- an input that requests it: a leftmost match from an offset on, and look-around assertions see all
+-- of the haystack
 pub record AsksFrom (content : List ℕ) (from : ℕ) (input : InputState) : Type 0 where
   pub content_is : input.cursor.content ≡ content
   pub asked_is : input.asked ≡ record {
@@ -73,21 +74,22 @@ pub record AsksFrom (content : List ℕ) (from : ℕ) (input : InputState) : Typ
     earliest = false;
   }
 
--- what a search for a tree finds
+-- the result of a search for a tree
 abbrev pub TreeFindsIn : Tree → Search → Option FoundMatch → Type 0
 TreeFindsIn tree s found = ProgramFinds is_in is_word_char (program_for tree) s found
 
--- what it finds in a content from a place on
+-- its result in a haystack from an offset on
 abbrev pub TreeFinds : Tree → List ℕ → ℕ → Option FoundMatch → Type 0
 TreeFinds tree content from found = TreeFindsIn tree (search_from content from) found
 
--- no part of a content from one place up to another has a match of the tree, searched by itself
+-- no part of a haystack between two offsets has a match of the tree, searched separately
 abbrev pub HasNoMatchBetween : Tree → List ℕ → ℕ → ℕ → Type 0
 HasNoMatchBetween tree content from to =
     (start end : ℕ) → from ≤ start → end ≤ to → TreeFinds tree (between start end content) 0 None
 
--- its matches in a content, one after the other: the first is found from the content's start, each
--- further one from the end of the one before, or one place on where an empty match is found there
+-- its matches in a haystack, in order: the first is found from the haystack's start, each further
+-- one from the end of the one before, or one byte further on if that finds an empty match at that
+-- end
 abbrev pub TreeMatches : Tree → List ℕ → List FoundMatch → Type 0
 TreeMatches tree content matches =
     ProgramMatches is_in is_word_char (program_for tree) (search_from content 0) matches
@@ -97,7 +99,7 @@ abbrev pub FirstTreeMatches : Tree → List ℕ → List FoundMatch → Type 0
 FirstTreeMatches tree content matches =
     ProgramFirstMatches is_in is_word_char (program_for tree) (search_from content 0) matches
 
--- what comes next in it behind these, or that none comes
+-- the next match after these, or that there is none
 abbrev pub ComesBehind : Tree → List ℕ → List FoundMatch → Option FoundMatch → Type 0
 ComesBehind tree content matches found =
     ProgramComesNext is_in is_word_char (program_for tree) (search_from content 0) matches found

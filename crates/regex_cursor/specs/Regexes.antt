@@ -1,4 +1,4 @@
--- A regex: of what it was built, and what its searches tell.
+-- A regex: what it was built from, and the results of its searches.
 use Rattle.std.specs.Prelude.{◌≡◌, ℕ, ◌≤◌, Bool, List, [], ◌∷◌, length, None, Option, option_map}
 use Rattle.std.specs.Str.{chars}
 use Rattle.rx_util.specs.Captured.{Captured}
@@ -12,7 +12,7 @@ use Rattle.rx_walks.specs.Machines.{Outcome}
 use Rattle.rx_walks.specs.Programs.{Notes}
 use Rattle.rx_program.specs.Programs.{ByteProgram}
 use Rattle.rx_program.specs.declared.error.BuildError.{BuildError}
--- its searches tell what those of its engine do
+-- the results of its searches are those of its engine
 pub use Rattle.rx_engine.specs.Engines.{Engine}
 pub use Rattle.rx_chunk.specs.Engines.{EngineFinds, IsFound, TellsWhether}
 use Rattle.rx_chunk.specs.Engines.{Finds}
@@ -22,7 +22,7 @@ use Rattle.rx_engine.specs.Engines.{AreRefused, IsBuiltOfTrees, IsEngine, IsRefu
 use Rattle.regex_cursor.specs.Patterns.{search_part}
 use Rattle.regex_cursor.specs.Configs.{RegexSettings, RegexWanted, capacity_of, default_regex, engine_settings, engine_wanted}
 
--- a regex is seen as the engine that serves any search, and the settings that it was built under
+-- the view of a regex: the engine for any search, and the settings that it was built with
 pub record RegexView : Type 0 where
   pub engine : Engine
   pub settings : RegexSettings
@@ -31,21 +31,21 @@ pub record RegexView : Type 0 where
 abbrev pub IsRegex : RegexView → Type 0
 IsRegex re = IsEngine re.engine
 
--- ---- of what it was built
+-- ---- what it was built from
 
--- it was built of these trees under these settings
+-- it was built from these trees with these settings
 pub record IsRegexOfTrees (trees : List Tree) (settings : RegexSettings) (re : RegexView)
     : Type 0 where
   pub engine : IsBuiltOfTrees trees (engine_settings settings) re.engine
   pub settings_are : re.settings ≡ settings
 
--- it was built of a pattern, given as its bytes: of the tree that the pattern spells
+-- it was built from a pattern, given as its bytes: from the tree that the pattern spells
 pub record IsRegexUnder (text : List ℕ) (wanted : RegexWanted) (re : RegexView) : Type 0 where
   pub tree : Tree
   pub spells : Spells (chars text) wanted.syntax tree
   pub built : IsRegexOfTrees (tree ∷ []) wanted.settings re
 
--- it was built of patterns: of the trees that they spell
+-- it was built from patterns: from the trees that they spell
 pub record IsRegexOfAllUnder (texts : List (List ℕ)) (wanted : RegexWanted) (re : RegexView)
     : Type 0 where
   pub trees : List Tree
@@ -76,16 +76,17 @@ IsRefusedAsRegex text error = IsRefusedUnder text default_regex error
 abbrev pub AreRefusedAsRegex : List (List ℕ) → BuildError → Type 0
 AreRefusedAsRegex texts error = AreRefusedUnder texts default_regex error
 
--- ---- what its searches take and tell
+-- ---- caches, and the results of searches
 
--- a cache is seen as what it was made for: a program, whether empty matches inside a character are
--- passed over, and how many bytes the states may take that it keeps
+-- the view of a cache: the program that it is for, whether empty matches inside a character are
+-- skipped, and the maximum number of bytes of the states that it keeps
 pub record CacheView : Type 0 where
   pub program : ByteProgram
   pub utf8_empty : Bool
   pub capacity : ℕ
 
--- it serves each regex that searches so: neither names of groups nor other settings change that
+-- it can be used with each regex that searches like this, whatever the names of groups and other
+-- settings
 pub record IsCacheOf (re : RegexView) (c : CacheView) : Type 0 where
   pub program : c.program ≡ re.engine.program
   pub utf8_empty : c.utf8_empty ≡ re.engine.utf8_empty
@@ -95,13 +96,13 @@ pub record IsCacheOf (re : RegexView) (c : CacheView) : Type 0 where
 abbrev pub half_of : Found → HalfFound
 half_of found = record { pattern = found.pattern; offset = found.span.end }
 
--- of a match that is told so, its pattern and its end
+-- the pattern and the end of the match found, or none
 pub record TellsHalf (e : Engine) (i : InputState) (half : Option HalfFound) : Type 0 where
   pub found : Option Found
   pub tells : TellsMatch e i found
   pub half_is : half ≡ option_map half_of found
 
--- all matches that it has in a search, one after the other
+-- all matches that it has in a search, in order
 abbrev pub RegexMatches : RegexView → Search → List (Outcome Notes) → Type 0
 RegexMatches re s ms = EngineMatches re.engine s ms
 
@@ -110,8 +111,8 @@ abbrev pub HasRoom : RegexView → Captured → Type 0
 HasRoom re caps =
     HoldsMatches re.engine caps × (length caps.slots ≡ slot_len re.engine.groups)
 
--- no part of a content from one place up to another has a match of the engine's program, searched by
--- itself
+-- no part of a haystack between two offsets has a match of the engine's program, searched
+-- separately
 abbrev pub HasNoFindBetween : Engine → List ℕ → ℕ → ℕ → Type 0
 HasNoFindBetween e content from to = (start end : ℕ) → from ≤ start → end ≤ to
     → Finds e.program (search_part e.utf8_empty (between start end content)) None

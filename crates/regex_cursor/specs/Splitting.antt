@@ -1,4 +1,4 @@
--- What the iterators over the parts between matches give.
+-- The items of the iterators over the parts between matches.
 use Rattle.std.specs.Prelude.{◌≡◌, ℕ, ◌+◌, ◌<◌, ◌≤◌, nat_lt, if◌then◌else◌, Bool, true, false, List, [], ◌∷◌, ◌++◌, length, min, Option, Some, None, Result, Ok, Err}
 use Rattle.std.specs.Iterator.{Count, Drains, Yields, at_most, size}
 use Rattle.rx_util.specs.declared.search.MatchError.{MatchError}
@@ -17,8 +17,8 @@ use Rattle.regex_cursor.specs.Iterating.{not_refused}
 use Rattle.regex_cursor.specs.Patterns.{FoundMatch, start_of, end_of}
 use Rattle.regex_cursor.specs.Regexes.{RegexView, RegexMatches}
 
--- what is left to an iterator over parts: the matches that are left, where the next part starts,
--- and whether no more come
+-- the state of an iterator over parts: the matches that are left, where the next part starts, and
+-- whether it has ended
 pub record PartsLeft : Type 0 where
   pub matches : MatchesLeft
   pub last : ℕ
@@ -28,20 +28,20 @@ pub record PartsLeft : Type 0 where
 abbrev pub parts_of : MatchesLeft → PartsLeft
 parts_of m = record { matches = m; last = 0; is_over = false }
 
--- where a search ends: where its span does, but at most where its content does
+-- where a search ends: at the end of its span, or of its haystack if that is less
 abbrev pub end_of_search : Search → ℕ
 end_of_search s = min s.end (length s.content)
 
 abbrev pub span_from_to : ℕ → ℕ → Span
 span_from_to start end = record { start = start; end = end }
 
--- the last part, from one place to another; there is none where it would end before it starts
+-- the last part, from one offset to another; there is none if it would end before it starts
 pub data EndsWith (start end : ℕ) : Option Span → Type 0 where
   part : start ≤ end → EndsWith start end (Some (span_from_to start end))
   none : end < start → EndsWith start end None
 
--- a step of the iterator: up to each match a part, and behind the last match the last part; a
--- refusal is want of memory, and behind it none comes
+-- a step of the iterator: a part up to each match, and after the last match the last part; an error
+-- is out of memory, and nothing follows it
 pub data SplitsOff (finding : Finding) (m n : PartsLeft) : Option (Result Span MatchError) → Type 0
   where
     over : m.is_over ≡ true → n ≡ m → SplitsOff finding m n None
@@ -58,7 +58,7 @@ pub data SplitsOff (finding : Finding) (m n : PartsLeft) : Option (Result Span M
         → SplitsOff finding m n None
     refused : m.is_over ≡ false → n.is_over ≡ true → SplitsOff finding m n (Some (Err Memory))
 
--- the regex that a splitter searches for, and what it has left in an input
+-- the regex of a splitter, and what it has left in an input
 abbrev pub regex_in : Splitter → RegexView
 regex_in m = iterating.regex_in m.finder
 
@@ -69,7 +69,7 @@ left_in m i = record {
   is_over = m.is_over;
 }
 
--- the regex that an iterator searches for, and what it has left
+-- the regex of an iterator, and what it has left
 abbrev pub regex_of : {C : Type 0} → Split C → RegexView
 regex_of m = regex_in m.splitter
 
@@ -80,7 +80,7 @@ left_of m = left_in m.splitter m.input
 abbrev pub input_of : {C : Type 0} → Split C → InputState
 input_of m = m.input
 
--- a step of the iterator, which searches for the same regex on
+-- a step of the iterator, which continues the search for the same regex
 pub record Gives {C : Type 0} (m : Split C)
     (item : Option (Result Span MatchError)) (n : Split C) : Type 0 where
   pub next : SplitsOff (EngineFinds (regex_of m).engine) (left_of m) (left_of n) item
@@ -88,18 +88,18 @@ pub record Gives {C : Type 0} (m : Split C)
 
 -- ---- all parts
 
--- the last part, where there is one
+-- the last part, if there is one
 abbrev pub last_part : ℕ → ℕ → List Span
 last_part start end = if nat_lt end start then [] else span_from_to start end ∷ []
 
--- the gaps between these matches, from a place on: up to the start of each, and from the end of the
--- last one to the end of all
+-- the gaps between these matches, from an offset on: up to the start of each, and from the end of
+-- the last one to the end of all
 abbrev pub gaps : ℕ → ℕ → List FoundMatch → List Span
 gaps start end [] = last_part start end
 gaps start end (t ∷ others) = span_from_to start (start_of t) ∷ gaps (end_of t) end others
 
--- What the iterator gives of a search: the gaps between all matches that the regex has there, from 0
--- on; before a refusal and before it is drained the first of them, and nothing after a refusal.
+-- The items of the iterator for a search: the gaps between all matches of the regex, from 0 on;
+-- before an error and before it ends the first of them, and nothing after an error.
 pub record GivesGaps {C : Type 0} (re : RegexView) (s : Search) (m : Split C)
     : Type 0 where
   pub first : (n : Split C) (parts : List Span) → Yields Gives m (not_refused parts) n
@@ -111,9 +111,9 @@ pub record GivesGaps {C : Type 0} (re : RegexView) (s : Search) (m : Split C)
       (others : List (Result Span MatchError))
       → Yields Gives m (not_refused parts ++ Err error ∷ others) n → others ≡ []
 
--- ---- how many
+-- ---- their number
 
--- at most one part more comes than matches
+-- there is at most one more part than matches
 abbrev pub parts_left_by : Bool → ℕ → ℕ
 parts_left_by true matches = 0
 parts_left_by false matches = matches + 1

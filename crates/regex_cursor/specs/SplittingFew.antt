@@ -1,4 +1,4 @@
--- What the iterator over at most so many parts gives.
+-- The items of the iterator over a limited number of parts.
 use Rattle.std.specs.Prelude.{◌≡◌, ℕ, zero, suc, ◌+◌, ◌<◌, true, false, List, [], ◌∷◌, ◌++◌, take, Option, Some, None, Result, Ok, Err}
 use Rattle.std.specs.Iterator.{Count, Drains, Yields, at_most}
 use Rattle.rx_util.specs.declared.search.MatchError.{MatchError}
@@ -19,8 +19,8 @@ abbrev pub told_part : Option Span → Option (Result Span MatchError)
 told_part None = None
 told_part (Some part) = Some (Ok part)
 
--- a step where so many parts may still come: the next one of all parts, and as the last of so many
--- the one to the end
+-- a step with this number of parts still allowed: the next one of all parts, or, if it is the last
+-- one allowed, the one to the end
 pub data SplitsFew (finding : Finding) (m n : PartsLeft) : ℕ → ℕ → Option (Result Span MatchError)
     → Type 0 where
   enough : n ≡ m → SplitsFew finding m n 0 0 None
@@ -31,7 +31,7 @@ pub data SplitsFew (finding : Finding) (m n : PartsLeft) : ℕ → ℕ → Optio
       → EndsWith m.last (end_of_search m.matches.search) part
       → n ≡ record m { is_over = true } → SplitsFew finding m n 1 0 (told_part part)
 
--- what is left to the iterator: the parts that are left, and how many of them may still come
+-- the state of the iterator: the parts that are left, and how many of them are still allowed
 pub record FewLeft : Type 0 where
   pub parts : PartsLeft
   pub limit : ℕ
@@ -46,7 +46,7 @@ regex_of m = splitting.regex_in m.splitter
 abbrev pub input_of : {C : Type 0} → SplitN C → InputState
 input_of m = m.input
 
--- a step of the iterator, which searches for the same regex on
+-- a step of the iterator, which continues the search for the same regex
 pub record Gives {C : Type 0} (m : SplitN C)
     (item : Option (Result Span MatchError)) (n : SplitN C) : Type 0 where
   pub next : SplitsFew (EngineFinds (regex_of m).engine) (left_of m).parts (left_of n).parts
@@ -55,15 +55,14 @@ pub record Gives {C : Type 0} (m : SplitN C)
 
 -- ---- all parts
 
--- at most so many gaps from a place on: those between the first matches, one fewer than so many, so
--- that the last of them goes on to the end of all
+-- at most `limit` gaps from an offset on: one fewer of those between the first matches, and the
+-- last one goes to the end of all
 abbrev pub few_gaps : ℕ → ℕ → ℕ → List FoundMatch → List Span
 few_gaps zero start end matches = []
 few_gaps (suc others) start end matches = gaps start end (take others matches)
 
--- What the iterator gives of a search: at most so many gaps between the matches that the regex has
--- there, from 0 on; before a refusal and before it is drained the first of them, and nothing after a
--- refusal.
+-- The items of the iterator for a search: at most `limit` gaps between the matches of the regex,
+-- from 0 on; before an error and before it ends the first of them, and nothing after an error.
 pub record GivesFewGaps {C : Type 0} (re : RegexView) (s : Search) (limit : ℕ)
     (m : SplitN C) : Type 0 where
   pub first : (n : SplitN C) (parts : List Span) → Yields Gives m (not_refused parts) n
@@ -76,7 +75,7 @@ pub record GivesFewGaps {C : Type 0} (re : RegexView) (s : Search) (limit : ℕ)
       (others : List (Result Span MatchError))
       → Yields Gives m (not_refused parts ++ Err error ∷ others) n → others ≡ []
 
--- ---- how many
+-- ---- their number
 
 abbrev pub few_left : FewLeft → Count
 few_left m = at_most m.limit

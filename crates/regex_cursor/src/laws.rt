@@ -1,5 +1,5 @@
-//! Laws of what patterns spell, under the default settings of a regex, of what searches for them
-//! find, and of contents that are cut. Each function does nothing: its contract is the law.
+//! Laws of the spelling of patterns, with the default settings of a regex, of searches for them,
+//! and of haystacks in chunks. Each function does nothing: its contract is the law.
 
 ghost use Rattle.rx_engine.specs.Engines.{Engine};
 ghost use Rattle.regex_cursor.specs.AlikeLaws.{AnswersAlike};
@@ -15,15 +15,16 @@ pub fn one_tree()
     rx_grammar::laws::spells_at_most_one();
 }
 
-/// Each text spells a tree, or none: so it is settled for each text whether it has a regex.
+/// Each text spells a tree, or it spells none: so it is decided for each text whether it has a
+/// regex.
 pub fn tree_or_none()
     ensures { SpellsTreeOrNone }
 {
     rx_grammar::laws::spells_or_not();
 }
 
-/// In each search a tree has exactly one find, a match or none, and exactly one list of matches.
-/// They lie inside, rise, don't overlap, and in UTF-8 are whole characters.
+/// In each search a tree has exactly one result, a match or none, and exactly one list of matches.
+/// They are inside, rise, don't overlap, and in UTF-8 are whole characters.
 pub fn finds_of_trees()
     ensures { (tree : Tree) → HasFinds tree }
 {
@@ -39,11 +40,11 @@ pub fn finds_of_trees()
     rx_walks::laws::first_matches_grow::<CharacterSet>();
 }
 
-/// What a regex tells of an input, where not any match will do, is what the tree of its pattern has
-/// in the search that it asks for, also in slots: of a plain `Input::new` too, and of one over a
-/// whole content. Each match of that tree has noted its start and its end in the slots of group 0,
-/// and of each group both places or neither. Why a pattern has no regex is told by that tree, or by
-/// there being none.
+/// A regex's result for an input, unless any match may be returned, is that of its pattern's tree
+/// in the search that the input requests, also in slots: also for a plain `Input::new`, and for one
+/// over a whole haystack. Each match of that tree has noted its start and its end in the slots of
+/// group 0, and of each group both offsets or neither. Why a pattern has no regex follows from that
+/// tree, or from there being none.
 pub fn regexes_have_trees()
     ensures { RegexesHaveTrees }
 {
@@ -51,10 +52,10 @@ pub fn regexes_have_trees()
     rx_program::laws::groups_are_noted_whole();
 }
 
-/// What a regex, under any settings, tells of an input it tells of each other one that shows the
-/// same bytes, however they are cut, as of a rope's slice and of its bytes in pieces, and that asks
-/// for the same, where not any match will do: the match, and the pattern with its places in as many
-/// slots. Where all matches are wanted these are the places of the whole match.
+/// The results of a regex, with any settings, are the same for two inputs that show the same bytes,
+/// in whatever chunks, as of a rope's slice and of its bytes in pieces, and that request the same,
+/// unless any match may be returned: the match, and the pattern with its offsets in equally many
+/// slots. Under `MatchKind::All` these are the offsets of the whole match.
 pub fn answers_are_alike()
     ensures { (e : Engine) → AnswersAlike e }
 {

@@ -1,5 +1,5 @@
-//! Regular expressions over ropes, and over any content that lies in pieces, as the Rust crate
-//! `regex-cursor` has them.
+//! Regular expressions over ropes, and over any haystack in chunks, like the Rust crate
+//! `regex-cursor`.
 #![tactic(auto)]
 
 pub mod engines;

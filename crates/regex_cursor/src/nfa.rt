@@ -1,5 +1,5 @@
-//! The programs that patterns are compiled to, which the engines search by, read forward or
-//! backward, and the automata of their sets.
+//! The programs to which patterns are compiled, with which the engines search, forward or backward,
+//! and the automata of their sets.
 
 pub use rx_program::{Program, ReverseProgram, ReverseState, State, compile};
 pub use rx_utf8::{ByteRange, ReverseAutomaton, SetAutomaton};

@@ -12,11 +12,12 @@ use std::alloc::AllocError;
 use std::marker::Model;
 
 /// A cursor over exactly the bytes of a slice, chunk by chunk. It takes no memory, and a clone is
-/// the same cursor. A step goes down from the rope's root to a leaf, in `O(log n)`; the first one
-/// after one the other way does so twice.
+/// the same cursor. A step descends from the node above the chunk that was passed last, or from the
+/// root if that node has no further chunk, in `O(log n)`; after a change of direction the next step
+/// takes two.
 #[derive(Drop)]
 pub struct RopeyCursor<'a> {
-    // Stands behind the chunk that is shown, or before it after a step back.
+    // After the current chunk, or before it after a backward step.
     chunks: Chunks<'a>,
     is_before: bool,
     shown: &'a str,
@@ -36,7 +37,7 @@ impl<'a> Model for RopeyCursor<'a> {
     ghost invariant = { λ c. StandsBy c.is_before c.chunks c.shown.now c.offset c.len };
 }
 
-/// Moves on from the place before the chunk that is shown to the one behind it, or stays there.
+/// Moves from the position before the current chunk to the one after it, or stays there.
 fn stand_behind(chunks: &mut Chunks, is_before: bool)
     ensures { chunks.new ≡ behind_shown is_before chunks.old }
 {
@@ -46,7 +47,7 @@ fn stand_behind(chunks: &mut Chunks, is_before: bool)
     chunks.next();
 }
 
-/// Moves back from the place behind the chunk that is shown to the one before it, or stays there.
+/// Moves from the position after the current chunk to the one before it, or stays there.
 fn stand_before(chunks: &mut Chunks, is_before: bool)
     requires { is_before ≡ true → IsSomeAhead chunks.old }
     ensures { IsBeforeLast (behind_shown is_before chunks.old) chunks.new }
@@ -61,8 +62,8 @@ impl<'a> RopeyCursor<'a> {
     ghost use Rattle.rx_input.specs.Inputs.{HoldsPlace};
     ghost use Rattle.regex_cursor.specs.Showing.{EndsFirst, MayShowNext, all_chunks};
 
-    /// Returns a cursor over the bytes of a slice. It shows the first chunk, and an empty one where
-    /// the slice is empty. `O(log n)`.
+    /// Returns a cursor over the bytes of a slice, at the first chunk, or at an empty one if the
+    /// slice is empty. `O(log n)`.
     pub fn new(slice: RopeSlice<'a>) -> RopeyCursor<'a>
         ensures content { result.content ≡ slice_bytes slice.entry }
         ensures is_sized { result.is_sized ≡ true }
@@ -71,10 +72,12 @@ impl<'a> RopeyCursor<'a> {
         RopeyCursor::at(slice, 0)
     }
 
-    /// Returns a cursor over the bytes of a slice that shows the chunk with the byte at a place; at
-    /// the slice's length it is the last chunk. `O(log n)`.
+    /// Returns a cursor over the bytes of a slice, at the chunk that contains the byte at an
+    /// offset; at the slice's length it is the last chunk. `O(log n)`.
     ///
-    /// Requires that the place is at most the slice's length.
+    /// # Requires
+    ///
+    /// The offset is at most the slice's length.
     pub fn at(slice: RopeSlice<'a>, at: usize) -> RopeyCursor<'a>
         requires { at ≤ byte_len (slice_text slice) }
         ensures content { result.content ≡ slice_bytes slice.entry }
@@ -87,7 +90,7 @@ impl<'a> RopeyCursor<'a> {
         RopeyCursor::showing_next(chunks, offset, len)
     }
 
-    /// A cursor that shows the chunk ahead of a place, or an empty one where there is no chunk.
+    /// Returns a cursor at the chunk after a position, or at an empty one if there is no chunk.
     fn showing_next(mut chunks: Chunks<'a>, offset: usize, len: usize) -> RopeyCursor<'a>
         requires { MayShowNext chunks offset len }
         ensures content { result.content

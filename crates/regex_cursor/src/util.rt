@@ -1,4 +1,4 @@
-//! What engines share, at the places where `regex-cursor` and `regex-automata` have it.
+//! What engines share, under the paths of `regex-cursor` and `regex-automata`.
 
 pub mod hir;
 

@@ -1,4 +1,4 @@
-//! What a pattern's tree is made of: its nodes, and the sets of characters in them.
+//! The parts of a pattern's tree: its nodes, and the sets of characters in them.
 
 pub use rx_grammar::{
     CharacterSet, ClassItem, ClassPerlKind, Look, Node, Properties, Range, Repetition,

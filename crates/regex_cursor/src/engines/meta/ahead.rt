@@ -1,5 +1,5 @@
-//! Where a match starts, of which the end is known, before the program is turned round: the
-//! automaton that goes forward is asked at one place after the other whether one begins there.
+//! Finds where a match starts whose end is known, before the program is reversed: runs the forward
+//! automaton from one offset after the other, to see whether a match begins there.
 
 ghost use Rattle.std.specs.Prelude.{◌≡◌, ◌≤◌, IfErr, IfOk, IfSome};
 ghost use Rattle.rx_util.specs.declared.search.Anchored.TheVariants.{No, Yes};
@@ -16,9 +16,9 @@ use rx_input::{Cursor, Input};
 use rx_matches::halves::whole;
 use rx_util::{Anchored, HalfMatch, Match, MatchError, PatternID};
 
-/// The match that is found in an input that isn't anchored, as `Strategy::whole_match` answers it:
-/// from the first place at which the automaton finds one; or once that took as long as to turn the
-/// program round, by a search back. Apart, since it isn't entered once the program is turned round.
+/// Returns the match found in an input that isn't anchored, as `Strategy::whole_match` does: starts
+/// at the first offset from which the automaton finds one; once that took as long as reversing the
+/// program, searches backward. Outlined, because it isn't called once the program is reversed.
 pub(super) fn whole_match<C: Cursor>(
     strategy: &Strategy,
     kept: &mut Kept,
@@ -45,8 +45,9 @@ pub(super) fn whole_match<C: Cursor>(
     }
 }
 
-/// Where the match starts that is found in an input that isn't anchored, if there is one; none
-/// where the automaton can't tell, or it took long enough. The one refusal is `Memory`.
+/// Returns where the match found in an input that isn't anchored starts, if there is one. Returns
+/// `None` if the automaton quits or gives up, or after it took long enough. The only error is
+/// `Memory`.
 fn find_start<C: Cursor>(
     strategy: &Strategy,
     kept: &mut Kept,
@@ -73,9 +74,10 @@ fn find_start<C: Cursor>(
     start
 }
 
-/// The first place from which on something is found in an anchored input's span, or else the span's
-/// end; none where the automaton can't tell, or it took long enough: then the program is to be
-/// turned round. The input's span starts anywhere afterwards. The one refusal is `Memory`.
+/// Returns the first offset from which an anchored input's span has a match, otherwise the span's
+/// end. Returns `None` if the automaton quits or gives up, or after it took long enough: then the
+/// program should be reversed. The start of the input's span afterwards isn't specified. The only
+/// error is `Memory`.
 fn first_place<C: Cursor>(
     strategy: &Strategy,
     kept: &mut Kept,

@@ -23,7 +23,7 @@ use rx_lists::{ListedMatch, list_matches};
 use rx_util::{Captures, GroupInfo, Match, MatchError, MatchKind, NonMaxUsize, PatternID};
 use std::alloc::{AllocError, Global};
 
-/// Puts a match that was listed behind others.
+/// Appends a listed match.
 fn push_match(found: &mut Vec<Match>, listed: &ListedMatch) -> Result<(), AllocError>
     requires whole { IsWhole listed.now }
     ensures { OnOk result (map (λ m. Some m) found.new.items
@@ -35,7 +35,7 @@ fn push_match(found: &mut Vec<Match>, listed: &ListedMatch) -> Result<(), AllocE
     Ok(())
 }
 
-/// The matches that were listed.
+/// Returns the listed matches.
 fn matches_of(alloc: Global, listed: &[ListedMatch]) -> Result<Vec<Match>, AllocError>
     requires whole { All IsWhole listed.now }
     ensures { IfOk result (λ found. map (λ m. Some m) found.items
@@ -48,7 +48,7 @@ fn matches_of(alloc: Global, listed: &[ListedMatch]) -> Result<Vec<Match>, Alloc
     Ok(found)
 }
 
-/// What is noted of a match that was listed.
+/// Returns a listed match as captures.
 fn captures_of(
     alloc: Global,
     groups: &GroupInfo,
@@ -64,7 +64,7 @@ fn captures_of(
     Ok(caps)
 }
 
-/// Puts what is noted of a match that was listed behind others.
+/// Appends a listed match as captures.
 fn push_captures(
     alloc: Global,
     found: &mut Vec<Captures>,
@@ -80,7 +80,7 @@ fn push_captures(
     found.push(caps).map_err(|_| MatchError::Memory)
 }
 
-/// What is noted of each match that was listed.
+/// Returns the captures of each listed match.
 fn all_captures_of(
     alloc: Global,
     groups: &GroupInfo,
@@ -98,7 +98,7 @@ fn all_captures_of(
     Ok(found)
 }
 
-/// So many slots that hold no place.
+/// Returns `count` empty slots.
 fn empty_slots(alloc: Global, count: usize) -> Result<Vec<Option<NonMaxUsize>>, AllocError>
     ensures { IfOk result (λ slots. length slots.items ≡ count) }
 {
@@ -107,7 +107,7 @@ fn empty_slots(alloc: Global, count: usize) -> Result<Vec<Option<NonMaxUsize>>, 
     Ok(slots)
 }
 
-/// Puts the match whose places slots hold behind others.
+/// Appends the match whose offsets are in the slots.
 fn push_place(
     found: &mut Vec<Match>,
     pattern: PatternID,
@@ -124,7 +124,7 @@ fn push_place(
     Ok(())
 }
 
-/// Puts all matches into a list, of which none has come yet, one after the other.
+/// Collects all matches into a list, from the first on.
 fn collect<C: Cursor>(
     alloc: Global,
     re: &Regex,
@@ -142,7 +142,7 @@ fn collect<C: Cursor>(
     ensures refused { IfErr result (λ error. error ≡ MatchError.Memory) }
     ensures counted { read.new ≤ read.old + 10 * all_places left.old + 10 }
 {
-    let _groups = re.group_info(); // tells of what the regex is
+    let _groups = re.group_info(); // for the proof: what the regex is
     let mut found = Vec::new(alloc);
     loop {
         match left.next_slots(re, cache, slots, read)? {
@@ -153,14 +153,20 @@ fn collect<C: Cursor>(
 }
 
 impl Regex {
-    /// Lists all matches in an input that `find_iter` gives, also where its `earliest` is set: of
-    /// those that start first the one that the pattern prefers, and so on from its end. So it does
-    /// under `MatchKind::All` too, where the iterators give others. The one error is `Memory`.
+    /// Lists all matches in an input, as `find_iter` does, also if its `earliest` is set: of those
+    /// that start first the one that the pattern prefers, and so on from its end. It does the same
+    /// under `MatchKind::All`, for which the iterators return others.
     ///
-    /// However far single searches would read, at most ten times as many places are read as there
-    /// are inside span, slice and content, and ten. `read` counts them. It goes by finds, as
-    /// `LinearMatches` does, which takes a cache and memory for the matches; where finds read too
-    /// much, also as `rx_lists::list_matches` does.
+    /// # Errors
+    ///
+    /// `Memory` only.
+    ///
+    /// # Complexity
+    ///
+    /// However far single searches would read, it reads at most ten times the number of offsets
+    /// inside span, slice and haystack, plus ten; `read` counts them. It uses single finds, as
+    /// `LinearMatches` does, with a cache and memory for the matches; if finds read too much, also
+    /// `rx_lists::list_matches`.
     pub fn all_matches<C: Cursor + Drop>(
         &self,
         alloc: Global,
@@ -182,7 +188,7 @@ impl Regex {
         }
     }
 
-    /// The same by one match after the other, where the leftmost one is found.
+    /// Does the same match by match, for leftmost matches.
     fn matches_in_turn<C: Cursor + Drop>(
         &self,
         alloc: Global,
@@ -202,7 +208,7 @@ impl Regex {
         collect(alloc, self, &mut cache, &mut left, &mut slots, read)
     }
 
-    /// The same by two passes alone, whichever match is found.
+    /// Does the same by two passes only, for all kinds of matches.
     fn matches_listed<C: Cursor + Drop>(
         &self,
         alloc: Global,
@@ -222,12 +228,17 @@ impl Regex {
         Ok(matches_of(alloc, &listed)?)
     }
 
-    /// Lists all matches that `captures_iter` gives, leftmost first as `all_matches` does, each
-    /// with all its groups in captures of its own. The one error is `Memory`.
+    /// Lists all matches as `captures_iter` does, leftmost first as in `all_matches`, each with all
+    /// its groups in its own captures.
     ///
-    /// It goes by two passes alone, so that at most six times as many places are read as there are
-    /// inside span, slice and content; `read` counts them. It takes memory for the captures, and as
-    /// `rx_lists::list_matches` does.
+    /// # Errors
+    ///
+    /// `Memory` only.
+    ///
+    /// # Complexity
+    ///
+    /// Uses two passes only, so it reads at most six times the number of offsets inside span, slice
+    /// and haystack; `read` counts them. Memory for the captures and for `rx_lists::list_matches`.
     pub fn all_captures<C: Cursor + Drop>(
         &self,
         alloc: Global,

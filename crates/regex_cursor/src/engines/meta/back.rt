@@ -1,4 +1,4 @@
-//! Searches back from where a match ends to where it starts.
+//! Backward searches from where a match ends to where it starts.
 
 ghost use Rattle.std.specs.Prelude.{◌≡◌, ◌+◌, ◌≤◌, IfErr, IfOk, IfSome, None, length, min};
 ghost use Rattle.rx_util.specs.declared.search.Anchored.TheVariants.{No};
@@ -26,25 +26,25 @@ use rx_util::{HalfMatch, Match, MatchError, PatternID};
 use std::alloc::AllocError;
 use std::marker::Model;
 
-/// The program of a PikeVM turned round.
+/// Returns the reversed program of a PikeVM.
 fn turned(vm: &PikeVM) -> Result<ReverseProgram, AllocError>
     ensures { IfOk result (IsReverseOf vm.now.program) }
 {
-    // Laws, for the proof alone.
+    // Laws, for the proof only.
     programs_are_above_patterns();
     programs_keep_patterns();
     let reverse = vm.program().reversed()?;
     Ok(reverse)
 }
 
-/// A program turned round, with its automaton and what searches through it keep. Contracts see the
+/// A reversed program with its automaton, and what searches with it keep. Contracts see the
 /// program.
 #[derive(Debug, Drop)]
 pub(super) struct Back {
     reverse: ReverseProgram,
     dfa: Alphabet,
     cache: BackCache,
-    // What those by walks alone keep, once a regex searched back that wants no automaton.
+    // What searches keep that only follow threads, once a regex without `hybrid` searched backward.
     walks: Option<BackCache>,
 }
 
@@ -63,7 +63,7 @@ impl Model for Back {
         × IfSome b.walks (IsBackCacheOf b.reverse b.dfa) };
 }
 
-/// Takes what searches by walks alone keep, or makes it. The one refusal is `Memory`.
+/// Takes the cache of searches that only follow threads, or makes it. The only error is `Memory`.
 fn taken_or_made(
     walks: &mut Option<BackCache>,
     reverse: &ReverseProgram,
@@ -83,8 +83,8 @@ fn taken_or_made(
     Ok(cache)
 }
 
-/// Searches back from the end of a match, in an input that isn't anchored, through a program turned
-/// round. The one refusal is `Memory`.
+/// Searches backward with a reversed program from the end of a match, in an input that isn't
+/// anchored. The only error is `Memory`.
 fn search_from<C: Cursor>(
     reverse: &ReverseProgram,
     dfa: &Alphabet,
@@ -111,7 +111,8 @@ fn search_from<C: Cursor>(
     back
 }
 
-/// Moves an input to the end of its span, and one place on where slice and content go on there.
+/// Moves an input to the end of its span, and one byte further on if slice and haystack continue
+/// there.
 fn enter_behind<C: Cursor>(input: &mut Input<C>) -> usize
     ensures place { result ≡ min (input.old.asked.span.end + 1)
         (min input.old.asked.slice.end (length input.old.cursor.content)) }
@@ -124,8 +125,8 @@ fn enter_behind<C: Cursor>(input: &mut Input<C>) -> usize
 }
 
 impl Back {
-    /// The program of a PikeVM turned round. Its automaton has as much room for its states as that
-    /// of the program. The one refusal is `Memory`.
+    /// Reverses the program of a PikeVM. Its automaton has as much room for its states as that of
+    /// the program. The only error is `Memory`.
     pub(super) fn of(vm: &PikeVM, config: &Config) -> Result<Back, MatchError>
         ensures program { IfOk result (IsReverseOf vm.now.program) }
         ensures refused { IfErr result (λ error. error ≡ MatchError.Memory) }
@@ -142,8 +143,8 @@ impl Back {
         })
     }
 
-    /// Searches back from the end of a match, in an input that isn't anchored: by the automaton, or
-    /// by walks side by side alone where `hybrid` is off. The one refusal is `Memory`.
+    /// Searches backward from the end of a match, in an input that isn't anchored: by the
+    /// automaton, or by following threads only if `hybrid` is off. The only error is `Memory`.
     fn search<C: Cursor>(
         &mut self,
         input: &mut Input<C>,
@@ -168,7 +169,8 @@ impl Back {
         self.walk_back(input, utf8_empty, end)
     }
 
-    // By walks alone: apart, since a function pays for the room of a cache at each call.
+    // By following threads only. Outlined, because a function pays for the room of a cache at each
+    // call.
     fn walk_back<C: Cursor>(
         &mut self,
         input: &mut Input<C>,
@@ -191,9 +193,9 @@ impl Back {
         back
     }
 
-    /// The match that is found in an input that isn't anchored, of which it is known that it ends
-    /// where the span does, and of which pattern it is; by the automaton, or by walks alone where
-    /// `hybrid` is off. The one refusal is `Memory`.
+    /// Returns the match found in an input that isn't anchored, given that it ends where the span
+    /// does, and its pattern. Uses the automaton, or only follows threads if `hybrid` is off. The
+    /// only error is `Memory`.
     pub(super) fn whole_match<C: Cursor>(
         &mut self,
         input: &mut Input<C>,
@@ -220,11 +222,11 @@ impl Back {
         }
     }
 
-    /// What is found in an input that isn't anchored, of a program whose matches all end where the
-    /// slice does, or the content where that comes first: no match where the span ends before, and
-    /// else by the automaton back from there. Nothing is told where the span goes on behind, nor
-    /// where walks side by side alone serve, since the automaton that goes forward is quicker than
-    /// they. The one refusal is `Memory`.
+    /// Returns what is left of a search in an input that isn't anchored, for a program whose
+    /// matches all end at the slice's end, or at the haystack's if that is less. If the span ends
+    /// before that, there is no match; otherwise the automaton searches backward from there.
+    /// Returns `None` if the span goes on after it, and if searches only follow threads, because
+    /// the forward automaton is faster than that. The only error is `Memory`.
     pub(super) fn search_last<C: Cursor>(
         &mut self,
         input: &mut Input<C>,

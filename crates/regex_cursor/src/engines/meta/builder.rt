@@ -1,4 +1,4 @@
-//! What builds a regex.
+//! Builds regexes.
 
 ghost use Rattle.std.specs.Prelude.{◌≡◌, [], ◌∷◌, IfErr, IfOk, map};
 ghost use Rattle.rx_util.specs.declared.search.MatchError.{MatchError};
@@ -18,7 +18,7 @@ use rx_util::MatchError;
 use std::alloc::Global;
 use std::marker::Model;
 
-/// Builds a `Regex` of a pattern, or of several, under settings.
+/// Builds a `Regex` from a pattern, or from several, with settings.
 #[derive(Debug, Drop)]
 pub struct Builder {
     config: Config,
@@ -34,7 +34,7 @@ impl Model for Builder {
 }
 
 impl Builder {
-    /// Returns a builder in which nothing is set.
+    /// Returns a builder with default settings.
     pub fn new() -> Builder
         ensures { result ≡ default_regex }
     {
@@ -44,7 +44,7 @@ impl Builder {
         }
     }
 
-    /// Returns a builder in which the same is set. The one error is `Memory`.
+    /// Returns a builder with the same settings. The only error is `Memory`.
     pub fn clone(&self) -> Result<Builder, MatchError>
         ensures same { IfOk result (λ builder. builder ≡ self.now) }
         ensures refused { IfErr result (λ error. error ≡ MatchError.Memory) }
@@ -55,13 +55,19 @@ impl Builder {
         })
     }
 
-    /// Returns the regex for a pattern. It takes time and memory in proportion to the pattern's
-    /// weight and to the automata of its sets.
+    /// Builds the regex of a pattern.
     ///
-    /// Errors: `TooLong` for a pattern of more than 65,536 bytes, `Nesting` for one that would be a
-    /// pattern at a greater nest limit, `Outside` for one outside the grammar, and `Size` for one
-    /// that is too large for the limit that is set, or, where none is, weighs more than 262,144.
-    /// `Memory` may come in place of any answer.
+    /// # Errors
+    ///
+    /// - `TooLong` for a pattern of more than 65,536 bytes
+    /// - `Nesting` for a text that is a pattern only with a greater nest limit
+    /// - `Outside` for a text outside the grammar
+    /// - `Size` for a pattern that exceeds the size limit, or, without one, a weight of 262,144
+    /// - `Memory`, which may replace any result
+    ///
+    /// # Complexity
+    ///
+    /// Time and memory proportional to the pattern's weight and to the automata of its sets.
     pub fn build(&self, alloc: Global, pattern: &str) -> Result<Regex, BuildError>
         ensures built { IfOk result (λ re. IsRegexUnder pattern.now self.now re) }
         ensures refused { IfErr result (λ error. IsRefusedUnder pattern.now self.now error) }
@@ -69,12 +75,18 @@ impl Builder {
         self.build_many(alloc, &[pattern])
     }
 
-    /// Returns the regex for patterns that are searched for together: where matches of several
-    /// start at one place, those of an earlier pattern are preferred. With no pattern it never
-    /// finds a match. Time and memory are those of all patterns.
+    /// Builds the regex of patterns that are searched for together. If matches of several start at
+    /// the same offset, those of an earlier pattern are preferred. Without a pattern it never finds
+    /// a match.
     ///
-    /// Errors: those of `build`, for the first pattern whose text is refused; and then `Size` where
-    /// the patterns together, and 1 more unless there is exactly one, weigh too much.
+    /// # Errors
+    ///
+    /// Those of `build`, for the first pattern whose text is refused; then `Size` if the patterns
+    /// together, plus 1 unless there is exactly one, weigh too much.
+    ///
+    /// # Complexity
+    ///
+    /// Time and memory as for all patterns.
     pub fn build_many(&self, alloc: Global, patterns: &[&str]) -> Result<Regex, BuildError>
         ensures built { IfOk result
             (λ re. IsRegexOfAllUnder (map (λ text. text.now) patterns.now) self.now re) }
@@ -86,10 +98,12 @@ impl Builder {
         self.build_many_from_hir(alloc, &borrowed)
     }
 
-    /// Returns the regex for what a pattern spells, as `build` does. The settings of the syntax are
-    /// those that it was parsed with.
+    /// Builds the regex of a parsed pattern, as `build` does, with the syntax settings that it was
+    /// parsed with.
     ///
-    /// Errors: `Size` where it is too large, and else perhaps `Memory`.
+    /// # Errors
+    ///
+    /// `Size` if it is too large; `Memory`.
     pub fn build_from_hir(&self, alloc: Global, hir: &Hir) -> Result<Regex, BuildError>
         ensures built { IfOk result
             (λ re. IsRegexOfTrees (tree_of hir.now ∷ []) self.now.settings re) }
@@ -99,7 +113,7 @@ impl Builder {
         self.build_many_from_hir(alloc, &[hir])
     }
 
-    /// Returns the regex for what patterns spell, as `build_many` does, with the errors of
+    /// Builds the regex of parsed patterns, as `build_many` does, with the errors of
     /// `build_from_hir`.
     pub fn build_many_from_hir(&self, alloc: Global, hirs: &[&Hir]) -> Result<Regex, BuildError>
         ensures built { IfOk result (λ re. IsRegexOfTrees
@@ -111,7 +125,7 @@ impl Builder {
         self.regex_of(alloc, vm)
     }
 
-    /// Takes over the settings that are set in these, and leaves the others.
+    /// Sets the settings that are set in `config`, and keeps the others.
     pub fn configure(&mut self, config: Config) -> &mut Builder
         ensures set { result.now ≡ record self.old {
           settings = regex_settings_over config self.old.settings;
@@ -122,7 +136,7 @@ impl Builder {
         self
     }
 
-    /// Takes these settings of the syntax in place of all that it has.
+    /// Replaces all settings of the syntax.
     pub fn syntax(&mut self, config: syntax::Config) -> &mut Builder
         ensures set { result.now ≡ record self.old { syntax = config } }
         ensures same_reference { result.ghost_name ≡ self.entry.ghost_name }
@@ -131,7 +145,7 @@ impl Builder {
         self
     }
 
-    /// What builds the engine that serves any search. It is handed what patterns spell.
+    /// Returns the builder of the engine for any search. It is used with parsed patterns.
     fn engine(&self) -> pikevm::Builder
         ensures { result.settings ≡ engine_settings self.now.settings }
     {
@@ -140,7 +154,7 @@ impl Builder {
         builder
     }
 
-    /// The regex that searches by a PikeVM, and by what else searches for its program.
+    /// Returns the regex of a PikeVM, with the other engines for its program.
     fn regex_of(&self, alloc: Global, vm: PikeVM) -> Result<Regex, BuildError>
         ensures engine { IfOk result (λ re. re.engine ≡ vm) }
         ensures settings { IfOk result (λ re. re.settings ≡ self.now.settings) }

@@ -8,8 +8,8 @@ use rx_input::{Cursor, Input};
 use rx_util::{Captures, MatchError};
 use std::iter::FusedIterator;
 
-/// Matches one after the other with all their groups, each or a refusal, after which there are no
-/// more. An empty match where the one before ended is passed over. `Regex::captures_iter` makes it.
+/// An iterator over matches with all their groups. Yields each match, or an error, after which it
+/// ends. An empty match where the one before ended is skipped. Created by `Regex::captures_iter`.
 #[derive(Drop)]
 pub struct CapturesMatches<'r, C: Cursor> {
     re: &'r Regex,
@@ -17,7 +17,7 @@ pub struct CapturesMatches<'r, C: Cursor> {
     caps: Captures,
     input: Input<C>,
     last_match_end: Option<usize>,
-    // No more come.
+    // Whether it has ended.
     is_over: bool,
     ghost serves: { IsCacheOf re.now cache },
     ghost holds: { HasRoom re.now caps },
@@ -32,7 +32,7 @@ impl<'r, C: Cursor> CapturesMatches<'r, C> {
     ghost use Rattle.regex_cursor.specs.Lending.{CapturesLendInput};
     ghost use Rattle.regex_cursor.specs.Regexes.{search_by};
 
-    /// None of the matches in an input has come yet.
+    /// Returns the iterator before the first match in an input.
     #[tactic(auto, using(crate::proofs::FewLaws::few_items))]
     pub(super) fn new(
         re: &'r Regex,
@@ -47,7 +47,7 @@ impl<'r, C: Cursor> CapturesMatches<'r, C> {
         ensures all { GivesAll re.now (search_by re.now.engine input) result }
         ensures few { size (matches_left (left_of result)) < 2 ^ 64 }
     {
-        let _at = input.position(); // tells how long the content may be
+        let _at = input.position(); // for the proof: how long the haystack may be
         CapturesMatches {
             re,
             cache,
@@ -58,15 +58,15 @@ impl<'r, C: Cursor> CapturesMatches<'r, C> {
         }
     }
 
-    /// Returns the regex that it searches for.
+    /// Returns the regex.
     pub fn regex(&self) -> &'r Regex
         ensures { result.now ≡ regex_of self.now }
     {
         self.re
     }
 
-    /// Returns the input in which the next match is searched, which may be changed. The end of the
-    /// last match is kept: an empty match that is found there at once is passed over, and no other.
+    /// Returns the input in which the next match is searched for; it may be changed. The end of the
+    /// last match is kept: only an empty match that is found right there is skipped.
     pub fn input(&mut self) -> &mut Input<C>
         ensures* writes_back { sem 𝓛 (CapturesLendInput C.row C.Cursor self.entry result) }
         ensures input { result.now ≡ input_of self.old }

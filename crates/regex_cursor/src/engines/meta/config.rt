@@ -1,4 +1,4 @@
-//! Settings of a regex.
+//! The settings of a regex.
 
 ghost use Rattle.std.specs.Prelude.{◌≡◌, IfErr, IfOk, None, Some, option_map, unwrap_or, true};
 ghost use Rattle.rx_util.specs.declared.search.MatchError.{MatchError};
@@ -10,18 +10,18 @@ use rx_literals::Prefilter;
 use rx_util::{MatchError, MatchKind, WhichCaptures};
 use std::marker::Model;
 
-/// How large a program may be by default: 40 times its weight is at most this, so that patterns may
-/// weigh 262,144.
+/// The default limit on the size of a program: 40 times its weight is at most this, so patterns may
+/// have a weight of 262,144.
 const NFA_SIZE_LIMIT: usize = 10_485_760;
 
-/// How many states the program and an automaton may have by default, all of whose states are made
-/// with the regex.
+/// The default limit on the number of states of a program, and of an automaton, for making all its
+/// states with the regex.
 const DFA_STATE_LIMIT: usize = 30;
 
-/// How many bytes these states may take by default, about.
+/// The default limit on the approximate number of bytes of these states.
 const DFA_SIZE_LIMIT: usize = 40_960;
 
-/// Settings of a regex. One that wasn't set is the default.
+/// The settings of a regex. One that wasn't set has its default.
 #[derive(Debug, Drop)]
 pub struct Config {
     match_kind: Option<MatchKind>,
@@ -66,7 +66,7 @@ impl Model for Config {
 }
 
 impl Config {
-    /// Returns settings of which none is set.
+    /// Returns settings none of which is set.
     pub fn new() -> Config
         ensures { result ≡ none_set }
     {
@@ -89,7 +89,7 @@ impl Config {
         }
     }
 
-    /// Returns the same settings. The one error is `Memory`.
+    /// Returns the same settings. The only error is `Memory`.
     pub fn clone(&self) -> Result<Config, MatchError>
         ensures same { IfOk result (λ config. config ≡ self.now) }
         ensures refused { IfErr result (λ error. error ≡ MatchError.Memory) }
@@ -113,9 +113,9 @@ impl Config {
         })
     }
 
-    /// Sets which of all matches a search finds. Under `All` it is searched by the PikeVM alone,
-    /// all of the span unless the search is anchored or any match will do; and of groups the whole
-    /// match alone is noted.
+    /// Sets which of all matches a search finds. Under `All` only the PikeVM searches, and reads
+    /// all of the span unless the search is anchored or any match may be returned; and the only
+    /// group that is noted is the whole match.
     pub fn match_kind(mut self, kind: MatchKind) -> Config
         ensures { result ≡ record self { match_kind = Some kind } }
     {
@@ -123,7 +123,7 @@ impl Config {
         self
     }
 
-    /// Sets whether empty matches inside a character are passed over.
+    /// Sets whether empty matches inside a character are skipped.
     pub fn utf8_empty(mut self, yes: bool) -> Config
         ensures { result ≡ record self { utf8_empty = Some yes } }
     {
@@ -131,8 +131,8 @@ impl Config {
         self
     }
 
-    /// Sets whether the literals that matches begin with are read from the patterns and looked for
-    /// before an engine is asked. It changes no match.
+    /// Sets whether the literals that matches begin with are extracted from the patterns and
+    /// scanned for before an engine runs. It changes no match.
     pub fn auto_prefilter(mut self, yes: bool) -> Config
         ensures { result ≡ record self { auto_prefilter = Some yes } }
     {
@@ -140,9 +140,9 @@ impl Config {
         self
     }
 
-    /// Sets literals of the caller's own, or none. They are looked for before an engine is asked,
-    /// in place of those that are read from the patterns, where it is known by the patterns alone
-    /// that each match begins with one of them; else they are kept and told. It changes no match.
+    /// Sets the caller's literals, or none. They are scanned for before an engine runs, instead of
+    /// those extracted from the patterns, if the patterns alone show that each match begins with
+    /// one of them; otherwise they are only stored. It changes no match.
     pub fn prefilter(mut self, prefilter: Option<Prefilter>) -> Config
         ensures { result ≡ record self { prefilter = Some prefilter } }
     {
@@ -150,8 +150,8 @@ impl Config {
         self
     }
 
-    /// Sets which groups are noted, in captures and by `group_info`. Those that aren't are counted
-    /// by `captures_len` all the same.
+    /// Sets which groups are noted, in captures and by `group_info`. `captures_len` counts the
+    /// others too.
     pub fn which_captures(mut self, which: WhichCaptures) -> Config
         ensures { result ≡ record self { which_captures = Some which } }
     {
@@ -159,8 +159,8 @@ impl Config {
         self
     }
 
-    /// Sets how large the program may be: patterns are refused where 40 times their weight is above
-    /// the limit. Without one they are where the weight is above 2,147,483,646.
+    /// Sets the limit on the size of the program: patterns are refused if 40 times their weight is
+    /// above it. Without one they are refused if the weight is above 2,147,483,646.
     pub fn nfa_size_limit(mut self, limit: Option<usize>) -> Config
         ensures { result ≡ record self { nfa_size_limit = Some limit } }
     {
@@ -168,7 +168,7 @@ impl Config {
         self
     }
 
-    /// Sets a limit for an engine that there isn't: it has no effect.
+    /// Sets a limit for an engine that doesn't exist: it has no effect.
     pub fn onepass_size_limit(mut self, limit: Option<usize>) -> Config
         ensures { result ≡ record self { onepass_size_limit = Some limit } }
     {
@@ -176,7 +176,8 @@ impl Config {
         self
     }
 
-    /// Sets about how many bytes the states may take that a cache keeps. It changes no match.
+    /// Sets the approximate maximum number of bytes of the states that a cache keeps. It changes no
+    /// match.
     pub fn hybrid_cache_capacity(mut self, capacity: usize) -> Config
         ensures { result ≡ record self { hybrid_cache_capacity = Some capacity } }
     {
@@ -184,8 +185,8 @@ impl Config {
         self
     }
 
-    /// Sets about how many bytes all states of an automaton may take that is made with the regex.
-    /// It changes no match.
+    /// Sets the approximate maximum number of bytes of all states of an automaton that is made with
+    /// the regex. It changes no match.
     pub fn dfa_size_limit(mut self, limit: Option<usize>) -> Config
         ensures { result ≡ record self { dfa_size_limit = Some limit } }
     {
@@ -193,7 +194,7 @@ impl Config {
         self
     }
 
-    /// Sets how many states an automaton may have that is made with the regex, and how many its
+    /// Sets the maximum number of states of an automaton that is made with the regex, and of its
     /// program. It changes no match.
     pub fn dfa_state_limit(mut self, limit: Option<usize>) -> Config
         ensures { result ≡ record self { dfa_state_limit = Some limit } }
@@ -202,8 +203,8 @@ impl Config {
         self
     }
 
-    /// Sets whether bytes that no pattern tells apart share a column of a table. They always do: it
-    /// has no effect.
+    /// Sets whether bytes that no pattern distinguishes share a column of a table. They always do:
+    /// it has no effect.
     pub fn byte_classes(mut self, yes: bool) -> Config
         ensures { result ≡ record self { byte_classes = Some yes } }
     {
@@ -220,8 +221,7 @@ impl Config {
         self
     }
 
-    /// Sets whether an automaton is asked whose states are made as searches come to them. It
-    /// changes no match.
+    /// Sets whether to use the automaton whose states are made on demand. It changes no match.
     pub fn hybrid(mut self, yes: bool) -> Config
         ensures { result ≡ record self { hybrid = Some yes } }
     {
@@ -229,8 +229,8 @@ impl Config {
         self
     }
 
-    /// Sets whether all states of an automaton are made with the regex, where they are few. It
-    /// changes no match.
+    /// Sets whether all states of an automaton are made with the regex, if they are few. It changes
+    /// no match.
     pub fn dfa(mut self, yes: bool) -> Config
         ensures { result ≡ record self { dfa = Some yes } }
     {
@@ -238,7 +238,7 @@ impl Config {
         self
     }
 
-    /// Sets whether an engine is asked that there isn't: it has no effect.
+    /// Sets whether to use an engine that doesn't exist: it has no effect.
     pub fn backtrack(mut self, yes: bool) -> Config
         ensures { result ≡ record self { backtrack = Some yes } }
     {
@@ -253,21 +253,21 @@ impl Config {
         self.match_kind.unwrap_or(MatchKind::LeftmostFirst)
     }
 
-    /// Returns whether empty matches inside a character are passed over: by default they are.
+    /// Returns whether empty matches inside a character are skipped: by default they are.
     pub fn get_utf8_empty(&self) -> bool
         ensures { result ≡ utf8_empty_of self.now }
     {
         self.utf8_empty.unwrap_or(true)
     }
 
-    /// Returns whether literals are read from the patterns: by default they are.
+    /// Returns whether literals are extracted from the patterns: by default they are.
     pub fn get_auto_prefilter(&self) -> bool
         ensures { result ≡ auto_prefilter_of self.now }
     {
         self.auto_prefilter.unwrap_or(true)
     }
 
-    /// Returns the literals of the caller's own: by default there are none.
+    /// Returns the caller's literals: by default there are none.
     pub fn get_prefilter(&self) -> Option<&Prefilter>
         ensures { option_map (λ prefilter. prefilter.now) result
             ≡ prefilter_of self.now }
@@ -285,28 +285,31 @@ impl Config {
         self.which_captures.unwrap_or(WhichCaptures::All)
     }
 
-    /// Returns how large the program may be: by default 10,485,760, which is a weight of 262,144.
+    /// Returns the limit on the size of the program: by default 10,485,760, which is a weight of
+    /// 262,144.
     pub fn get_nfa_size_limit(&self) -> Option<usize>
         ensures { result ≡ nfa_size_limit_of self.now }
     {
         self.nfa_size_limit.unwrap_or(Some(NFA_SIZE_LIMIT))
     }
 
-    /// Returns about how many bytes the states may take that a cache keeps: by default 2,097,152.
+    /// Returns the approximate maximum number of bytes of the states that a cache keeps: by default
+    /// 2,097,152.
     pub fn get_hybrid_cache_capacity(&self) -> usize
         ensures { result ≡ capacity_of self.now }
     {
         self.hybrid_cache_capacity.unwrap_or(CACHE_CAPACITY)
     }
 
-    /// Returns about how many bytes all states of an automaton may take: by default 40,960.
+    /// Returns the approximate maximum number of bytes of all states of an automaton: by default
+    /// 40,960.
     pub fn get_dfa_size_limit(&self) -> Option<usize>
         ensures { result ≡ dfa_size_limit_of self.now }
     {
         self.dfa_size_limit.unwrap_or(Some(DFA_SIZE_LIMIT))
     }
 
-    /// Returns how many states such an automaton may have: by default 30.
+    /// Returns the maximum number of states of such an automaton: by default 30.
     pub fn get_dfa_state_limit(&self) -> Option<usize>
         ensures { result ≡ dfa_state_limit_of self.now }
     {
@@ -327,8 +330,7 @@ impl Config {
         self.line_terminator.unwrap_or(b'\n')
     }
 
-    /// Returns whether an automaton is asked whose states are made as searches come to them: by
-    /// default it is.
+    /// Returns whether to use the automaton whose states are made on demand: by default yes.
     pub fn get_hybrid(&self) -> bool
         ensures { result ≡ hybrid_of self.now }
     {
@@ -343,7 +345,7 @@ impl Config {
         self.dfa.unwrap_or(true)
     }
 
-    /// Takes over what is set in other settings, and leaves the rest.
+    /// Sets the settings that are set in others, and keeps the rest.
     pub(super) fn take_over(&mut self, new: Config)
         ensures { self.new ≡ regex_settings_over new self.old }
     {
@@ -364,7 +366,7 @@ impl Config {
         self.line_terminator = new.line_terminator.or(self.line_terminator);
     }
 
-    /// What these settings ask of the engine that serves any search.
+    /// Returns the settings of the engine for any search.
     pub(super) fn of_engine(&self) -> pikevm::Config
         ensures { result.engine ≡ engine_settings self.now }
     {
@@ -377,7 +379,7 @@ impl Config {
     }
 }
 
-/// The same literals, if any are set.
+/// Returns the same literals, if any are set.
 fn cloned(prefilter: &Option<Option<Prefilter>>) -> Result<Option<Option<Prefilter>>, MatchError>
     ensures same { IfOk result (λ copy. copy ≡ prefilter.now) }
     ensures refused { IfErr result (λ error. error ≡ MatchError.Memory) }

@@ -1,4 +1,4 @@
-//! Automata all of whose states are made with a regex: those of few states.
+//! Automata with few states, all of which are made with a regex.
 
 ghost use Rattle.std.specs.Prelude.{◌≡◌, IfOk, IfSome, None, false};
 ghost use Rattle.rx_dfa.specs.Caches.{IsWithin};
@@ -13,11 +13,11 @@ use rx_program::{Program, State};
 use std::alloc::{AllocError, Global};
 use std::mem::size_of;
 
-/// How many bytes a state takes.
+/// The number of bytes of a state.
 const STATE_BYTES: usize = size_of::<State>();
 
-/// How many states a program has where those that read a character of a set, byte by byte, are
-/// counted.
+/// Returns the number of states of a program, including those that read a character of a set byte
+/// by byte.
 pub(super) fn state_count(program: &Program) -> usize {
     let mut count: usize = 0;
     for state in program.states() {
@@ -30,14 +30,14 @@ pub(super) fn state_count(program: &Program) -> usize {
     count
 }
 
-/// About how many bytes these states take.
+/// Returns the approximate number of bytes of these states.
 pub(super) fn bytes_of_states(program: &Program) -> usize {
     state_count(program).saturating_mul(STATE_BYTES)
 }
 
-/// All states and steps of a program's automaton, where they are wanted, and program and automaton
-/// are as small as is set. So by default it takes little time beside that of compiling, however
-/// many states the automaton has.
+/// Returns all states and transitions of a program's automaton, if the settings request them and
+/// program and automaton are within the limits. So by default it takes little time compared with
+/// compiling, however many states the automaton has.
 pub(super) fn closed_of(
     alloc: Global,
     program: &Program,

@@ -1,5 +1,5 @@
-//! The matches of a pattern that is one literal, found from one occurrence to the next: no engine is
-//! asked, and no cache is taken.
+//! The matches of a pattern that is one literal, found from one occurrence to the next, without an
+//! engine or a cache.
 
 ghost use Rattle.std.specs.Prelude.{◌≡◌, ℕ, IsTrue, Option};
 ghost use Rattle.rx_util.specs.declared.search.Anchored.TheVariants.{No};
@@ -20,7 +20,7 @@ use rx_literals::Prefilter;
 use rx_steps::clear_slots;
 use rx_util::{Anchored, HalfMatch, Match, NonMaxUsize, PatternID};
 
-/// Returns whether an input asks for matches anywhere in a span that is inside its slice, so that
+/// Returns whether an input requests matches anywhere in a span that is inside its slice, so that
 /// each occurrence of a literal in the span is a match.
 pub(super) fn asks_in_slice<C: Cursor>(input: &Input<C>) -> bool
     ensures { IsTrue result → AsksInSlice input.now.asked }
@@ -32,8 +32,8 @@ pub(super) fn asks_in_slice<C: Cursor>(input: &Input<C>) -> bool
     }
 }
 
-/// Returns the match that comes next in an input, whose matches are the occurrences of a literal: the
-/// first one in the span.
+/// Returns the next match in an input, if the matches are the occurrences of a literal: the first
+/// one in the span.
 pub(super) fn find_occurrence<C: Cursor>(needle: &Prefilter, input: &mut Input<C>) -> Option<Match>
     requires asks { AsksInSlice input.old.asked }
     ensures answer { (e : Engine) (last : Option ℕ) → e.match_kind ≡ MatchKind.LeftmostFirst
@@ -48,10 +48,10 @@ pub(super) fn find_occurrence<C: Cursor>(needle: &Prefilter, input: &mut Input<C
     }
 }
 
-/// Returns what comes next in an input, whose matches are the occurrences of a literal: the pattern
-/// and the end of the first one in the span, whose places are put into the slots; all others hold
-/// none. With it comes where the bytes that were read end. The regex and the last match's end are for
-/// the contract alone.
+/// Returns the pattern and the end of the next match, if the matches are the occurrences of a
+/// literal: the first one in the span. Writes its offsets into the slots; all others are empty.
+/// Also returns where the bytes that were read end. The regex and the last match's end are for the
+/// contract only.
 pub(super) fn next_occurrence<C: Cursor>(
     _re: &Regex,
     needle: &Prefilter,
@@ -67,7 +67,7 @@ pub(super) fn next_occurrence<C: Cursor>(
     ensures same { IsSameContent input.old.cursor input.new.cursor }
     ensures asked { input.new.asked ≡ input.old.asked }
 {
-    let _at = input.position(); // for the proof alone: how long the content may be
+    let _at = input.position(); // for the proof: how long the haystack may be
     match find_literal(needle, input) {
         Some(span) => {
             put_match(slots, span);

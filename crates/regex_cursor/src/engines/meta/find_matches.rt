@@ -9,8 +9,8 @@ use rx_input::{Cursor, Input};
 use rx_util::{Match, MatchError};
 use std::iter::FusedIterator;
 
-/// Matches one after the other, each or a refusal, after which there are no more. An empty match
-/// where the one before ended is passed over. `Regex::find_iter` makes it.
+/// An iterator over matches. Yields each match, or an error, after which it ends. An empty match
+/// where the one before ended is skipped. Created by `Regex::find_iter`.
 #[derive(Drop)]
 pub struct FindMatches<'r, C: Cursor> {
     finder: Finder<'r>,
@@ -25,7 +25,7 @@ impl<'r, C: Cursor> FindMatches<'r, C> {
     ghost use Rattle.regex_cursor.specs.Lending.{LendsInput};
     ghost use Rattle.regex_cursor.specs.Regexes.{search_by};
 
-    /// None of the matches in an input has come yet.
+    /// Returns the iterator before the first match in an input.
     #[tactic(auto, using(crate::proofs::FewLaws::few_items))]
     pub(super) fn new(re: &'r Regex, cache: Cache, input: Input<C>) -> FindMatches<'r, C>
         requires made { IsCacheOf re.now cache }
@@ -34,22 +34,22 @@ impl<'r, C: Cursor> FindMatches<'r, C> {
         ensures all { GivesAll re.now (search_by re.now.engine input) result }
         ensures few { size (matches_left (left_of result)) < 2 ^ 64 }
     {
-        let _at = input.position(); // tells how long the content may be
+        let _at = input.position(); // for the proof: how long the haystack may be
         FindMatches {
             finder: Finder::new(re, cache),
             input,
         }
     }
 
-    /// Returns the regex that it searches for.
+    /// Returns the regex.
     pub fn regex(&self) -> &'r Regex
         ensures { result.now ≡ regex_of self.now }
     {
         self.finder.regex()
     }
 
-    /// Returns the input in which the next match is searched, which may be changed. The end of the
-    /// last match is kept: an empty match that is found there at once is passed over, and no other.
+    /// Returns the input in which the next match is searched for; it may be changed. The end of the
+    /// last match is kept: only an empty match that is found right there is skipped.
     pub fn input(&mut self) -> &mut Input<C>
         ensures* writes_back { sem 𝓛 (LendsInput C.row C.Cursor self.entry result) }
         ensures input { result.now ≡ input_of self.old }

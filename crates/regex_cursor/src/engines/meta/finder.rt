@@ -1,4 +1,4 @@
-//! What steps from match to match.
+//! Steps from match to match.
 
 ghost use Rattle.regex_cursor.specs.Regexes.{IsCacheOf};
 
@@ -7,14 +7,14 @@ use super::regex::Regex;
 use rx_input::{Cursor, Input};
 use rx_util::{Match, MatchError};
 
-/// Steps from match to match in the input that each step is handed. An empty match where the one
-/// before ended is passed over.
+/// Steps from match to match in the input that each step is given. An empty match where the one
+/// before ended is skipped.
 #[derive(Drop)]
 pub(super) struct Finder<'r> {
     re: &'r Regex,
     cache: Cache,
     last_match_end: Option<usize>,
-    // No more come.
+    // Whether it has ended.
     is_over: bool,
     ghost serves: { IsCacheOf re.now cache },
 }
@@ -27,7 +27,7 @@ impl<'r> Finder<'r> {
     ghost use Rattle.regex_cursor.specs.Iterating.{GivesNext, SearchGoesOn, regex_in, left_in, matches_from, matches_left};
     ghost use Rattle.regex_cursor.specs.Regexes.{search_by};
 
-    /// No match has come yet.
+    /// Returns the finder before the first match.
     pub(super) fn new(re: &'r Regex, cache: Cache) -> Finder<'r>
         requires made { IsCacheOf re.now cache }
         ensures left { (i : InputState)
@@ -42,15 +42,15 @@ impl<'r> Finder<'r> {
         }
     }
 
-    /// The regex that it searches for.
+    /// Returns the regex.
     pub(super) fn regex(&self) -> &'r Regex
         ensures { result.now ≡ regex_in self.now }
     {
         self.re
     }
 
-    /// The match that comes next in an input, whose span then starts at its end; or a refusal,
-    /// which is `Memory`. None comes after a refusal.
+    /// Returns the next match in an input, whose span then starts at the match's end; or an error,
+    /// which is `Memory`. After an error it returns `None`.
     #[tactic(auto, using(crate::proofs::FewLaws::fewer_behind, crate::proofs::FewLaws::fewer_over))]
     pub(super) fn next<C: Cursor>(
         &mut self,

@@ -1,4 +1,4 @@
-//! What one engine tells of a search, and what it leaves of it to the next one.
+//! What one engine finds out about a search, and what it leaves to the next one.
 
 ghost use Rattle.std.specs.Prelude.{◌≡◌, ◌<◌, ◌≤◌, ◌^◌, ℕ, Bool, IsTrue, None, Some, false, length, option_map};
 ghost use Rattle.unicode.specs.Perl.{is_word_char};
@@ -21,34 +21,34 @@ use rx_literals::{Prefilter, literal};
 use rx_steps::clear_slots;
 use rx_util::{Anchored, Captures, HalfMatch, Match, NonMaxUsize, PatternID, Span};
 
-/// What a literal tells of a search whose span isn't done.
+/// What a literal shows of a search whose span isn't done.
 #[derive(Clone, Copy, Debug)]
 pub(super) enum Start {
     /// There is no match.
     Nowhere,
-    /// The match takes this span, and has no groups besides: it is the literal.
+    /// The match takes this span, and has no other groups: it is the literal.
     At(Span),
-    /// A match begins at this place or behind it.
+    /// The match begins at this offset or after it.
     From(usize),
 }
 
-/// What the automaton tells of a search.
+/// The automaton's result of a search.
 #[derive(Clone, Copy, Debug)]
 pub(super) enum Told {
     /// There is no match.
     NoMatch,
-    /// There is a match, of this pattern, and it ends at this place.
+    /// There is a match of this pattern, and it ends at this offset.
     Ends(HalfMatch),
-    /// Nothing.
+    /// It isn't known: the automaton isn't used, quit or gave up.
     Unknown,
 }
 
-/// A part of a search's span, in which that is found which is found in the span.
+/// A part of a search's span, whose result is that of the span.
 #[derive(Clone, Copy, Debug)]
 pub(super) struct Part {
     pub(super) span: Span,
-    /// The pattern of the match, if it is known that there is one, which then ends where the part
-    /// does.
+    /// The pattern of the match, if it is known that there is one; then the match ends where the
+    /// part does.
     pub(super) pattern: Option<PatternID>,
 }
 
@@ -57,16 +57,16 @@ pub(super) struct Part {
 pub(super) enum Left {
     /// Nothing: there is no match.
     Nothing,
-    /// Nothing: the match takes this span, and has no groups besides.
+    /// Nothing: the match takes this span, and has no other groups.
     Match(Span),
     /// Its groups: it is this match.
     Found(Match),
-    /// To search in this part of the span.
+    /// The search of this part of the span.
     In(Part),
 }
 
 impl Told {
-    /// What is left of a search of this span.
+    /// Returns what is left of a search of this span.
     pub(super) fn left_in(self, span: Span) -> Left
         requires { span.start ≤ span.end }
         ensures { (p : ByteProgram) (s : Search) → s.start ≡ span.start → s.end ≡ span.end
@@ -90,7 +90,7 @@ impl Told {
 }
 
 impl Left {
-    /// The part in which a match lies, if there is one.
+    /// Returns the part that contains the match, if there is one.
     pub(super) fn part(self) -> Option<Part>
         ensures { (p : ByteProgram) (s : Search) → IsLeft p s self → IsPartLeft p s result }
     {
@@ -107,7 +107,7 @@ impl Left {
 }
 
 impl Part {
-    /// The part that a match takes.
+    /// Returns the part that a match takes.
     pub(super) fn of(found: Match) -> Part
         ensures { result ≡ record { span = found.span; pattern = Some found.pattern } }
     {
@@ -117,7 +117,7 @@ impl Part {
         }
     }
 
-    /// Whether a match in it may end where the last match did, if there was one.
+    /// Returns whether a match in the part may end where the last match did, if there was one.
     fn may_end_at(&self, last_match_end: Option<usize>) -> bool
         ensures known { (k : ℕ) → self.now.pattern ≡ Some k
             → last_match_end ≡ Some self.now.span.end → IsTrue result }
@@ -131,8 +131,8 @@ impl Part {
         }
     }
 
-    /// The part to search for what comes next where the last match, if there was one, ended at
-    /// `last_match_end`: all of the search's span, where an empty match may have to be passed over.
+    /// Returns the part to search for the next match, given where the last match ended, if there
+    /// was one: all of the search's span, if an empty match may have to be skipped.
     pub(super) fn behind(&self, last_match_end: Option<usize>, whole: Span) -> Part
         ensures { (p : ByteProgram) (s : Search) → s.start ≡ whole.start → s.end ≡ whole.end
             → IsPart p s self.now → HoldsNext p s last_match_end result.span }
@@ -147,7 +147,7 @@ impl Part {
         }
     }
 
-    /// Makes the part an input's span, and answers the span that it had.
+    /// Makes the part an input's span, and returns the span that it had.
     pub(super) fn cut<C: Cursor>(&self, input: &mut Input<C>) -> Span
         requires { self.now.span.start ≤ self.now.span.end }
         ensures whole { result ≡ input.old.asked.span }
@@ -160,7 +160,7 @@ impl Part {
     }
 }
 
-/// The pattern and the end of a match.
+/// Returns the pattern and the end of a match.
 pub(super) fn half_of(found: Option<Match>) -> Option<HalfMatch>
     ensures { result ≡ option_map half_of found }
 {
@@ -170,7 +170,7 @@ pub(super) fn half_of(found: Option<Match>) -> Option<HalfMatch>
     }
 }
 
-/// Gives an input this span, as where it had been cut.
+/// Sets an input's span back to this one, after `cut`.
 pub(super) fn put_back<C: Cursor>(input: &mut Input<C>, span: Span)
     requires { IsSpan span }
     ensures same { IsSameContent input.old.cursor input.new.cursor }
@@ -179,7 +179,7 @@ pub(super) fn put_back<C: Cursor>(input: &mut Input<C>, span: Span)
     input.set_span(span);
 }
 
-/// Whether a span lies in another one.
+/// Returns whether a span is inside another one.
 fn lies_in(span: Span, slice: Span) -> bool
     ensures from { IsTrue result → slice.start ≤ span.start }
     ensures to { IsTrue result → span.end ≤ slice.end }
@@ -187,8 +187,8 @@ fn lies_in(span: Span, slice: Span) -> bool
     slice.start <= span.start && span.end <= slice.end
 }
 
-/// Where the match lies by what was found of the literal that it is. Where that isn't in the slice
-/// nothing is known of it.
+/// Returns what an occurrence of the literal shows, if each match is that literal. An occurrence
+/// outside of the slice shows nothing.
 fn start_at<C: Cursor>(found: Option<Span>, input: &Input<C>) -> Start
     requires { input.now.asked.span.start ≤ input.now.asked.span.end }
     ensures { (p : ByteProgram) (s : Search) → s.start ≡ input.now.asked.span.start
@@ -206,19 +206,19 @@ fn start_at<C: Cursor>(found: Option<Span>, input: &Input<C>) -> Start
     }
 }
 
-/// Where the first literal of a prefilter lies in the span. The position may move.
+/// Returns the first occurrence of a literal of a prefilter in the span. The position may move.
 pub(super) fn find_literal<C: Cursor>(prefilter: &Prefilter, input: &mut Input<C>) -> Option<Span>
     ensures needles { AreNeedles prefilter.now }
     ensures found { FoundInSpan prefilter.now input.old result }
     ensures same { IsSameContent input.old.cursor input.new.cursor }
     ensures asked { input.new.asked ≡ input.old.asked }
 {
-    prefilter.needles_are_lawful(); // for the proof alone
+    prefilter.needles_are_lawful(); // for the proof only
     literal::find(prefilter, input)
 }
 
-/// Where the match lies of a program whose matches are a literal, which is looked for in the span,
-/// or at its start if the search is anchored. The span must not be done. The position may move.
+/// Returns what a literal shows of a search, if each match is that literal. Scans the span for it,
+/// or only its start if the search is anchored. The span must not be done. The position may move.
 pub(super) fn start_of_literal<C: Cursor>(needle: &Prefilter, input: &mut Input<C>) -> Start
     requires { input.old.asked.span.start ≤ input.old.asked.span.end }
     ensures start { (p : ByteProgram) (utf8_empty : Bool)
@@ -227,7 +227,7 @@ pub(super) fn start_of_literal<C: Cursor>(needle: &Prefilter, input: &mut Input<
     ensures asked { input.new.asked ≡ input.old.asked }
     ensures same { IsSameContent input.old.cursor input.new.cursor }
 {
-    needle.needles_are_lawful(); // for the proof alone
+    needle.needles_are_lawful(); // for the proof only
     match input.get_anchored() {
         Anchored::No => {
             let found = literal::find(needle, input);
@@ -241,7 +241,7 @@ pub(super) fn start_of_literal<C: Cursor>(needle: &Prefilter, input: &mut Input<
     }
 }
 
-/// Puts the places of a match that takes a span, and has no groups besides, into the slots.
+/// Writes the offsets of a match that takes a span, and has no other groups, into the slots.
 pub(super) fn put_match(slots: &mut [Option<NonMaxUsize>], span: Span)
     requires start { span.start < 2 ^ 63 }
     requires end { span.end < 2 ^ 63 }
@@ -259,7 +259,7 @@ pub(super) fn put_match(slots: &mut [Option<NonMaxUsize>], span: Span)
     slots[1] = NonMaxUsize::new(span.end);
 }
 
-/// Notes that nothing is found.
+/// Notes that there is no match.
 pub(super) fn note_nothing(caps: &mut Captures)
     ensures nothing { caps.new ≡ nothing_noted caps.old.groups (length caps.old.slots) }
     ensures none { caps.new.slots ≡ no_slots (length caps.new.slots) }

@@ -1,5 +1,5 @@
-//! Searches for the leftmost match by the engines of a regex: the literals that matches begin with
-//! are looked for first, then the automaton is asked, and what it leaves is searched by the PikeVM.
+//! Searches for the leftmost match by the engines of a regex: first a scan for the literals that
+//! matches begin with, then the automaton, and the PikeVM for what these leave.
 
 ghost use Rattle.std.specs.Prelude.{◌≡◌, ℕ, ◌*◌, ◌≤◌, IfOk, IfErr, IfSome, OnOk, OnErr, None, Some, true, false, length};
 ghost use Rattle.std.specs.Option.{ForSome};
@@ -24,7 +24,7 @@ use rx_matches::halves::is_empty_at_last;
 use rx_steps::clear_slots;
 use rx_util::{Captures, HalfMatch, Match, MatchError, NonMaxUsize, PatternID};
 
-/// Whether there is a match, as `Strategy::is_match` answers it.
+/// Returns whether there is a match, for `Strategy::is_match`.
 pub(super) fn is_match<C: Cursor>(
     strategy: &Strategy,
     cache: &mut Cache,
@@ -55,7 +55,7 @@ pub(super) fn is_match<C: Cursor>(
     }
 }
 
-/// The match that is found, as `Strategy::find` answers it.
+/// Returns the match found, for `Strategy::find`.
 pub(super) fn find<C: Cursor>(
     strategy: &Strategy,
     cache: &mut Cache,
@@ -85,8 +85,8 @@ pub(super) fn find<C: Cursor>(
     }
 }
 
-/// The pattern and the end of the match that is found, as `Strategy::find_half` answers it: where
-/// the automaton told them, nothing looks for the match's start.
+/// Returns the pattern and the end of the match found, for `Strategy::find_half`. If the automaton
+/// reports them, there is no search for the match's start.
 pub(super) fn find_half<C: Cursor>(
     strategy: &Strategy,
     cache: &mut Cache,
@@ -118,9 +118,8 @@ pub(super) fn find_half<C: Cursor>(
     }
 }
 
-/// The match that is found in a part, which is an input's span: where its end is known, and its
-/// pattern, by searches for its start, and where these can't tell, or nothing is known, by the
-/// PikeVM.
+/// Returns the match found in a part, which is an input's span. If its end and its pattern are
+/// known, searches for its start. If those searches quit, or nothing is known, uses the PikeVM.
 fn find_in<C: Cursor>(
     strategy: &Strategy,
     cache: &mut Cache,
@@ -149,7 +148,7 @@ fn find_in<C: Cursor>(
     }
 }
 
-/// The match that is found in an input's span, by the PikeVM.
+/// Returns the match found in an input's span, by the PikeVM.
 fn walk_to_match<C: Cursor>(
     strategy: &Strategy,
     cache: &mut Cache,
@@ -169,8 +168,7 @@ fn walk_to_match<C: Cursor>(
     found
 }
 
-/// The pattern of the match that is found, with its places in slots, as `Strategy::search_slots`
-/// answers it.
+/// Returns the pattern of the match found, with its offsets in slots, for `Strategy::search_slots`.
 pub(super) fn search_slots<C: Cursor>(
     strategy: &Strategy,
     cache: &mut Cache,
@@ -199,7 +197,8 @@ pub(super) fn search_slots<C: Cursor>(
     }
 }
 
-/// The pattern of a match that is found, with its places in slots, which hold none before.
+/// Returns the pattern of a match that is known, and writes its offsets into slots, which are empty
+/// before.
 fn slots_of_found<C: Cursor>(
     strategy: &Strategy,
     cache: &mut Cache,
@@ -222,7 +221,7 @@ fn slots_of_found<C: Cursor>(
     if !asks_whole(slots.len()) {
         return slots_of_part(strategy, cache, input, slots, Part::of(found));
     }
-    // How long the content may be, and of what the engine is, for the proof alone.
+    // For the proof: how long the haystack may be, and what the engine is.
     let _at = input.position();
     let _vm = strategy.vm();
     if !is_first(found.pattern()) {
@@ -232,8 +231,8 @@ fn slots_of_found<C: Cursor>(
     Ok(Some(PatternID::ZERO))
 }
 
-/// The pattern of the match that is found in a part of an input's span, with its places in slots,
-/// which hold none before.
+/// Returns the pattern of the match found in a part of an input's span, and writes its offsets into
+/// slots, which are empty before.
 fn slots_of_part<C: Cursor>(
     strategy: &Strategy,
     cache: &mut Cache,
@@ -260,15 +259,15 @@ fn slots_of_part<C: Cursor>(
     found
 }
 
-/// Whether so many slots are for no place but those of one whole match.
+/// Returns whether this number of slots is only for the offsets of one whole match.
 fn asks_whole(slots: usize) -> bool
     ensures { result ≡ true → slots ≤ 2 }
 {
     slots <= 2
 }
 
-/// Whether the first two slots are those of a pattern's whole match: it is the first pattern. Those
-/// of another one stand behind.
+/// Returns whether the first two slots are those of a pattern's whole match: it is the first
+/// pattern. Those of others follow.
 fn is_first(pattern: PatternID) -> bool
     ensures first { result ≡ true → pattern ≡ 0 }
     ensures other { result ≡ false → pattern ≡ 0 → ⊥ }
@@ -276,9 +275,9 @@ fn is_first(pattern: PatternID) -> bool
     pattern == PatternID::ZERO
 }
 
-/// The pattern of the match that is found in a part, which is an input's span, with its places in
-/// slots, which hold none before: as `find_in` finds it where no group besides is asked for, and at
-/// once where none of its places is.
+/// Returns the pattern of the match found in a part, which is an input's span, and writes its
+/// offsets into slots, which are empty before. Uses `find_in` if no other group is requested, and
+/// returns at once if none of its offsets is.
 fn slots_in<C: Cursor>(
     strategy: &Strategy,
     cache: &mut Cache,
@@ -300,7 +299,7 @@ fn slots_in<C: Cursor>(
     ensures same { IsSameContent input.old.cursor input.new.cursor }
     ensures refused { IfErr result (λ error. error ≡ MatchError.Memory) }
 {
-    let _vm = strategy.vm(); // tells of what the engine is
+    let _vm = strategy.vm(); // for the proof: what the engine is
     let Some(pattern) = pattern else {
         return walk_to_slots(strategy, cache, input, slots);
     };
@@ -319,7 +318,7 @@ fn slots_in<C: Cursor>(
     }
 }
 
-/// The pattern of the match that is found in an input's span, with its places in slots, by the
+/// Returns the pattern of the match found in an input's span, with its offsets in slots, by the
 /// PikeVM.
 fn walk_to_slots<C: Cursor>(
     strategy: &Strategy,
@@ -341,7 +340,7 @@ fn walk_to_slots<C: Cursor>(
     found
 }
 
-/// How many slots captures have.
+/// Returns the number of slots of captures.
 fn slot_count(caps: &mut Captures) -> usize
     ensures count { result ≡ length caps.old.slots }
     ensures same { caps.new ≡ caps.old }
@@ -349,7 +348,7 @@ fn slot_count(caps: &mut Captures) -> usize
     caps.slots_mut().len()
 }
 
-/// Notes what is found, as `Strategy::search` does.
+/// Notes the match found, for `Strategy::search`.
 pub(super) fn search<C: Cursor>(
     strategy: &Strategy,
     cache: &mut Cache,
@@ -378,7 +377,7 @@ pub(super) fn search<C: Cursor>(
     search_whole(strategy, cache, input, caps)
 }
 
-/// The same, with groups besides the whole match: by the PikeVM, between the match's ends.
+/// Does the same, with other groups than the whole match: by the PikeVM, between the match's ends.
 fn search_groups<C: Cursor>(
     strategy: &Strategy,
     cache: &mut Cache,
@@ -412,7 +411,7 @@ fn search_groups<C: Cursor>(
     }
 }
 
-/// The same, of which the whole match is all that matters: as `search_slots` finds it.
+/// Does the same if only the whole match is requested: as `search_slots` finds it.
 fn search_whole<C: Cursor>(
     strategy: &Strategy,
     cache: &mut Cache,
@@ -436,7 +435,7 @@ fn search_whole<C: Cursor>(
     ensures refused { IfErr result (λ error. error ≡ MatchError.Memory) }
 {
     note_nothing(caps);
-    // How long the content may be, and of what the engine is, for the proof alone.
+    // For the proof: how long the haystack may be, and what the engine is.
     let _at = input.position();
     let _vm = strategy.vm();
     let found = search_slots(strategy, cache, input, caps.slots_mut())?;
@@ -444,8 +443,7 @@ fn search_whole<C: Cursor>(
     Ok(())
 }
 
-/// The pattern of the match that comes next, with its places in slots, as `Strategy::next_slots`
-/// answers it.
+/// Returns the pattern of the next match, with its offsets in slots, for `Strategy::next_slots`.
 pub(super) fn next_slots<C: Cursor>(
     strategy: &Strategy,
     cache: &mut Cache,
@@ -479,7 +477,8 @@ pub(super) fn next_slots<C: Cursor>(
     found
 }
 
-/// The same, in slots for the whole match alone, which hold none before: as `find_next` finds it.
+/// Does the same for slots of the whole match only, which are empty before: as `find_next` finds
+/// it.
 fn next_whole<C: Cursor>(
     strategy: &Strategy,
     cache: &mut Cache,
@@ -499,7 +498,7 @@ fn next_whole<C: Cursor>(
     ensures same { (start : ℕ) × StartsFrom input.old input.new start }
     ensures refused { IfErr result (λ error. error ≡ MatchError.Memory) }
 {
-    // How long the content may be, and of what the engine is, for the proof alone.
+    // For the proof: how long the haystack may be, and what the engine is.
     let _at = input.position();
     let _vm = strategy.vm();
     let Some(found) = find_next(strategy, cache, input, last_match_end)? else {
@@ -509,8 +508,8 @@ fn next_whole<C: Cursor>(
     Ok(Some(found.pattern()))
 }
 
-/// The match that comes next, as `Strategy::find_next` answers it. An empty one where the last one
-/// ended is passed over, and the search goes on one byte further than the span starts.
+/// Returns the next match, for `Strategy::find_next`. An empty one where the last one ended is
+/// skipped, and the search continues one byte after the span's start.
 pub(super) fn find_next<C: Cursor>(
     strategy: &Strategy,
     cache: &mut Cache,
@@ -541,7 +540,7 @@ pub(super) fn find_next<C: Cursor>(
     find(strategy, cache, input)
 }
 
-/// The same by the PikeVM, which doesn't look at `earliest`.
+/// Does the same by the PikeVM, which ignores `earliest`.
 fn find_next_whole<C: Cursor>(
     strategy: &Strategy,
     cache: &mut Cache,

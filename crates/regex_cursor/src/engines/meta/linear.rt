@@ -1,6 +1,6 @@
-//! All matches one after the other, in time linear in the input: by finds, which are quick, as long
-//! as these read little more than what lies behind them; and from there on from a list, which two
-//! passes over the rest make, however far finds would read.
+//! All matches in order, in time linear in the input: by single finds, which are fast, as long as
+//! these read little more than the text before them; from there on from a list, which two passes
+//! over the rest make, however far finds would read.
 
 ghost use Rattle.std.specs.Prelude.{◌≡◌, ◌↔◌, ◌+◌, ◌-◌, ◌*◌, ◌<◌, ◌≤◌, ℕ, [], ◌∷◌, All, IfErr, IfOk, IfSome, IsSome, IsTrue, OnErr, None, Some, false, true, length, max, option_map, take};
 ghost use Rattle.std.specs.Option.{ForSome};
@@ -36,14 +36,14 @@ use rx_util::{HalfMatch, MatchError, MatchKind, NonMaxUsize, PatternID};
 use std::marker::Model;
 use std::snapshot::Snapshot;
 
-/// How often finds may read the places that lie behind them, besides all places once: the one that
-/// comes next may read to the end, as those of `.*x` do in each short line.
+/// How often finds may read the offsets before them, besides all offsets once: the next find may
+/// read to the end, as for `.*x` in each short line.
 const TIMES: usize = 3;
 
-/// How many places they may read besides.
+/// How many more offsets they may read.
 const BESIDES: usize = 10;
 
-/// Matches that were listed, and how many of them were taken.
+/// Listed matches, and how many of them were taken.
 #[derive(Drop)]
 struct ListedRest {
     regex: Snapshot<Regex>,
@@ -67,7 +67,8 @@ impl Model for ListedRest {
     ghost invariant = { λ r. All (λ l. length l.slots ≡ r.slot_len) r.listed.items };
 }
 
-/// How many of those that were listed from a place on are passed over where a match ended there.
+/// Returns how many of the matches listed from an offset on are skipped after a match that ended
+/// there.
 fn passed_at(listed: &[ListedMatch], end: usize) -> usize
     ensures { result ≡ passed_over end listed.now }
 {
@@ -77,8 +78,8 @@ fn passed_at(listed: &[ListedMatch], end: usize) -> usize
     }
 }
 
-/// Lists the matches behind one that ended where the input's span starts, each with so many slots.
-/// The one refusal is `Memory`.
+/// Lists the matches after one that ended where the input's span starts, each with this number of
+/// slots. The only error is `Memory`.
 fn list_behind<C: Cursor>(
     re: &Regex,
     input: &mut Input<C>,
@@ -111,7 +112,8 @@ fn list_behind<C: Cursor>(
 }
 
 impl ListedRest {
-    /// Takes the next match: answers its pattern and its end, and puts its places into the slots.
+    /// Takes the next match: returns its pattern and its end, and writes its offsets into the
+    /// slots.
     fn take(&mut self, slots: &mut [Option<NonMaxUsize>]) -> Option<HalfMatch>
         requires few { length slots.old ≤ self.old.slot_len }
         ensures none { result ≡ None → (self.old.found ≡ []) × (slots.new ≡ slots.old) }
@@ -131,8 +133,8 @@ impl ListedRest {
     }
 }
 
-/// The last place inside an input's span, its slice and its content, which is known once it was
-/// looked for. The input may stand elsewhere then.
+/// Returns the last offset inside an input's span, its slice and its haystack; it is computed once.
+/// The input's position may change.
 fn last_inside<C: Cursor>(known: &mut Option<usize>, input: &mut Input<C>) -> usize
     requires known { IfSome known.old (λ place. place ≡ highest (search_of true input.old)) }
     ensures last { result ≡ highest (search_of true input.old) }
@@ -149,7 +151,7 @@ fn last_inside<C: Cursor>(known: &mut Option<usize>, input: &mut Input<C>) -> us
     place
 }
 
-/// Counts so many places.
+/// Adds to the count of offsets.
 fn add_places(read: &mut Counter, count: usize)
     ensures { read.new ≡ read.old + count }
 {
@@ -158,8 +160,9 @@ fn add_places(read: &mut Counter, count: usize)
     }
 }
 
-/// Counts what finds read that began at a place: so many places, but at most three times those from
-/// there to the last one, which one goes forward over, and back, and walks side by side.
+/// Counts what finds read that began at an offset: this number of offsets, but at most three times
+/// those from there to the last one, which one find reads forward, backward, and by following
+/// threads.
 fn count_find(finds_read: &mut usize, read: &mut Counter, places: usize, from: usize, last: usize)
     ensures counted { read.new + finds_read.old ≡ read.old + finds_read.new }
     ensures few { finds_read.new ≤ finds_read.old + 3 * (last + 1 - from) }
@@ -171,7 +174,7 @@ fn count_find(finds_read: &mut usize, read: &mut Counter, places: usize, from: u
     add_places(read, count);
 }
 
-/// A find, or the two that a match takes: whether it counts, where it began, and how many places it
+/// A find, or the two for one match: whether it counts, where it began, and how many offsets it
 /// read.
 #[derive(Clone, Copy, Debug)]
 struct Find {
@@ -180,7 +183,7 @@ struct Find {
     places: usize,
 }
 
-/// Counts what finds read, if that counts.
+/// Counts what finds read, if it counts.
 fn count_if<C: Cursor>(
     find: Find,
     known: &mut Option<usize>,
@@ -204,7 +207,7 @@ fn count_if<C: Cursor>(
     count_find(finds_read, read, find.places, find.from, last);
 }
 
-/// Where the match ends whose places these slots hold.
+/// Returns where the match in these slots ends.
 fn end_in(pattern: PatternID, slots: &[Option<NonMaxUsize>]) -> usize
     requires ordered { ForSome (whole_span pattern slots.now) (λ span. span.start ≤ span.end) }
     ensures { (span : Span) → whole_span pattern slots.now ≡ Some span → result ≡ span.end }
@@ -215,7 +218,7 @@ fn end_in(pattern: PatternID, slots: &[Option<NonMaxUsize>]) -> usize
     }
 }
 
-/// What comes next by finds, with its end.
+/// Returns the next match by finds, with its end.
 fn find_on<C: Cursor>(
     re: &Regex,
     cache: &mut Cache,
@@ -232,26 +235,26 @@ fn find_on<C: Cursor>(
     ensures same { (start : ℕ) × StartsFrom input.old input.new start }
     ensures refused { IfErr result (λ error. error ≡ MatchError.Memory) }
 {
-    let _groups = re.group_info(); // tells of what the regex is
+    let _groups = re.group_info(); // for the proof: what the regex is
     match re.next_slots_with(cache, input, slots, last_end)? {
         Some(pattern) => Ok(Some(HalfMatch::new(pattern, end_in(pattern, slots)))),
         None => Ok(None),
     }
 }
 
-/// All matches of a regex in an input, one after the other, in time linear in the input, however
-/// far single finds would read: leftmost first. It goes by finds as long as these read at most all
-/// places once, three times those that lie behind them, and ten; from there on it lists the rest by
-/// two passes, which takes memory as `rx_lists::list_matches` does. Before it takes none.
+/// All matches of a regex in an input, in order, leftmost first, in time linear in the input,
+/// however far single finds would read. It uses finds as long as these read at most all offsets
+/// once, three times those before them, and ten more. From there on it lists the rest by two
+/// passes, which takes the memory of `rx_lists::list_matches`. Before, it takes none.
 ///
-/// Contracts see the input, whose span starts where the last match ended, that place, whether no
-/// more come, how much finds read, and what was listed.
+/// Contracts see the input, whose span starts where the last match ended, that offset, whether it
+/// has ended, how much finds read, and what was listed.
 #[derive(Drop)]
 pub struct LinearMatches<C: Cursor> {
     input: Input<C>,
     last_end: Option<usize>,
     is_over: bool,
-    // The first place of the whole, and the last one, once it was looked for.
+    // The first offset of the whole, and the last one, once it is computed.
     first: usize,
     last: Option<usize>,
     finds_read: usize,
@@ -286,7 +289,7 @@ impl<C: Cursor> Model for LinearMatches<C> {
 }
 
 impl<C: Cursor> LinearMatches<C> {
-    /// Returns all matches in an input, of which none has come yet. `O(1)`.
+    /// Returns all matches in an input, before the first one. `O(1)`.
     pub fn new(input: Input<C>) -> LinearMatches<C>
         ensures { result ≡ linear_from input }
     {
@@ -302,15 +305,16 @@ impl<C: Cursor> LinearMatches<C> {
         }
     }
 
-    /// Returns whether the further matches were listed, so that they come from the list. `O(1)`.
+    /// Returns whether the further matches were listed, so that they are taken from the list.
+    /// `O(1)`.
     pub fn is_listed(&self) -> bool
         ensures { IsTrue result ↔ IsSome self.now.rest }
     {
         self.rest.is_some()
     }
 
-    /// Whether the further matches are to be listed: finds have read more than is allowed, and the
-    /// leftmost match is found.
+    /// Returns whether the further matches should be listed: finds have read more than is allowed,
+    /// and the match kind is leftmost.
     fn is_due(&self, kind: MatchKind) -> bool
         ensures some { result ≡ true → self.now.is_over ≡ false → IsSome self.now.last_end }
         ensures leftmost { result ≡ true → kind ≡ MatchKind.LeftmostFirst }
@@ -331,7 +335,7 @@ impl<C: Cursor> LinearMatches<C> {
         self.finds_read > may_read && self.rest.is_none() && kind == MatchKind::LeftmostFirst
     }
 
-    /// Goes on behind what came next; no more come where nothing did.
+    /// Advances past the next match; ends if there was none.
     fn go_on(&mut self, half: Option<HalfMatch>) -> Option<PatternID>
         requires over { self.old.is_over ≡ true }
         requires alone { self.old.rest ≡ None }
@@ -354,7 +358,7 @@ impl<C: Cursor> LinearMatches<C> {
         Some(half.pattern())
     }
 
-    /// What comes next, from the list.
+    /// Returns the next match, from the list.
     fn next_listed(
         &mut self,
         mut rest: ListedRest,
@@ -381,7 +385,7 @@ impl<C: Cursor> LinearMatches<C> {
         pattern
     }
 
-    /// What comes next, by finds, which are counted or not.
+    /// Returns the next match, by finds, which are counted or not.
     fn next_found(
         &mut self,
         re: &Regex,
@@ -431,8 +435,8 @@ impl<C: Cursor> LinearMatches<C> {
         Ok(self.go_on(found?))
     }
 
-    /// What comes next, where each match is a literal: its next occurrence in the span, with no
-    /// engine and no cache. What is read is counted.
+    /// Returns the next match, if each match is a literal: its next occurrence in the span, without
+    /// an engine or a cache. What is read is counted.
     fn next_literal(
         &mut self,
         re: &Regex,
@@ -474,8 +478,8 @@ impl<C: Cursor> LinearMatches<C> {
         self.go_on(found)
     }
 
-    /// Lists the further matches, each with so many slots. The one refusal is `Memory`, after which
-    /// no more come.
+    /// Lists the further matches, each with this number of slots. The only error is `Memory`, after
+    /// which it ends.
     fn list_rest(
         &mut self,
         re: &Regex,
@@ -535,8 +539,8 @@ impl<C: Cursor> LinearMatches<C> {
         Ok(self.next_listed(rest, slots))
     }
 
-    /// What comes next where the further matches were listed: from that list; or where more slots
-    /// are asked for than it has, by finds, which are not counted, and the list is dropped.
+    /// Returns the next match if the further matches were listed: from that list, or, if more slots
+    /// are requested than it has, by finds, which are not counted, and the list is dropped.
     fn next_kept(
         &mut self,
         rest: ListedRest,
@@ -573,8 +577,8 @@ impl<C: Cursor> LinearMatches<C> {
         self.next_found(re, cache, slots, false, read)
     }
 
-    /// What comes next where the further matches were listed, or are to be now. Apart from finds,
-    /// since a function pays at each call for the room of a list.
+    /// Returns the next match if the further matches were listed, or should be now. Separate from
+    /// finds, because a function pays for the room of a list at each call.
     fn next_by_list(
         &mut self,
         re: &Regex,
@@ -612,19 +616,26 @@ impl<C: Cursor> LinearMatches<C> {
         }
     }
 
-    /// Returns the pattern of the match that comes next, the first or the one behind the last, and
-    /// puts its places into the slots, as many as there are; all others hold none. An empty match
-    /// where the last one ended is passed over. It is a whole match, also where `earliest` is set.
-    /// `None` behind the last match, and after an error. The one error is `Memory`: then no slot
-    /// holds a place.
+    /// Returns the pattern of the next match, the first or the one after the last, and writes its
+    /// offsets into the slots, as many as there are; all others are empty. An empty match where the
+    /// last one ended is skipped. It is a whole match, also if `earliest` is set. Returns `None`
+    /// after the last match, and after an error.
     ///
-    /// `read` counts the places that it reads, where the regex finds the leftmost match: of one
-    /// find at most three times those that lie ahead. Where as many slots are asked for each time,
-    /// all calls together count at most ten times as many places as there are inside span, slice
-    /// and content, and ten; if more are asked for than were listed, the list is made again.
+    /// # Requires
     ///
-    /// Requires that the cache is one for this regex, as it is afterwards too, two slots for each
-    /// of its patterns or more, and a regex that finds the same as the one before.
+    /// The cache is for this regex, and remains so. There are at least two slots for each pattern
+    /// of the regex. The regex finds the same as that of the call before.
+    ///
+    /// # Errors
+    ///
+    /// `Memory` only: then all slots are empty.
+    ///
+    /// # Complexity
+    ///
+    /// If the regex finds the leftmost match, `read` counts the offsets read: of one find at most
+    /// three times those ahead. If the number of slots is the same each time, all calls together
+    /// count at most ten times the number of offsets inside span, slice and haystack, plus ten. If
+    /// more are requested than were listed, the list is rebuilt.
     pub fn next_slots(
         &mut self,
         re: &Regex,

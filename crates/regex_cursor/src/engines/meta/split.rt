@@ -1,4 +1,4 @@
-//! The iterator over what stands between matches.
+//! The iterator over the parts between matches.
 
 ghost use Rattle.regex_cursor.specs.Regexes.{IsCacheOf};
 
@@ -10,9 +10,9 @@ use rx_input::{Cursor, Input};
 use rx_util::{MatchError, Span};
 use std::iter::FusedIterator;
 
-/// The parts between the matches, one after the other, from 0 to the end of the input's span, at
-/// most to that of its content; or a refusal, after which there are no more. `Regex::split` makes
-/// it.
+/// An iterator over the parts between the matches, from 0 to the end of the input's span, or of its
+/// haystack if that is less. Yields each part, or an error, after which it ends. Created by
+/// `Regex::split`.
 #[derive(Drop)]
 pub struct Split<'r, C: Cursor> {
     splitter: Splitter<'r>,
@@ -28,7 +28,7 @@ impl<'r, C: Cursor> Split<'r, C> {
     ghost use Rattle.regex_cursor.specs.Regexes.{search_by};
     ghost use Rattle.regex_cursor.specs.Splitting.{GivesGaps, input_of, left_of, parts_left, parts_of, regex_of};
 
-    /// None of the parts of an input has come yet.
+    /// Returns the iterator before the first part of an input.
     pub(super) fn new(re: &'r Regex, cache: Cache, input: Input<C>) -> Split<'r, C>
         requires made { IsCacheOf re.now cache }
         ensures left { left_of result ≡ parts_of (matches_from (search_by re.now.engine input)) }
@@ -36,15 +36,15 @@ impl<'r, C: Cursor> Split<'r, C> {
         ensures gaps { GivesGaps re.now (search_by re.now.engine input) result }
         ensures few { size (parts_left (left_of result)) < 2 ^ 64 }
     {
-        let _at = input.position(); // tells how long the content may be
+        let _at = input.position(); // for the proof: how long the haystack may be
         Split {
             splitter: Splitter::new(Finder::new(re, cache)),
             input,
         }
     }
 
-    /// Returns the input in which the next match is searched, which may be changed, as that of
-    /// `FindMatches`. The next part starts at the end of the last match all the same.
+    /// Returns the input in which the next match is searched for; it may be changed, as that of
+    /// `FindMatches`. The next part starts at the end of the last match in any case.
     pub fn input(&mut self) -> &mut Input<C>
         ensures* writes_back { sem 𝓛 (SplitLendsInput C.row C.Cursor self.entry result) }
         ensures input { result.now ≡ input_of self.old }

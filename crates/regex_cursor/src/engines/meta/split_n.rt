@@ -1,4 +1,4 @@
-//! The iterator over at most so many parts between matches.
+//! The iterator over a limited number of parts between matches.
 
 ghost use Rattle.regex_cursor.specs.Regexes.{IsCacheOf};
 
@@ -10,8 +10,8 @@ use rx_input::{Cursor, Input};
 use rx_util::{MatchError, Span};
 use std::iter::FusedIterator;
 
-/// Parts as those of `Split`, at most as many as a limit: the last of so many goes to the end.
-/// `Regex::splitn` makes it.
+/// An iterator over parts like `Split`, with a maximum number: the last part allowed goes to the
+/// end. Created by `Regex::splitn`.
 #[derive(Drop)]
 pub struct SplitN<'r, C: Cursor> {
     splitter: Splitter<'r>,
@@ -28,7 +28,7 @@ impl<'r, C: Cursor> SplitN<'r, C> {
     ghost use Rattle.regex_cursor.specs.Splitting.{parts_of};
     ghost use Rattle.regex_cursor.specs.SplittingFew.{GivesFewGaps, input_of, left_of, regex_of};
 
-    /// None of the parts of an input has come yet, at most so many of which are to come.
+    /// Returns the iterator before the first part of an input, with at most `limit` parts.
     pub(super) fn new(re: &'r Regex, cache: Cache, input: Input<C>, limit: usize) -> SplitN<'r, C>
         requires made { IsCacheOf re.now cache }
         ensures left { left_of result ≡ record {
@@ -45,7 +45,7 @@ impl<'r, C: Cursor> SplitN<'r, C> {
         }
     }
 
-    /// Returns the input in which the next match is searched, which may be changed, as that of
+    /// Returns the input in which the next match is searched for; it may be changed, as that of
     /// `Split`.
     pub fn input(&mut self) -> &mut Input<C>
         ensures* writes_back { sem 𝓛 (SplitNLendsInput C.row C.Cursor self.entry result) }

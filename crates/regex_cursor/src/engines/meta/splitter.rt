@@ -1,4 +1,4 @@
-//! What steps from part to part.
+//! Steps from part to part.
 
 ghost use Rattle.std.specs.Prelude.{◌≡◌, length, min};
 ghost use Rattle.rx_input.specs.Cursors.{IsSameContent};
@@ -7,17 +7,17 @@ use super::finder::Finder;
 use rx_input::{Cursor, Input};
 use rx_util::{MatchError, Span};
 
-/// Steps from part to part between the matches in the input that each step is handed.
+/// Steps from part to part between the matches in the input that each step is given.
 #[derive(Drop)]
 pub(super) struct Splitter<'r> {
     finder: Finder<'r>,
     // Where the next part starts.
     last: usize,
-    // No more come.
+    // Whether it has ended.
     pub(super) is_over: bool,
 }
 
-/// Where an input's span ends, but at most where its content does.
+/// Returns where an input's span ends, or its haystack if that is less.
 fn end_of<C: Cursor>(input: &mut Input<C>) -> usize
     ensures end { result ≡ min input.old.asked.span.end (length input.old.cursor.content) }
     ensures asked { input.new.asked ≡ input.old.asked }
@@ -36,7 +36,7 @@ impl<'r> Splitter<'r> {
     ghost use Rattle.regex_cursor.specs.Iterating as iterating;
     ghost use Rattle.regex_cursor.specs.Splitting.{EndsWith, SplitsOff, end_of_search, regex_in, left_in, parts_left, parts_of};
 
-    /// The parts between the matches that a finder comes to.
+    /// Returns the splitter at the matches of a finder.
     pub(super) fn new(finder: Finder<'r>) -> Splitter<'r>
         ensures left { (i : InputState)
             → left_in result i ≡ parts_of (iterating.left_in finder.entry i) }
@@ -49,9 +49,9 @@ impl<'r> Splitter<'r> {
         }
     }
 
-    /// The part up to the match that comes next in an input, whose span then starts at the match's
-    /// end; the last part, where no match comes; or a refusal, which is `Memory`. None comes after
-    /// the last part, nor after a refusal.
+    /// Returns the part up to the next match in an input, whose span then starts at the match's
+    /// end; the last part, if there is no match; or an error, which is `Memory`. After the last
+    /// part and after an error it returns `None`.
     pub(super) fn next<C: Cursor>(
         &mut self,
         input: &mut Input<C>,
@@ -85,8 +85,8 @@ impl<'r> Splitter<'r> {
         }
     }
 
-    /// The part from the end of the last match to the end of an input's span, at most to that of
-    /// its content, where it doesn't start behind that. It is the last one.
+    /// Returns the part from the end of the last match to the end of an input's span, or of its
+    /// haystack if that is less, unless the match ends after that. It is the last part.
     pub(super) fn rest<C: Cursor>(&mut self, input: &mut Input<C>) -> Option<Span>
         ensures rest { EndsWith (left_in self.old input.old).last
             (end_of_search (left_in self.old input.old).matches.search) result }

@@ -1,4 +1,4 @@
--- Nothing that is found starts before the place.
+-- No match starts before the offset.
 use Rattle.std.proofs.Common.{◌≡◌, ◌-◌, ◌≤◌}
 use Rattle.rx_input.specs.Cursors.{IsSameContent}
 use Rattle.rx_steps.specs.Searching.{search_of}

@@ -9,7 +9,7 @@ use Rattle.rx_chunk.proofs.EngineLaws.{lent_slots}
 use Rattle.rx_chunk.proofs.FoundLaws.{notes_places}
 use Rattle.regex_cursor.proofs.engines.meta.leftmost.search_whole.Goals as goal
 
--- what the captures tell then
+-- what the captures return then
 told : (g : _) (c : goal.After-set_pattern g) → searches.TellsSlots c.args.strategy.now.vm c.args.input.now c.set_pattern.new.self.pattern c.set_pattern.new.self.slots
 told g c =
     let vm = c.args.strategy.now.vm in

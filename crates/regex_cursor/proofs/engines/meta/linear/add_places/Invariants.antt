@@ -1,4 +1,4 @@
--- So many places are counted.
+-- The offsets counted so far.
 use Rattle.std.proofs.Common.{◌≡◌, ◌+◌, ◌≤◌}
 use Rattle.regex_cursor.proofs.engines.meta.linear.add_places.Given as goal
 

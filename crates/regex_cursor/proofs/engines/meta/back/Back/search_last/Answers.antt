@@ -11,7 +11,7 @@ use Rattle.regex_cursor.proofs.LastLaws.{none_before, none_last, some_last}
 use Rattle.regex_cursor.proofs.StartLaws.{same_search}
 use Rattle.regex_cursor.proofs.engines.meta.back.Back.search_last.Goals as goal
 
--- what is told of an input that was moved to its end is told of it
+-- the result for an input that was moved to its end is that for the input
 told_there : (p : ByteProgram) (s moved : Search) (end : ℕ) (found : Option HalfFound) → moved ≡ s → end ≡ s.end → IsHalfAnswerBack p (back_from moved end) found → IsHalfAnswerBack p (back_from s s.end) found
 told_there p s moved end found same at told =
     subst (λ e. IsHalfAnswerBack p (back_from s e) found) at (subst (λ x. IsHalfAnswerBack p (back_from x end) found) same told)
