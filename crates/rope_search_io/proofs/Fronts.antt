@@ -1,4 +1,4 @@
--- Writing one list of bytes after another, and what stands written where a write in between fails.
+-- Writing one list of bytes after another, and what is written if a write in between fails.
 use Rattle.std.proofs.Common.{◌≡◌, ℕ, List, [], ◌∷◌, ◌++◌, ◌<◌, ◌≤◌, get_or, ◌+◌, ◌-◌, length, take, drop, refl, ap, sym, subst, take-append-drop, ◌∙◌, append_assoc, append-nil, arith}
 use Rattle.std.proofs.KnownBytes.{Appends-trans, Appends-nil, Appends-kept}
 use Rattle.std.proofs.lemmas.List.{take_rest, take_more, take_all}
@@ -66,12 +66,12 @@ WritesFront-step a b c bytes done before kept failed flushed = record {
 
 -- ---- for `put`
 
--- what waited was written whole, and the bytes behind it too
+-- the buffered bytes were written whole, and the bytes after them too
 pub Puts-past : (old xs : List ℕ) (a b c : SinkState) → Writes a b old → Writes b c xs → Puts old [] a c xs
 Puts-past old xs a b c first second =
     record { sent = old ++ xs; split = sym (append-nil (old ++ xs)); written = Writes-trans a b c old xs first second }
 
--- what waited was written whole, and these bytes wait
+-- the buffered bytes were written whole, and these bytes are buffered
 pub Puts-behind : (old xs : List ℕ) (a b : SinkState) → Writes a b old → Puts old xs a b xs
 Puts-behind old xs a b first = record { sent = old; split = refl; written = first }
 
@@ -85,11 +85,11 @@ joined-more parts i d inside =
     let part : Bor (List ℕ) → List ℕ = λ p. p.now in
     ap joined (take_more parts i d inside) ∙ flat_map-append part (take i parts) (get_or parts i d ∷ []) ∙ ap (λ l. joined (take i parts) ++ l) (append-nil (get_or parts i d).now)
 
--- no part went on its way yet
+-- no part was put yet
 pub Puts-nil : (old : List ℕ) (a : SinkState) → Puts old old a a []
 Puts-nil old a = record { sent = []; split = append-nil old; written = Writes-nil a }
 
--- one more part went behind those before
+-- one more part was put after those before
 pub Puts-more : (parts : List (Bor (List ℕ))) (i : ℕ) (d : Bor (List ℕ)) (old mid new : List ℕ) (a b c : SinkState) → i < length parts
     → Puts old mid a b (joined (take i parts)) → Puts mid new b c (get_or parts i d).now → Puts old new a c (joined (take (i + 1) parts))
 Puts-more parts i d old mid new a b c inside p q =
@@ -101,12 +101,12 @@ Puts-more parts i d old mid new a b c inside p q =
       written = Writes-trans a b c p.sent q.sent p.written q.written;
     }
 
--- all parts are on their way
+-- all parts were put
 pub Puts-all : (parts : List (Bor (List ℕ))) (i : ℕ) (old new : List ℕ) (a b : SinkState) → length parts ≤ i
     → Puts old new a b (joined (take i parts)) → Puts old new a b (joined parts)
 Puts-all parts i old new a b all p = subst (λ ps. Puts old new a b (joined ps)) (take_all i parts all) p
 
--- the parts so far went on their way, and of what waits behind them the sink took a front
+-- the parts so far were put, and the sink took a prefix of what is buffered after them
 front_of_parts : (parts : List (Bor (List ℕ))) (i : ℕ) (old mid xs : List ℕ) (a b c : SinkState)
     → Puts old mid a b (joined (take i parts)) → WritesFront b c (mid ++ xs) → WritesFront a c ((old ++ joined (take i parts)) ++ xs)
 front_of_parts parts i old mid xs a b c p q =
@@ -124,7 +124,7 @@ WritesFront-part parts i d old mid a b c inside p q =
     ∙ append_assoc old (joined (take (i + 1) parts)) (joined (drop (i + 1) parts)) ∙ ap (λ l. old ++ l) (sym split) in
     subst (WritesFront a c) whole (WritesFront-more a c ((old ++ joined (take i parts)) ++ (get_or parts i d).now) (joined (drop (i + 1) parts)) here)
 
--- the same, where the error is told
+-- the same, with the error
 pub WritesUntil-part : (broken : Broken) (parts : List (Bor (List ℕ))) (i : ℕ) (d : Bor (List ℕ)) (old mid : List ℕ) (a b c : SinkState) → i < length parts
     → Puts old mid a b (joined (take i parts)) → WritesUntil broken b c (mid ++ (get_or parts i d).now) → WritesUntil broken a c (old ++ joined parts)
 WritesUntil-part Write parts i d old mid a b c inside p q = WritesFront-part parts i d old mid a b c inside p q
@@ -136,7 +136,7 @@ pub ruleset putting_parts = (Puts-nil, Puts-more, Puts-all)
 
 -- ---- for `send_parts`
 
--- what was put is on its way, and what waits is written
+-- some bytes were put, and the buffered ones are written
 pub Writes-put : (old mid xs : List ℕ) (a b c : SinkState) → Puts old mid a b xs → Writes b c mid → Writes a c (old ++ xs)
 Writes-put old mid xs a b c p q = subst (Writes a c) (sym p.split) (Writes-trans a b c p.sent mid p.written q)
 
@@ -145,7 +145,7 @@ WritesFront-put old mid xs a b c p q = subst (WritesFront a c) (sym p.split) (Wr
 
 pub ruleset sending = (Writes-put)
 
--- the same, where the error is told
+-- the same, with the error
 pub WritesUntil-put : (broken : Broken) (old mid xs : List ℕ) (a b c : SinkState) → Puts old mid a b xs → WritesUntil broken b c mid → WritesUntil broken a c (old ++ xs)
 WritesUntil-put Write old mid xs a b c p q = WritesFront-put old mid xs a b c p q
 WritesUntil-put Read old mid xs a b c p q = absurd q

@@ -1,4 +1,4 @@
--- UTF-8 by its front: the first byte tells how long the first character is.
+-- UTF-8 from its start: the first byte gives the length of the first character.
 use Rattle.std.proofs.Common.{◌≡◌, ℕ, ◌+◌, ◌<◌, ◌≤◌, Bool, true, false, not, IsTrue, rules, ◌&&◌, ◌↔◌, List, [], ◌∷◌, ◌++◌, length, take, drop, get_or, eqb, add-one, set, zero, suc, ◌≢◌, get_or-set_other, refl, sym, ap, ◌∙◌, subst, arith, append_assoc, append-nil, IsUtf8, length-append}
 use Rattle.std.proofs.Math.Seq.{take-append_seam, drop-append_seam, drop-cons}
 use Rattle.std.proofs.lemmas.Bool.Decides.{nat_tests}
@@ -8,7 +8,7 @@ use Rattle.std.proofs.lemmas.Str.{IsUtf8-append, IsUtf8-nil, cons_from_encodes}
 use Rattle.std.proofs.Math.Utf8.{encode, encodes, scalar, scalars}
 use Rattle.rope_search_io.specs.Utf8Judge.{len_by_first, Judging, Continues}
 
--- two fronts of one length are the same front
+-- two prefixes of one length are the same
 pub fronts_same : (a b x y : List ℕ) → length a ≡ length b → a ++ x ≡ b ++ y → (a ≡ b) × (x ≡ y)
 fronts_same a b x y same whole = (
   sym (take-append_seam a x) ∙ ap (take (length a)) whole ∙ ap (λ n. take n (b ++ y)) same ∙ take-append_seam b y,
@@ -19,12 +19,12 @@ both_true : (x y : Bool) → x && y ≡ true → (x ≡ true) × (y ≡ true)
 both_true true y h = (refl, h)
 both_true false y h = cc
 
--- a character has as many bytes as its first byte says
+-- the length of a character is that given by its first byte
 pub width-encode : (c : ℕ) (rest : List ℕ) → len_by_first (get_or (encode c ++ rest) 0 0) ≡ length (encode c)
 unfolding encode
 width-encode c rest = grind (arith, nat_tests)
 
--- the first byte is that of the front
+-- the first byte is that of the prefix
 first_of : (part more : List ℕ) → 0 < length part → get_or (part ++ more) 0 0 ≡ get_or part 0 0
 first_of [] more h = absurd (omega arith)
 first_of (b ∷ part) more h = refl
@@ -39,7 +39,8 @@ front_whole part more (c ∷ cs) some width valid whole =
     let same = fronts_same (encode c) part (encodes cs) more one whole in
     ((c ∷ [], (ap (λ b. b && true) both.0, append-nil (encode c) ∙ same.0)), (cs, (both.1, same.1)))
 
--- where a text begins with as many bytes as its first byte says, these are a character, and what follows is a text
+-- if a text begins with as many bytes as its first byte gives, these are a character, and what
+-- follows is a text
 pub IsUtf8-split : (part more : List ℕ) → 0 < length part → length part ≡ len_by_first (get_or part 0 0) → IsUtf8 (part ++ more) → IsUtf8 part × IsUtf8 more
 IsUtf8-split part more some width text = front_whole part more text.0 some width text.1.0 text.1.1
 
@@ -58,7 +59,7 @@ after_chars (c ∷ cs) ds more valid whole =
     let found = cons_from_encodes ds (encodes cs ++ more) c (whole ∙ append_assoc (encode c) (encodes cs) more) in
     after_chars cs found.0 more (both_true (scalar c) (scalars found.0) (ap scalars (sym found.1) ∙ valid)).1 found.2
 
--- what follows a whole text is a text where both together are
+-- what follows a whole text is a text if both together are
 pub IsUtf8-after : (front more : List ℕ) → IsUtf8 front → IsUtf8 (front ++ more) → IsUtf8 more
 IsUtf8-after front more whole text = after_chars whole.0 text.0 more text.1.0 (text.1.1 ∙ ap (λ l. l ++ more) (sym whole.1.1))
 
@@ -73,7 +74,7 @@ IsTrue-not : (b : Bool) → not b ≡ false → IsTrue b
 IsTrue-not true h = search rules
 IsTrue-not false h = absurd (true≢false h)
 
--- the last byte of a character, judged with it
+-- the last byte of a character, checked with it
 pub Continues-closed : (part : List ℕ) (byte : ℕ) (text : Bool) (more : List ℕ)
     → length (part ++ byte ∷ []) ≡ len_by_first (get_or (part ++ byte ∷ []) 0 0) → (IsTrue text ↔ IsUtf8 (part ++ byte ∷ []))
     → Continues (record { part = part; dead = false }) (byte ∷ more) ↔ Continues (record { part = []; dead = not text }) more
@@ -96,7 +97,7 @@ first_width bytes (suc n) byte room few =
     let first : get_or (set bytes (suc n) byte) 0 0 ≡ get_or bytes 0 0 = get_or-set_other bytes (suc n) 0 byte 0 other in
     omega (arith, few (omega arith), ap len_by_first first)
 
--- the character that this byte ends has as many bytes as its first says
+-- the length of the character that this byte ends is that given by its first
 pub width_reached : (bytes : List ℕ) (len byte : ℕ) → len < length bytes → (0 < len → len < len_by_first (get_or bytes 0 0))
     → len_by_first (get_or (set bytes len byte) 0 0) ≤ len + 1
     → length (take len bytes ++ byte ∷ []) ≡ len_by_first (get_or (take len bytes ++ byte ∷ []) 0 0)
@@ -106,7 +107,7 @@ width_reached bytes len byte room few reached =
     ap (λ l. len_by_first (get_or l 0 0)) (sym grown) ∙ ap len_by_first (same_first (set bytes len byte) (len + 1) (omega arith)) in
     omega (arith, first, first_width bytes len byte room few, length-append (take len bytes) (byte ∷ []), length-take len bytes)
 
--- the end, where a part of a character may be left
+-- the end, at which a part of a character may be left
 pub Continues-end : (bytes : List ℕ) (len : ℕ) → len < length bytes → (0 < len → len < len_by_first (get_or bytes 0 0))
     → IsTrue (eqb len 0) ↔ Continues (record { part = take len bytes; dead = false }) []
 Continues-end bytes zero room few = (λ _. (refl, IsUtf8-nil), λ _. refl)
@@ -119,7 +120,7 @@ Continues-end bytes (suc n) room few =
       λ h. absurd (IsUtf8-part part (omega arith) short (subst IsUtf8 (append-nil part) h.1)),
     )
 
--- a text, where no character is under way
+-- a text, if no character is incomplete
 pub Continues-past : (dead : Bool) (front more : List ℕ) → IsUtf8 front
     → Continues (record { part = []; dead = dead }) (front ++ more) ↔ Continues (record { part = []; dead = dead }) more
 Continues-past dead front more text =
@@ -137,7 +138,7 @@ Continues-more old mid new bytes k byte inside is before step more =
       λ h. (before more).1 (subst (Continues mid) (sym next) ((step (drop (k + 1) bytes ++ more)).1 h)),
     )
 
--- a front and what follows it, one after the other
+-- a prefix and what follows it, one after the other
 pub Continues-two : (old mid new : Judging) (front back bytes : List ℕ) → front ++ back ≡ bytes
     → ((more : List ℕ) → Continues old (front ++ more) ↔ Continues mid more)
     → ((more : List ℕ) → Continues mid (back ++ more) ↔ Continues new more)

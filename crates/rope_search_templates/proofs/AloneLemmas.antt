@@ -1,4 +1,4 @@
--- Matches of which the spans alone are known.
+-- Matches with only their spans known.
 use Rattle.std.proofs.Common.{◌≡◌, ℕ, ◌+◌, ◌-◌, false, List, [], ◌∷◌, ◌++◌, map, refl, ap, ap₂, sym, ◌∙◌}
 use Rattle.std.proofs.lemmas.List.Sums.{sum_by-cons}
 use Rattle.str_indices.specs.Text.{byte_len}

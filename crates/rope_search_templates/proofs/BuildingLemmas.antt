@@ -1,10 +1,11 @@
--- A text built from its start on, in which matches are replaced one after the other.
+-- A text built from its start on, with matches replaced one after the other.
 use Rattle.std.proofs.Common.{◌≡◌, ℕ, List, [], ◌∷◌, ◌++◌, length, get_or, drop, subst, ◌+◌, ◌<◌, ◌∙◌, append_assoc}
 use Rattle.std.proofs.lemmas.List.{drop_more}
 use Rattle.rope_search_changes.specs.Replacement.{Groups, whole, between, expand, replaced}
 use Rattle.rope_search_templates.proofs.ContentLemmas.{AreLeft, left-behind}
 
--- what was built, and what the matches that are left make of what is behind a place, are the whole text
+-- the built text, followed by the rest after an offset with the remaining matches replaced, is the
+-- whole text
 pub record IsBuilt (content template : List ℕ) (at : ℕ) (matches : List Groups) (built all : List ℕ) : Type 0 where
   pub left : AreLeft content at matches
   pub text_is : built ++ replaced content template at matches ≡ all

@@ -1,4 +1,4 @@
--- A part of a text that lies in one chunk.
+-- A part of a text that is in one chunk.
 use Rattle.std.proofs.Common.{◌≡◌, ℕ, ◌-◌, ◌≤◌, List, [], ◌∷◌, ◌++◌, length, take, drop, chars, refl, sym, ap, subst, ◌∙◌, arith, append_assoc, append-nil, length-drop, IsUtf8}
 use Rattle.std.specs.Str.{IsCharBoundary}
 use Rattle.std.proofs.Math.Seq.{drop-append_seam}
@@ -33,11 +33,11 @@ chunk-in pieces chunk place start char line utf8 s =
       start_is = s.byte_is;
     }
 
--- at the start of a content stands a chunk of nothing
+-- there is an empty chunk at the start
 pub chunk-of-nothing : (content : List ℕ) → ChunkIn content [] 0
 chunk-of-nothing content = record { front = []; back = content; parts = refl; start_is = refl }
 
--- the part lies in it
+-- the part is in it
 module _ (content chunk : List ℕ) (at start end : ℕ) (is : ChunkIn content chunk at) (low : at ≤ start) (ordered : start ≤ end) (high : end - at ≤ length chunk) where
   pub same-part : take (end - start) (drop (start - at) chunk) ≡ take (end - start) (drop start content)
   same-part =

@@ -1,4 +1,4 @@
--- Parts of a content, and the matches in it that are left.
+-- Parts of a text's bytes, and the matches in it that are left.
 use Rattle.std.proofs.Common.{◌≡◌, ℕ, zero, suc, ◌+◌, ◌-◌, ◌≤◌, true, List, [], ◌∷◌, ◌++◌, length, take, drop, get_or, chars, refl, sym, ap, ◌∙◌, arith, length-append, length-take, length-drop, IsUtf8}
 use Rattle.std.specs.Char.{len_utf8}
 use Rattle.std.specs.Str.{IsCharBoundary, all_scalars}
@@ -19,7 +19,7 @@ byte_len-append xs ys = ap length (encodes-append xs ys) ∙ length-append (byte
 byte_len-one : (c : ℕ) (cs : List ℕ) → byte_len (c ∷ cs) ≡ len_utf8 c + byte_len cs
 byte_len-one c cs = omega (arith, length-append (encode c) (bytes_of cs), length-encode c)
 
--- two fronts of a text with as many bytes are the same, and so is what follows
+-- two prefixes of a text with equally many bytes are the same, and so is what follows
 pub fronts-one : (l r f b : List ℕ) → l ++ r ≡ f ++ b → byte_len l ≡ byte_len f → (l ≡ f) × (r ≡ b)
 fronts-one [] r [] b e same = (refl, e)
 fronts-one [] r (d ∷ ds) b e same = absurd (omega (arith, same, byte_len-one d ds, (len_utf8_bounds d).0))
@@ -45,10 +45,10 @@ scalars-parts (c ∷ cs) t all =
     let parts = scalars-parts cs t both.1 in
     (and_from _ _ both.0 parts.0, parts.1)
 
--- ---- parts of a content
+-- ---- parts of the bytes
 
 module _ (content : List ℕ) (utf8 : IsUtf8 content) where
-  -- what is behind a place is a part up to another, and what is behind that
+  -- the rest after an offset is a part up to another, and the rest after that
   pub split-at : (start end : ℕ) → start ≤ end → IsCharBoundary content start → IsCharBoundary content end
       → chars (drop start content) ≡ between content start end ++ chars (drop end content)
   split-at start end ordered starts ends =
@@ -62,7 +62,7 @@ module _ (content : List ℕ) (utf8 : IsUtf8 content) where
       ap length (encodes-chars (take (end - start) (drop start content)) (IsUtf8-between content start end utf8 ordered starts ends))
       ∙ omega (arith, length-take (end - start) (drop start content), length-drop start content, ends.0)
 
-  -- what is before a place, and the part from there to another
+  -- the text before an offset, and the part from there to another
   pub front-further : (start end : ℕ) → start ≤ end → IsCharBoundary content start → IsCharBoundary content end
       → chars (take end content) ≡ chars (take start content) ++ between content start end
   front-further start end ordered starts ends =
@@ -105,7 +105,7 @@ module _ (pieces : List (List ℕ)) (cut : IsCutting pieces) where
 
 -- ---- the matches that are left
 
--- they follow each other, from a place between characters on
+-- they follow each other, from a character boundary on
 pub record AreLeft (content : List ℕ) (at : ℕ) (matches : List Groups) : Type 0 where
   pub here : IsCharBoundary content at
   pub follow : FollowEachOther content at matches
@@ -114,6 +114,6 @@ pub record AreLeft (content : List ℕ) (at : ℕ) (matches : List Groups) : Typ
 pub all-left : (content : List ℕ) (matches : List Groups) → IsUtf8 content → AreMatchesIn content matches → AreLeft content 0 matches
 all-left content matches utf8 are = record { here = IsCharBoundary-start content utf8; follow = are.follow }
 
--- so do those behind the first of them
+-- so do those after the first of them
 pub left-behind : (content : List ℕ) (at : ℕ) (match : Groups) (matches : List Groups) → AreLeft content at (match ∷ matches) → AreLeft content (whole match).1 matches
 left-behind content at match matches left = record { here = left.follow.3; follow = left.follow.4 }

@@ -10,8 +10,8 @@ use Rattle.rope_search_changes.specs.Replacement.{Groups, whole, between, expand
 use Rattle.rope_search_templates.proofs.ContentLemmas.{byte_len-append, fronts-one, scalars-joined, scalars-parts, split-at, between-len, AreLeft}
 use Rattle.rope_search_templates.proofs.BuildingLemmas.{IsBuilt, built-more}
 
--- In this text the matches before these have been replaced, and what is behind a place is as it was;
--- it stands behind another place here.
+-- In this text the matches before these have been replaced, and the rest after an offset is
+-- unchanged; it starts at another offset here.
 pub record IsReplacedBefore (content template : List ℕ) (at at_new : ℕ) (matches : List Groups) (text all : List ℕ) : Type 0 where
   pub front : List ℕ
   pub built : IsBuilt content template at matches front all
@@ -45,7 +45,7 @@ replaced-next content template at at_new matches k text all inside is =
 
 module _ (content template : List ℕ) (utf8 : IsUtf8 content) (at at_new : ℕ) (match : Groups) (matches : List Groups) (old all : List ℕ)
     (is : IsReplacedBefore content template at at_new (match ∷ matches) old all) where
-  -- where the next match stands
+  -- where the next match is
   parts-there : old ≡ (is.front ++ between content at (whole match).0) ++ (between content (whole match).0 (whole match).1 ++ chars (drop (whole match).1 content))
   parts-there =
       let left = is.built.left in
@@ -68,7 +68,7 @@ module _ (content template : List ℕ) (utf8 : IsUtf8 content) (at at_new : ℕ)
       let f = is.built.left.follow in
       between-len content utf8 (whole match).0 (whole match).1 f.1 f.2 f.3
 
-  -- a place lies between characters where two parts of the text meet
+  -- an offset where two parts of the text meet is a character boundary
   seam : (front back : List ℕ) (place : ℕ) → old ≡ front ++ back → byte_len front ≡ place → IsCharBoundary (bytes_of old) place
   seam front back place parts len =
       let rest = (scalars-parts front back (sym (ap all_scalars parts) ∙ is.scalars)).1 in

@@ -1,4 +1,4 @@
--- What a template stands for, piece by piece.
+-- The expansion of a template, piece by piece.
 use Rattle.std.proofs.Common.{◌≡◌, ℕ, zero, suc, ◌-◌, ◌≤◌, ◌==◌, ◌&&◌, ◌||◌, Bool, true, false, List, [], ◌∷◌, ◌++◌, Option, Some, None, is_some, SomeIff, IfSome, nat_le, nat_lt, refl, ap, ap₂, sym, ◌∙◌, arith, inl, inr}
 use Rattle.std.proofs.lemmas.Bool.{cases_Bool}
 use Rattle.std.proofs.lemmas.Bool.Decides.{nat_tests}
@@ -14,7 +14,7 @@ use Rattle.rope_search_templates.specs.Pieces.{StartsPlain}
 abbrev pub is_dollar : ℕ → Bool
 is_dollar c = c == 36
 
--- ---- characters that stand for themselves
+-- ---- characters that are copied
 
 expand-other : (content : List ℕ) (groups : Groups) (c : ℕ) (cs : List ℕ) → is_dollar c ≡ false
     → expand content groups (c ∷ cs) ≡ c ∷ expand content groups cs
@@ -60,7 +60,7 @@ names-group test d cs low high =
     let digit : is_digit d ≡ true = grind (arith, nat_tests) in
     rw (other, digit) refl
 
--- where none is named, it is one text
+-- if none is named, it is one text
 pub expand-fixed : (content : List ℕ) (groups : Groups) (template : List ℕ) → names_groups template ≡ false
     → expand content groups template ≡ expand [] [] template
 expand-fixed content groups [] none = refl
@@ -73,7 +73,7 @@ expand-fixed content groups (c ∷ d ∷ rest) none = elim (cases_Bool ((c == 36
   ]
 ]
 
--- where no group but the whole match is named, the match's span is enough
+-- if only the whole match is named, the match's span is sufficient
 whole-told : (content : List ℕ) (groups : Groups) (number : ℕ) → number ≡ 0 → group_text content (alone (whole groups)) number ≡ group_text content groups number
 whole-told content [] zero first = chars-nil
 whole-told content (None ∷ others) zero first = chars-nil
@@ -103,9 +103,9 @@ expand-alone content groups (c ∷ d ∷ rest) none = elim (cases_Bool ((c == 36
     or-right false b is = is
     or-right true b is = absurd (cc)
 
--- ---- a template that stands for one text
+-- ---- a template with one expansion
 
--- in no text at all an empty match has its span
+-- in the empty text an empty match has its span
 pub nothing-spans : HasSpansIn [] (alone (0, 0))
 nothing-spans zero d low = record {
   ordered = omega arith;
@@ -127,7 +127,7 @@ same-told template (Some n) P none told = record {
   len_is = sym (told.1 ∙ ap byte_len (expand-fixed [] (alone (0, 0)) template none));
 }
 
--- a length, told where it is within a limit
+-- a length, if it is within a limit
 pub then-within : (len limit n : ℕ) → n ≡ len → SomeIff (then_some (nat_le len limit) len) (n ≤ limit) n
 then-within len limit n is = elim (cases_Bool (nat_le len limit)) [
   | inl low ↦ rw low (omega (arith, is, le-told len limit low), sym is)

@@ -1,4 +1,4 @@
--- What is left of a text, chunk by chunk.
+-- The rest of a text, chunk by chunk.
 use Rattle.std.proofs.Common.{◌≡◌, ℕ, ◌+◌, ◌-◌, ◌<◌, ◌≤◌, true, List, [], ◌∷◌, ◌++◌, length, take, drop, get_or, chars, refl, sym, ap, subst, ◌∙◌, arith, append_assoc, length-append, length-take, IsUtf8}
 use Rattle.std.specs.Str.{IsCharBoundary, all_scalars}
 use Rattle.std.proofs.Math.ListN.{get_or-append}
@@ -39,7 +39,7 @@ boundary-behind part rest n here low =
     let len = length-append part rest in
     (omega (arith, here.0, len), λ inside high. let found = here.1 (omega (arith, inside, len, n_is)) (omega (arith, is, high)) in omega (arith, is, found))
 
--- of a place behind another one, in what is behind that
+-- of an offset after another one, in the rest after that
 pub boundary-left : (content : List ℕ) (start end : ℕ) → start ≤ end → IsCharBoundary content start → IsCharBoundary content end → IsCharBoundary (drop start content) (end - start)
 boundary-left content start end ordered starts ends =
     let len : length (take start content) ≡ start = omega (arith, length-take start content, starts.0) in
@@ -48,7 +48,7 @@ boundary-left content start end ordered starts ends =
 
 -- ---- what was taken
 
--- so many bytes were taken of a text, and so many are still to come
+-- this number of bytes was taken of a text, and this number is still to come
 pub record IsTaken (all now taken : List ℕ) (len left : ℕ) : Type 0 where
   pub parts : all ≡ taken ++ now
   pub utf8 : IsUtf8 taken

@@ -1,4 +1,4 @@
--- How long a text gets whose matches are replaced.
+-- The length of a text whose matches are replaced.
 use Rattle.std.proofs.Common.{◌≡◌, ℕ, ◌+◌, ◌-◌, ◌<◌, ◌≤◌, List, [], ◌∷◌, ◌++◌, length, drop, get_or, ap, subst, ◌∙◌, arith, length-drop, IsUtf8}
 use Rattle.std.specs.Str.{IsCharBoundary}
 use Rattle.std.proofs.lemmas.List.{drop_more}
@@ -7,7 +7,7 @@ use Rattle.str_indices.specs.Text.{byte_len}
 use Rattle.rope_search_changes.specs.Replacement.{Groups, whole, between, expand, replaced}
 use Rattle.rope_search_templates.proofs.ContentLemmas.{byte_len-append, between-len, AreLeft, left-behind}
 
--- behind the last match everything stays
+-- after the last match everything stays
 pub len-none : (content template : List ℕ) (at : ℕ) → IsUtf8 content → IsCharBoundary content at → byte_len (replaced content template at []) ≡ length content - at
 len-none content template at utf8 here =
     ap length (encodes-chars (drop at content) (IsUtf8-drop content at utf8 here)) ∙ length-drop at content
@@ -22,7 +22,7 @@ len-more content template at match matches utf8 left =
 
 -- ---- whether it gets too long
 
--- so much room is left for what is behind a place
+-- this much room is left for the rest after an offset
 pub record HasRoom (content template : List ℕ) (at : ℕ) (matches : List Groups) (room limit len : ℕ) : Type 0 where
   pub left : AreLeft content at matches
   pub room_is : room + len ≡ limit + byte_len (replaced content template at matches)
@@ -41,7 +41,7 @@ room-more content template at match matches room limit len room' utf8 is less = 
   room_is = omega (arith, len-more content template at match matches utf8 is.left, is.room_is, less);
 }
 
--- no room for the gap, or for what comes behind it
+-- no room for the gap, or for what follows it
 pub room-gap : (content template : List ℕ) (at : ℕ) (match : Groups) (matches : List Groups) (room limit len : ℕ) → IsUtf8 content
     → HasRoom content template at (match ∷ matches) room limit len → room < (whole match).0 - at → limit < len
 room-gap content template at match matches room limit len utf8 is none = omega (arith, len-more content template at match matches utf8 is.left, is.room_is, none)

@@ -1,4 +1,4 @@
--- A template's first piece, by its bytes.
+-- A template's first piece, from its bytes.
 use Rattle.std.proofs.Common.{◌≡◌, ℕ, zero, suc, ◌+◌, ◌-◌, ◌<◌, ◌≤◌, false, List, [], ◌∷◌, ◌++◌, length, take, drop, slice_index, refl, ap, sym, subst, ◌∙◌, inl, inr, arith, IsUtf8, encode_utf8_all, encode_utf8, nat_lt, lit<, length-append, Option, Some, None}
 use Rattle.std.proofs.lemmas.Bool.{cases_Bool, eqb-true, eqb-false, eq-eqb}
 use Rattle.std.proofs.lemmas.Bool.Decides.{nat_tests}
@@ -16,7 +16,7 @@ use Rattle.rope_search_templates.proofs.ExpandLemmas.{is_dollar, expand-plain, e
 
 -- ---- ASCII
 
--- an ASCII character comes first where its byte does
+-- an ASCII character is first if its byte is
 chars-past : (b : ℕ) (bs : List ℕ) → b < 128 → IsUtf8 (b ∷ bs) → chars (b ∷ bs) ≡ b ∷ chars bs
 chars-past b bs low utf8 = chars_past_char (b ∷ bs) bs b utf8 (sym (ap (λ xs. xs ++ bs) (encode_ascii b low)))
 
@@ -48,7 +48,7 @@ none-first : (b : ℕ) (bs : List ℕ) → is_dollar b ≡ false → HasNoDollar
 none-first b bs other none zero low is = eqb-false b 36 other is
 none-first b bs other none (suc k) low is = none k (omega (arith, low)) is
 
--- ---- what comes first
+-- ---- the first character
 
 starts-encoded : (cs : List ℕ) → StartsPlain (encode_utf8_all cs) → StartsPlain cs
 starts-encoded [] plain = tt
@@ -67,7 +67,7 @@ starts-encoded (c ∷ cs) plain = elim (cases_Bool (nat_lt c 128)) [
 starts-plain : (bs : List ℕ) → IsUtf8 bs → StartsPlain bs → StartsPlain (chars bs)
 starts-plain bs utf8 plain = starts-encoded (chars bs) (subst StartsPlain (sym (encodes-chars bs utf8)) plain)
 
--- some characters where there are some bytes
+-- some characters if there are some bytes
 some-chars : (b : ℕ) (bs : List ℕ) → IsUtf8 (b ∷ bs) → 0 < length (chars (b ∷ bs))
 some-chars b bs utf8 = some-in (chars (b ∷ bs)) (encodes-chars (b ∷ bs) utf8)
   where
@@ -128,7 +128,7 @@ pub pair-ends : (left : List ℕ) (piece : Piece) → IsUtf8 left → BeginsWith
 pair-ends left (Text text) utf8 begins = IsCharBoundary-after_ascii left 1 utf8 (omega (arith, begins.0.two)) (omega (arith, begins.0.second_is))
 pair-ends left (Group number) utf8 begins = IsCharBoundary-after_ascii left 1 utf8 (omega (arith, begins.0.two)) (omega (arith, begins.0.second_is, begins.1))
 
--- a text up to the next dollar behind its first byte
+-- a text up to the next dollar after its first byte
 pub record IsFirstText (left text behind : List ℕ) (n : ℕ) : Type 0 where
   pub some : 0 < length left
   pub text_utf8 : IsUtf8 text

@@ -1,4 +1,4 @@
--- A text that is put behind another, part by part.
+-- A text that is appended to another, part by part.
 use Rattle.std.proofs.Common.{◌≡◌, ℕ, List, ◌++◌, length, take, drop, ap, sym, ◌∙◌, append_assoc}
 use Rattle.std.proofs.Math.Seq.{take-append_seam}
 use Rattle.std.proofs.Common.{string_bytes, Result, Ok, Err, OnErr, OnOk, is_ok, if◌then◌else◌}
@@ -8,13 +8,13 @@ use Rattle.std.specs.declared.alloc.Global.{Global}
 use Rattle.std.proofs.lemmas.List.{take-append-drop}
 use Rattle.std.proofs.lemmas.Str.{chars-append, IsUtf8-string_bytes}
 
--- a front of the whole stands behind the old text, and this is left of it
+-- a prefix of the whole follows the old text, and this is left of it
 pub record IsPushed (old new left whole : List ℕ) : Type 0 where
   pub front : List ℕ
   pub new_is : new ≡ old ++ front
   pub parts : whole ≡ front ++ left
 
--- some front of a text, behind the old one
+-- some prefix of a text, after the old one
 abbrev pub HasFront : List ℕ → List ℕ → List ℕ → Type 0
 HasFront old new whole = (len : ℕ) × (new ≡ old ++ take len whole)
 
@@ -30,7 +30,7 @@ pub pushed-front : (old new left whole : List ℕ) → IsPushed old new left who
 pushed-front old new left whole pushed =
     (length pushed.front, pushed.new_is ∙ ap (λ xs. old ++ xs) (sym (ap (take (length pushed.front)) pushed.parts ∙ take-append_seam pushed.front left)))
 
--- and a front of the next part
+-- and a prefix of the next part
 pub pushed-part : (old new left whole part behind new' : List ℕ) → IsPushed old new left whole → left ≡ part ++ behind → HasFront new new' part
     → HasFront old new' whole
 pushed-part old new left whole part behind new' pushed is has =
@@ -39,7 +39,7 @@ pushed-part old new left whole part behind new' pushed is has =
     let left-is : left ≡ some ++ rest = is ∙ ap (λ xs. xs ++ behind) (sym (take-append-drop has.0 part)) ∙ append_assoc some (drop has.0 part) behind in
     pushed-front old new' rest whole (pushed-next old new left whole some rest new' pushed left-is has.1)
 
--- behind the bytes of a string
+-- after the bytes of a string
 pub pushed-chars : (s s' : String Global) (part : List ℕ) → string_bytes s' ≡ string_bytes s ++ part
     → chars (string_bytes s') ≡ chars (string_bytes s) ++ chars part
 pushed-chars s s' part is = ap chars is ∙ chars-append (string_bytes s) part (IsUtf8-string_bytes s)

@@ -35,7 +35,7 @@ whole-is pieces = from-start (pieces_to_char (length (text_of pieces)) pieces) �
 
 -- ---- parts of it by bytes
 
--- from one place up to another
+-- from one offset up to another
 pub part-is : (content part : List ℕ) (start end : ℕ) → IsUtf8 content → start ≤ end → IsCharBoundary content start → IsCharBoundary content end
     → bytes_of part ≡ walk.between start end content → part ≡ between content start end
 part-is content part start end utf8 ordered starts ends is =

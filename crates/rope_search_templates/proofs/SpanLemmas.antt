@@ -34,7 +34,7 @@ span-of content groups number span all is =
     is-there (g ∷ gs) zero span is = omega arith
     is-there (g ∷ gs) (suc n) span is = let low = is-there gs n span is in omega (arith, low)
 
--- what is left of a template, and its first piece
+-- the rest of a template, and its first piece
 pub piece-len : (content : List ℕ) (groups : Groups) (left : List ℕ) (piece : Piece) (behind : List ℕ) → IsFirstPiece left piece behind
     → byte_len (expand content groups left) ≡ byte_len (shown content groups piece) + byte_len (expand content groups behind)
 piece-len content groups left piece behind first =

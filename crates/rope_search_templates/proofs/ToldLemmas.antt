@@ -1,4 +1,4 @@
--- The changes of matches that are told one after the other.
+-- The changes of matches that are expanded one after the other.
 use Rattle.std.proofs.Common.{◌≡◌, ℕ, ◌+◌, ◌<◌, List, [], ◌∷◌, ◌++◌, length, drop, get_or, ap, sym, subst, ◌∙◌, arith, append_assoc, vec_len, vec_capacity, IsUtf8}
 use Rattle.std.proofs.lemmas.List.{drop_more}
 use Rattle.str_indices.specs.Text.{byte_len}
@@ -9,7 +9,7 @@ use Rattle.rope_search_templates.specs.Told.{IsToldOf, IsToldOfNone, IsToldNext,
 use Rattle.rope_search_templates.proofs.ContentLemmas.{AreLeft, left-behind}
 use Rattle.rope_search_templates.proofs.LengthLemmas.{len-more}
 
--- changes that were told, and those of the matches that are left make them all
+-- the changes so far, and those of the remaining matches, are all
 pub record AreTold (content template : List ℕ) (at at_new : ℕ) (matches : List Groups) (told all : List Change) (len : ℕ) : Type 0 where
   pub left : AreLeft content at matches
   pub changes_are : told ++ changes_of content template at at_new matches ≡ all
@@ -27,7 +27,7 @@ told-more content template at at_new match matches told all len utf8 is =
       len_is = omega (arith, len-more content template at match matches utf8 is.left, is.len_is);
     }
 
--- so many of these matches are told
+-- this number of matches is expanded
 pub record AreToldUpTo (content template : List ℕ) (matches : List Groups) (count : ℕ) (told : Told) : Type 0 where
   pub same : IsToldOf template told
   pub are : AreTold content template told.at told.at_new (drop count matches) told.changes.items (changes_of content template 0 0 matches) (byte_len (replaced content template 0 matches))
@@ -50,7 +50,7 @@ module _ (content template : List ℕ) (matches : List Groups) where
     capacity = none.capacity;
   }
 
-  -- the next of them is behind those
+  -- the next of them is after those
   told-next : (count : ℕ) (told : Told) → count < length matches → AreToldUpTo content template matches count told
       → AreTold content template told.at told.at_new (get_or matches count [] ∷ drop (count + 1) matches) told.changes.items (changes_of content template 0 0 matches) (byte_len (replaced content template 0 matches))
   told-next count told inside is =

@@ -1,7 +1,7 @@
--- A part of a content, by the chunk that holds it.
+-- A part of a text's bytes, in the chunk that contains it.
 use Rattle.std.specs.Prelude.{◌≡◌, ℕ, List, ◌++◌, length}
 
--- a chunk of a content starts at a place: some bytes stand before it, and others behind it
+-- a chunk of the bytes starts at an offset, with some bytes before it, and others after it
 pub record ChunkIn (content chunk : List ℕ) (start : ℕ) : Type 0 where
   pub front : List ℕ
   pub back : List ℕ

@@ -1,4 +1,4 @@
--- The text of a template at one match after the other, and the changes that it makes.
+-- The expansions of a template for one match after the other, and their changes.
 use Rattle.std.specs.Prelude.{◌≡◌, ℕ, ◌+◌, ◌-◌, true, List, [], ◌∷◌, ◌++◌, chars, string_bytes, vec_len, vec_capacity}
 use Rattle.str_indices.specs.Text.{byte_len}
 use Rattle.rope_search_changes.specs.Replacement.{Groups, whole, expand}

@@ -1,4 +1,4 @@
-//! Matches replaced by what a template stands for, and parts of a text by others.
+//! Replaces matches by the expansions of a template, and parts of a text by others.
 #![tactic(auto)]
 
 pub mod laws;

@@ -1,4 +1,4 @@
-//! Parts of a text, each told by the chunk in which the one before starts.
+//! Parts of a text, each found from the chunk in which the one before starts.
 ghost use Rattle.std.specs.Prelude.{◌≡◌, ℕ, ◌≤◌, ◌++◌, take, length, OnOk, OnErr, IfSome, string_bytes};
 ghost use Rattle.std.specs.Str.{chars};
 ghost use Rattle.str_indices.specs.Text.{byte_len};
@@ -12,7 +12,7 @@ use std::alloc::AllocError;
 use std::marker::Model;
 
 /// The parts of a text. It keeps the chunk in which the last part starts, so that parts which
-/// follow each other take a look-up a chunk. Contracts see the text's chunks.
+/// follow each other take one look-up for each chunk. Contracts see the text's chunks.
 #[derive(Drop)]
 pub(crate) struct Parts<'a> {
     text: &'a Rope,
@@ -35,8 +35,8 @@ impl<'a> Model for Parts<'a> {
         × ChunkIn (bytes_of (text_of parts.text.now)) parts.chunk.now parts.start };
 }
 
-/// Puts the text of a slice behind what `out` has, chunk by chunk. Where memory is refused, a front
-/// of it may have been put there.
+/// Appends the text of a slice to `out`, chunk by chunk. If out of memory, a prefix of it may have
+/// been appended.
 fn push_slice(slice: RopeSlice<'_>, out: &mut String) -> Result<(), AllocError>
     ensures pushed { OnOk result (chars (string_bytes out.new) ≡
         chars (string_bytes out.old) ++ slice_text slice.entry) }
@@ -50,7 +50,7 @@ fn push_slice(slice: RopeSlice<'_>, out: &mut String) -> Result<(), AllocError>
 }
 
 impl<'a> Parts<'a> {
-    /// Those of a text, of which no chunk was looked up yet.
+    /// Returns the parts of a text, before the first look-up.
     pub(crate) fn of(text: &'a Rope) -> Parts<'a>
         ensures { result ≡ text.now }
     {
@@ -61,7 +61,7 @@ impl<'a> Parts<'a> {
         }
     }
 
-    /// Keeps the chunk that holds a place, unless it does so already.
+    /// Keeps the chunk that contains an offset, unless it already does.
     fn show(&mut self, place: usize)
         requires { place ≤ byte_len (text_of self.old) }
         ensures { self.new ≡ self.old }
@@ -73,7 +73,7 @@ impl<'a> Parts<'a> {
         }
     }
 
-    /// The part from one place to another, where it lies in the chunk that is kept.
+    /// Returns the part between two offsets, if it is in the kept chunk.
     fn in_chunk(&self, start: usize, end: usize) -> Option<&'a str>
         requires { IsSpanIn (bytes_of (text_of self.now)) (start, end) }
         ensures { IfSome result
@@ -85,10 +85,13 @@ impl<'a> Parts<'a> {
         Some(&self.chunk[start - self.start..end - self.start])
     }
 
-    /// Puts the part from one place to another behind what `out` has. Where memory is refused, a
-    /// front of it may have been put there. It is linear in the part; and `O(log t)` in a text of t
-    /// bytes where the part starts in another chunk than the one before, or ends in another than it
-    /// starts in.
+    /// Appends the part between two offsets to `out`. If out of memory, a prefix of it may have
+    /// been appended.
+    ///
+    /// # Complexity
+    ///
+    /// Linear in the part; plus `O(log t)` in a text of t bytes if the part starts in another chunk
+    /// than the one before, or spans chunks.
     pub(crate) fn push(
         &mut self,
         start: usize,
@@ -107,7 +110,7 @@ impl<'a> Parts<'a> {
         if let Some(part) = self.in_chunk(start, end) {
             return out.push_str(part);
         }
-        // For its facts alone.
+        // For the proof: the text's facts.
         let _ = self.text.len_bytes();
         push_slice(self.text.slice(..).byte_slice(start..end), out)
     }

@@ -1,4 +1,4 @@
-//! Templates: what takes the place of a match.
+//! Templates: the replacement of a match.
 ghost use Rattle.std.specs.Prelude.{◌≡◌, ℕ, ◌≤◌, false, true, List, [], ◌++◌, take, SomeIff, OnOk, OnErr, string_bytes};
 ghost use Rattle.std.specs.Str.{chars};
 ghost use Rattle.str_indices.specs.Text.{byte_len};
@@ -15,14 +15,14 @@ use crate::pieces::{Piece, Pieces};
 use std::alloc::AllocError;
 use std::marker::Model;
 
-/// What takes the place of a match. In it `$` and a digit stand for the text of the group with that
-/// number, which is empty where the group takes no part in the match, or is none of the pattern's;
-/// `$$` stands for a dollar, and every other character for itself, another `$` too. Each text is a
+/// The replacement of a match. In a template `$` and a digit expand to the text of the group with
+/// that number, which is empty if the group takes no part in the match, or isn't in the pattern.
+/// `$$` expands to a dollar. Every other character is copied, also another `$`. Each text is a
 /// template. Contracts see its characters.
 #[derive(Debug, Drop)]
 pub struct Template<'a> {
     text: &'a str,
-    // How many bytes it stands for, where that is the same at every match.
+    // The length of its expansion in bytes, if that is the same at every match.
     same_len: Option<usize>,
 }
 
@@ -39,8 +39,8 @@ impl<'a> Model for Template<'a> {
         × IfSome template.same_len (IsSame (chars template.text.now)) };
 }
 
-/// Puts what a piece of a template stands for behind what `out` has. Where memory is refused, a
-/// front of it may have been put there.
+/// Appends the expansion of a piece of a template to `out`. If out of memory, a prefix of it may
+/// have been appended.
 fn push_piece(
     piece: Piece<'_>,
     parts: &mut Parts<'_>,
@@ -68,7 +68,7 @@ fn push_piece(
 }
 
 impl<'a> Template<'a> {
-    /// The template with these characters. It takes no memory, and copies nothing. `O(m)` for m
+    /// Returns the template with these characters. Allocates and copies nothing. `O(m)` for m
     /// bytes.
     pub fn new(text: &'a str) -> Template<'a>
         ensures { result ≡ chars text.now }
@@ -84,7 +84,7 @@ impl<'a> Template<'a> {
         Template { text, same_len }
     }
 
-    /// Whether it stands for the same text at every match: it names no group.
+    /// Returns whether its expansion is the same at every match: it names no group.
     pub(crate) fn is_same(&self) -> bool
         ensures { result ≡ true → (content : List ℕ) (groups : Groups)
             → expand content groups self.now ≡ expand [] [] self.now }
@@ -92,14 +92,14 @@ impl<'a> Template<'a> {
         self.same_len.is_some()
     }
 
-    /// Its pieces, one after the other.
+    /// Returns an iterator over its pieces.
     fn pieces(&self) -> Pieces<'a>
         ensures { result ≡ self.now }
     {
         Pieces::new(self.text)
     }
 
-    /// Whether it names a group. Where it names none, it stands for one text, the same at every
+    /// Returns whether it names a group. If it names none, its expansion is the same at every
     /// match. `O(m)` for a template of m bytes.
     fn names_groups(&self) -> bool
         ensures named { result ≡ names_groups self.now }
@@ -114,8 +114,9 @@ impl<'a> Template<'a> {
         false
     }
 
-    /// Returns whether it names a group but the whole match, which is group 0. Where it names none,
-    /// the spans of matches are enough to replace them. `O(m)` for a template of m bytes.
+    /// Returns whether it names a group other than the whole match, which is group 0. If it
+    /// doesn't, the spans of matches are sufficient to replace them. `O(m)` for a template of m
+    /// bytes.
     pub fn names_explicit_groups(&self) -> bool
         ensures { result ≡ names_explicit_groups self.now }
     {
@@ -128,9 +129,9 @@ impl<'a> Template<'a> {
         false
     }
 
-    /// How many bytes of UTF-8 it stands for at a match; none where they are more than `limit`. It
-    /// reads no further than to where they are. `O(m)` for a template of m bytes that names a
-    /// group, however long the groups are; else `O(1)`.
+    /// Returns the length of its expansion for a match, in bytes of UTF-8, or `None` if that is
+    /// more than `limit`. Stops reading once it is. `O(m)` for a template of m bytes that names a
+    /// group, however long the groups are; otherwise `O(1)`.
     pub(crate) fn len_within(&self, limit: usize, found: Match<'_>) -> Option<usize>
         requires { (text : List ℕ) × IsText text × HasSpansIn (bytes_of text) (groups_in found) }
         ensures { (text : List ℕ) → IsText text → HasSpansIn (bytes_of text) (groups_in found.entry)
@@ -147,10 +148,13 @@ impl<'a> Template<'a> {
         Some(limit - left)
     }
 
-    /// Puts what it stands for at a match of a text behind what `out` has. Where memory is refused,
-    /// a front of that may have been put there. `O(m + n)` for a template of m bytes that stands
-    /// for n, and `O(log t)` for each group that isn't in the chunk of the one before, in a text of
-    /// t bytes.
+    /// Appends its expansion for a match of a text to `out`. If out of memory, a prefix of it may
+    /// have been appended.
+    ///
+    /// # Complexity
+    ///
+    /// `O(m + n)` for a template of m bytes with an expansion of n, plus `O(log t)` for each group
+    /// that isn't in the chunk of the one before, in a text of t bytes.
     pub(crate) fn expand(
         &self,
         parts: &mut Parts<'_>,

@@ -1,4 +1,4 @@
-//! What a template stands for at one match after the other, and the changes that this makes.
+//! The expansions of a template for one match after the other, and their changes.
 ghost use Rattle.std.specs.Prelude.{◌≡◌, ◌<◌, ◌≤◌, ◌^◌, IfOk, OnOk, string_bytes, vec_len, vec_capacity};
 ghost use Rattle.std.specs.Str.{chars};
 ghost use Rattle.ropey.specs.Chunks.{text_of};
@@ -13,24 +13,24 @@ use crate::templates::Template;
 use rope_search_changes::Change;
 use std::alloc::{AllocError, Global};
 
-/// What a template stands for at a match, and the changes that the matches up to that one make. A
-/// template is read once at each, and where it stands for the same text at every match once in all.
+/// The expansion of a template for a match, and the changes of the matches up to that one. The
+/// template is read once for each match, or only once if its expansion is always the same.
 #[derive(Drop)]
 pub(crate) struct Told {
     /// The text.
     pub(crate) text: String,
-    // Whether that is what the template stands for at every match.
+    // Whether that is the expansion for every match.
     is_same: bool,
     /// The changes.
     pub(crate) changes: Vec<Change>,
     /// Where the last match ends.
     pub(crate) at: usize,
-    // Where in the new text that ends which takes its place.
+    // Where its replacement ends in the new text.
     at_new: usize,
 }
 
 impl Told {
-    /// Of no match yet, with room for the changes of so many.
+    /// Returns the state before the first match, with room for `count` changes.
     pub(crate) fn new(alloc: Global, count: usize) -> Result<Told, AllocError>
         ensures { IfOk result (IsToldOfNone count) }
     {
@@ -44,7 +44,7 @@ impl Told {
         })
     }
 
-    /// Has the text be what the template stands for at a match of a text.
+    /// Sets the text to the expansion of the template for a match of a text.
     fn show(
         &mut self,
         template: &Template<'_>,
@@ -70,8 +70,7 @@ impl Told {
         Ok(())
     }
 
-    /// Tells what the template stands for at the next match of a text, and returns the change that
-    /// this makes.
+    /// Expands the template for the next match of a text, and returns the change of that.
     pub(crate) fn tell(
         &mut self,
         template: &Template<'_>,

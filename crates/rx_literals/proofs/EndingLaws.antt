@@ -1,4 +1,4 @@
--- What marks at nodes tell of where matches end.
+-- Where matches end, from marks at nodes.
 use Rattle.std.proofs.Common.{◌≡◌, ℕ, ◌+◌, ◌<◌, ◌≤◌, Bool, true, List, [], ◌∷◌, length, map, min, take, Option, None, Some, option_map, slice_get, refl, sym, ap, subst, ◌∙◌, arith, inl, inr}
 use Rattle.std.proofs.lemmas.Bool.{cases_lt}
 use Rattle.std.proofs.lemmas.Option.{same_Some, slice_get-map, slice_get_within}
@@ -25,7 +25,7 @@ module _ (is_word : ℕ → Bool) (p : Program Look (List Range)) (s : Search) w
   abbrev H : Haystack Look
   H = haystack_of (holds_in is_word p.line_terminator s) s
 
-  -- a look for the slice's end holds at no place before it
+  -- an assertion of the slice's end holds at no offset before it
   last_place : (i : ℕ) → H.holds end_text i ≡ true → min s.slice_end (length s.content) ≤ i
   last_place i holds =
       let none = none_left (after_in s i) holds in
@@ -52,12 +52,12 @@ module _ (is_word : ℕ → Bool) (p : Program Look (List Range)) (s : Search) w
     found_ends : MayCome marks p.start → (t : Outcome Notes) → IsFind (machine_of is_in is_word p s) fresh_notes s p.start (Some t) → end_of t ≡ min s.slice_end (length s.content)
     found_ends may t (is_found counts before) = ends may (path_trail put_note (first_by is_in) p.nodes H (walk_has_path counts.least.walk))
 
--- where they are closed and lie at the start, all matches end there
+-- if they are closed and the start is marked, all matches end there
 pub closed_ends : (p : Program Look (List Range)) (marks : List Bool) → MarksAreClosed p.nodes marks → MayCome marks p.start → EndsWithSlice p
 closed_ends p marks closed may is_word s t starts finds =
     found_ends is_word p s marks closed may t (subst (λ z. IfStarts z (IsFind (machine_of is_in is_word p s) fresh_notes s) (Some t)) starts finds)
 
--- ---- states that are gone through
+-- ---- states so far
 
 -- so far each of them leads on
 abbrev pub LeadSoFar : List State → List Bool → ℕ → Type 0

@@ -1,4 +1,4 @@
--- Needles that begin with few bytes, and the places where one of these bytes stands.
+-- Needles that begin with few bytes, and the offsets of these bytes.
 use Rattle.std.proofs.Common.{◌≡◌, ℕ, ◌+◌, ◌-◌, ◌<◌, ◌≤◌, Bool, true, List, [], ◌∷◌, take, drop, get_or, length, Some, None, slice_get, sym, ap, subst, ◌∙◌, arith, inl, inr}
 use Rattle.std.proofs.lemmas.Bool.{cases_lt}
 use Rattle.std.proofs.lemmas.List.{get_or-drop, length-drop, take_rest}
@@ -10,7 +10,7 @@ use Rattle.rx_literals.specs.declared.first_bytes.FirstBytes.{FirstBytes}
 use Rattle.rx_literals.specs.FirstBytes.{is_among, BeginsAmong, BeginAmong}
 use Rattle.rx_literals.specs.Needles.{FoundAt, no_needle, other_needle, FoundBetween, nowhere, at_least_place}
 
--- ---- the rest of a piece
+-- ---- the rest of a chunk
 
 module _ (test : ℕ → Bool) (hay : List ℕ) (from : ℕ) (inside : from ≤ length hay) where
   abbrev Rest : List ℕ
@@ -63,7 +63,7 @@ none_without first hay i absent (needle ∷ needles) begin =
     (none_without first hay i absent needles (All-tail (BeginsAmong first) needle needles begin))
 
 module _ (first : FirstBytes) (hay : List ℕ) (needles : List (List ℕ)) (begin : BeginAmong first needles) (from : ℕ) (none : (i : ℕ) → i < from → FoundAt hay i needles None) where
-  -- nothing is found before the next place at which one of the bytes stands
+  -- nothing is found before the next offset of one of the bytes
   pub none_before : (at : ℕ) → Nowhere (Passes (is_among first) hay) from at → (i : ℕ) → i < at → FoundAt hay i needles None
   none_before at absent i below = elim (cases_lt i from) [
     | inl under ↦ none i under
@@ -82,7 +82,7 @@ module _ (first : FirstBytes) (hay : List ℕ) (needles : List (List ℕ)) (begi
     | inr above ↦ (let same : at ≡ i = omega (arith, above, below) in subst (λ k. FoundAt hay k needles None) same here)
   ]
 
--- the bytes of one needle more
+-- the bytes of one more needle
 pub begins_more : (first more : FirstBytes) → ((x : ℕ) → is_among first x ≡ true → is_among more x ≡ true) → (needle : List ℕ) → BeginsAmong first needle → BeginsAmong more needle
 begins_more first more keeps needle begins = (begins.0, keeps _ begins.1)
 

@@ -1,4 +1,4 @@
--- What is found in a part, and from one place on, of what is found in all.
+-- Finds in a part, and from an offset on, compared with finds in all.
 use Rattle.std.proofs.Common.{◌≡◌, ℕ, ◌+◌, ◌-◌, ◌<◌, ◌≤◌, List, [], ◌∷◌, length, Option, Some, None, refl, sym, ap, subst, ◌∙◌, arith, inl, inr}
 use Rattle.std.specs.List.{All}
 use Rattle.std.proofs.lemmas.Bool.{cases_lt, eq-eqb, eqb-true}
@@ -17,7 +17,7 @@ moved at None = None
 moved at (Some span) = Some (record { start = at + span.start; end = at + span.end })
 
 module _ (hay bytes : List ℕ) (at : ℕ) (part : IsPart hay bytes at) where
-  -- a needle that occurs in all lies in the part
+  -- a needle that occurs in all is inside the part
   abbrev pub Lies : ℕ → List ℕ → Type 0
   Lies i needle = OccursAt bytes needle (at + i) → i + length needle ≤ length hay
 
@@ -35,7 +35,7 @@ module _ (hay bytes : List ℕ) (at : ℕ) (part : IsPart hay bytes at) where
         let same : at + (j - at) ≡ j = omega (arith, from) in
         subst (λ i. FoundAt bytes i needles None) same (found_out (lies (j - at) (omega (arith, below, low, from))) (none (j - at) (omega (arith, below, from))))
 
-    -- a find that the part tells
+    -- a find in the part
     pub told_found : {span : Span} → FoundBetween hay needles 0 (length hay) (Some span) → span.start < told
         → FoundBetween bytes needles at (at + length hay) (Some (record { start = at + span.start; end = at + span.end }))
     told_found {span} found below = by found refl
@@ -49,7 +49,7 @@ module _ (hay bytes : List ℕ) (at : ℕ) (part : IsPart hay bytes at) where
             at_least_place (at + i) (omega arith) (omega (arith, to)) (found_out (lies i low) here')
             (λ j from' below'. none_out i (λ k under. before k (omega arith) under) (omega (arith, low)) j from' below')
 
-    -- else none is found at the places that it tells of
+    -- otherwise none is found at the offsets of which the part decides
     pub untold : {out : Option Span} → FoundBetween hay needles 0 (length hay) out → ((span : Span) → out ≡ Some span → told ≤ span.start)
         → (j : ℕ) → at ≤ j → j < at + told → FoundAt bytes j needles None
     untold (nowhere none) late = none_out told (λ i below. none i (omega arith) (omega (arith, below, within))) (omega arith)
@@ -57,7 +57,7 @@ module _ (hay bytes : List ℕ) (at : ℕ) (part : IsPart hay bytes at) where
         let high = late span refl in
         none_out told (λ k below. before k (omega arith) (omega (arith, below, high, found_start here))) (omega arith)
 
--- from an earlier place on
+-- from an earlier offset on
 pub earlier : {bytes : List ℕ} {needles : List (List ℕ)} {from middle to : ℕ} {out : Option Span} → from ≤ middle
     → ((j : ℕ) → from ≤ j → j < middle → FoundAt bytes j needles None)
     → FoundBetween bytes needles middle to out → FoundBetween bytes needles from to out
@@ -65,7 +65,7 @@ earlier {middle = middle} before none (nowhere absent) = nowhere (λ i low high.
 earlier {middle = middle} before none (at_least_place i low high here absent) =
     at_least_place i (omega (arith, before, low)) high here (λ j low' below. elim (cases_lt j middle) [ inl under ↦ none j low' under | inr above ↦ absent j above below ])
 
--- up to a later place
+-- up to a later offset
 pub later : {bytes : List ℕ} {needles : List (List ℕ)} {from to further : ℕ} {span : Span} → to ≤ further
     → FoundBetween bytes needles from to (Some span) → FoundBetween bytes needles from further (Some span)
 later {bytes} {needles} {from} {to} {further} {span} wider found = by found refl
@@ -81,7 +81,7 @@ nowhere_between {bytes} {needles} {from} {to} found = by found refl
     by (nowhere none) e = none
     by (at_least_place i low high here absent) e = absurd (cc e)
 
--- ---- one needle alone
+-- ---- a single needle
 
 pub one_nowhere : (hay needle : List ℕ) → FindsNeedle hay needle 0 None → FoundBetween hay (needle ∷ []) 0 (length hay) None
 one_nowhere hay needle none = nowhere (λ i low high. other_needle (none i low (omega (arith, high))) no_needle)
@@ -99,9 +99,9 @@ end_inside {hay} {needles} {from} {to} {span} found = by found refl
     by (nowhere none) e = absurd (cc e)
     by (at_least_place i low high here absent) e = found_end (subst (λ o. FoundAt hay i needles o) e here)
 
--- ---- what a piece tells
+-- ---- what a chunk decides
 
--- at so many places of a part each needle that occurs lies in it
+-- at this number of offsets of a part each needle that occurs is inside it
 pub record Tells (hay bytes : List ℕ) (at : ℕ) (needles : List (List ℕ)) (told : ℕ) : Type 0 where
   pub within : told ≤ length hay
   pub lies : (i : ℕ) → i < told → All (λ needle. OccursAt bytes needle (at + i) → i + length needle ≤ length hay) needles
@@ -118,7 +118,7 @@ some_told hay bytes at told longest needles some all is = record {
   lies = λ i below k d in_list occurs. omega (arith, all k d in_list, below, is);
 }
 
--- the part of a piece that lies in a span is a part of the bytes up to the span's end
+-- the part of a chunk that is in a span is a part of the bytes up to the span's end
 pub piece_is_part : (content hay : List ℕ) (position end stop : ℕ) → position ≤ min stop end → end ≤ length content → hay ≡ between position (min stop end) content → IsPart hay (take stop content) position
 piece_is_part content hay position end stop before inside is =
     let high = min stop end in
@@ -137,7 +137,7 @@ piece_length content hay position end stop inside is =
     let low : min stop end ≤ length content = omega arith in
     ap length is ∙ length_between content position (min stop end) low
 
--- where a part doesn't tell what is found, the places that it doesn't tell of do
+-- if a part doesn't decide the find, the remaining offsets do
 pub told_else : (hay bytes : List ℕ) (at from stop : ℕ) → IsPart hay bytes at → (needles : List (List ℕ)) (told : ℕ) → Tells hay bytes at needles told → from ≡ at → from + length hay ≡ stop
     → {found out : Option Span} → FoundBetween hay needles 0 (length hay) found → ((span : Span) → found ≡ Some span → told ≤ span.start)
     → FoundBetween bytes needles (from + told) (from + length hay) out → FoundBetween bytes needles at stop out

@@ -1,4 +1,4 @@
--- Inputs over the same content that ask for the same.
+-- Inputs over the same haystack with the same request.
 use Rattle.std.proofs.Common.{◌≡◌, take, sym, ap, ap₂}
 use Rattle.rx_input.specs.Cursors.{IsSameContent}
 use Rattle.rx_input.specs.Inputs.{InputState, Asked}

@@ -1,4 +1,4 @@
--- Needles that stand for others.
+-- Needles that represent others.
 use Rattle.std.proofs.Common.{◌≡◌, ℕ, zero, suc, ◌+◌, ◌<◌, ◌≤◌, ◌⊎◌, List, [], ◌∷◌, ◌++◌, map, take, get_or, length, refl, sym, ap, subst, ◌∙◌, arith, inl, inr}
 use Rattle.std.proofs.lemmas.List.{map-append, take_more, take_all}
 use Rattle.memchr.specs.Find.{OccursAt}
@@ -29,7 +29,7 @@ occurs_alone bytes i x (other_occurs h) = none h
         by (this_occurs h) e = absurd (cc e)
         by (other_occurs h) e = absurd (cc e)
 
--- what begins with a needle has it where it occurs
+-- a text that begins with a needle has it where it occurs
 pub prefix_occurs : (literal other : List ℕ) → OccursAt literal other 0 → (bytes : List ℕ) (i : ℕ) → OccursAt bytes literal i → OccursAt bytes other i
 prefix_occurs literal other begins bytes i occurs = record {
   fits = omega (arith, begins.fits, occurs.fits);
@@ -44,7 +44,7 @@ module _ {X : Type 0} (f : X → List ℕ) where
   occurs_of (y ∷ ys) zero x below is bytes i h = this_occurs (subst (λ z. OccursAt bytes (f z) i) is h)
   occurs_of (y ∷ ys) (suc k) x below is bytes i h = other_occurs (occurs_of ys k x (omega (arith, below)) is bytes i h)
 
-  -- wherever one of the first needles occurs, one that is left does or one that is kept
+  -- if one of the first needles occurs, one that is left does or one that is kept
   abbrev pub AreLeft : List X → List X → List X → Type 0
   AreLeft needles left kept = (bytes : List ℕ) (i : ℕ) → OneOccursAt bytes i (map f needles) → OneOccursAt bytes i (map f left) ⊎ OneOccursAt bytes i (map f kept)
 
@@ -75,7 +75,7 @@ module _ {X : Type 0} (f : X → List ℕ) where
     | inr there ↦ inr (stand bytes i (other_occurs there))
   ]
 
-  -- once none is left, the kept ones stand for all
+  -- once none is left, the kept ones represent all
   pub kept_stand : (needles left kept : List X) → left ≡ [] → AreLeft needles left kept → StandFor (map f kept) (map f needles)
   kept_stand needles left kept none all bytes i h = elim (all bytes i h) [
     | inl here ↦ absurd (nothing (subst (λ xs. OneOccursAt bytes i (map f xs)) none here))
@@ -92,7 +92,7 @@ module _ {X : Type 0} (f : X → List ℕ) where
 pub stand_on : (first second third : List (List ℕ)) → StandFor second first → StandFor third second → StandFor third first
 stand_on first second third a b bytes i h = b bytes i (a bytes i h)
 
--- needles that stand for the first literals of a list
+-- needles that represent the first literals of a list
 module _ {X : Type 0} (f : X → List ℕ) (needles : List (List ℕ)) (xs : List X) where
   pub stand_for_none : StandFor needles (map f (take 0 xs))
   stand_for_none bytes i h = absurd (nothing h refl)

@@ -1,4 +1,4 @@
--- What a program finds whose matches are one literal.
+-- The results of a program whose matches are one literal.
 use Rattle.std.proofs.Common.{◌≡◌, ℕ, ◌+◌, ◌<◌, ◌≤◌, Bool, true, IsTrue, List, [], ◌∷◌, take, length, Option, Some, None, refl, sym, ap, subst, ◌∙◌, arith, inl}
 use Rattle.std.proofs.lemmas.List.{length-take, get_or-take}
 use Rattle.std.proofs.lemmas.List.Elements.{All-head, All-same}
@@ -16,7 +16,7 @@ use Rattle.rx_literals.specs.Beginnings.{FirstNeedle}
 use Rattle.rx_literals.specs.Literals.{FindsLiteral, MatchesOnly, literal_match, within, IsLiteralOf, LiesInSlice, LiteralsFind}
 use Rattle.rx_literals.proofs.SkipLaws.{occurs_in_more}
 
--- one needle alone: what is found at a place tells whether it occurs there
+-- a single needle: the find at an offset decides whether it occurs there
 record IsThere (bytes literal : List ℕ) (i : ℕ) (span : Span) : Type 0 where
   pub occurs : OccursAt bytes literal i
   pub span_is : record { start = i; end = i + length literal } ≡ span
@@ -43,7 +43,7 @@ none_there {bytes} {literal} {i} (other_needle {needle = needle} absent found) o
     let same : literal ≡ needle = cc one in
     absent (subst (λ n. OccursAt bytes n i) same occurs)
 
--- an occurrence that ends before a cut stands in the bytes up to it
+-- an occurrence that ends before a split is in the bytes up to it
 occurs_before : (content literal : List ℕ) (n m i : ℕ) → i + length literal ≤ n → n ≤ m → OccursAt (take m content) literal i → OccursAt (take n content) literal i
 occurs_before content literal n m i ends_ fewer occurs = record {
   fits = omega (arith, length-take n content, length-take m content, ends_, occurs.fits);
@@ -59,14 +59,14 @@ module _ (literal : List ℕ) (p : Program Look (List Range)) (is_word : ℕ →
   abbrev Bytes : List ℕ
   Bytes = take s.end s.content
 
-  -- it occurs where a start counts
+  -- it occurs at a start that counts
   occurs_there : {i : ℕ} {t : Outcome Notes} → Counts M fresh_notes s p.start i t → OccursAt Bytes literal i
   occurs_there {i} {t} counts =
       let told = (only is_word s i t counts.possible.0).0 counts.least in
       let high : highest s ≤ s.end = omega arith in
       occurs_in_more s.content literal (highest s) s.end i high told.0
 
-  -- and a start counts where it occurs in the slice
+  -- and a start counts if it occurs there in the slice
   counts_there : (i : ℕ) → s.start ≤ i → (IsTrue (is_anchored s.anchoring) → i ≡ s.start) → s.slice_start ≤ i → i + length literal ≤ s.slice_end → OccursAt Bytes literal i
       → Counts M fresh_notes s p.start i (literal_match (record { start = i; end = i + length literal }))
   counts_there i from at_start low high occurs =

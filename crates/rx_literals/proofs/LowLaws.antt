@@ -1,4 +1,4 @@
--- Walks that start at a place or behind it are the same where the span starts there.
+-- Walks that start at an offset or after it are the same if the span starts there.
 use Rattle.std.proofs.Common.{◌≡◌, ℕ, ◌≤◌, Bool, List, [], Option, Some, None, slice_get, refl, ap, ◌∙◌, arith}
 use Rattle.std.proofs.lemmas.Bool.Decides.{nat_tests}
 use Rattle.rx_walks.specs.Machines.{Machine, Outcome, IsForward}

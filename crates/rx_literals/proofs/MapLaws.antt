@@ -1,4 +1,4 @@
--- Lists that are made element by element, and characters that are put into them.
+-- Lists that are built element by element, and characters that are added to them.
 use Rattle.std.proofs.Common.{◌≡◌, ℕ, ◌+◌, ◌<◌, Bool, true, false, ◌||◌, List, [], ◌∷◌, ◌++◌, map, take, get_or, length, refl, sym, ap, ◌∙◌, arith, append_assoc}
 use Rattle.std.specs.Char.{IsScalar}
 use Rattle.std.specs.List.{Contains, list_any}
@@ -13,7 +13,7 @@ nothing [] none = refl
 nothing (x ∷ xs) none = absurd (omega (arith, none))
 
 module _ {X Y Z : Type 0} (f : X → Z) (g : Y → Z) where
-  -- an element goes from the front of one list to the end of another
+  -- an element moves from the front of one list to the end of another
   pub moved_on : (xs new : List X) (ys left : List Y) (x : X) (y : Y) (whole : List Z) → new ≡ xs ++ x ∷ [] → ys ≡ y ∷ left → f x ≡ g y → map f xs ++ map g ys ≡ whole → map f new ++ map g left ≡ whole
   moved_on xs new ys left x y whole is first same so_far =
       ap (λ zs. zs ++ map g left) (ap (map f) is ∙ map-append f xs (x ∷ [])) ∙ append_assoc (map f xs) (f x ∷ []) (map g left)

@@ -1,4 +1,4 @@
--- Needles in a part of the bytes that are searched, and needles one after the other.
+-- Needles in a part of the haystack, and needles one after the other.
 use Rattle.std.proofs.Common.{◌≡◌, ℕ, suc, ◌+◌, ◌-◌, ◌<◌, ◌≤◌, List, [], ◌∷◌, map, take, drop, get_or, length, Option, Some, None, refl, sym, ap, subst, ◌∙◌, add-one, drop-cons, arith, length-drop}
 use Rattle.std.specs.Prelude.{◌↔◌}
 use Rattle.std.specs.List.{All}
@@ -12,7 +12,7 @@ use Rattle.memchr.specs.Find.{OccursAt}
 use Rattle.rx_util.specs.declared.search.Span.{Span}
 use Rattle.rx_literals.specs.Needles.{IsNeedle, FoundAt, no_needle, this_needle, other_needle}
 
--- the bytes from a place on begin with these
+-- the bytes from an offset on begin with these
 pub record IsPart (hay bytes : List ℕ) (at : ℕ) : Type 0 where
   pub inside : at + length hay ≤ length bytes
   pub reads : (k : ℕ) → k < length hay → get_or hay k 0 ≡ get_or bytes (at + k) 0
@@ -36,7 +36,7 @@ occurs_in hay bytes needle at i part fits occurs = record {
 pub rest_is : (bytes : List ℕ) (at : ℕ) → at ≤ length bytes → IsPart (drop at bytes) bytes at
 rest_is bytes at inside = record { inside = omega (arith, length-drop at bytes, inside); reads = λ k below. get_or-drop at bytes k 0 }
 
--- what the bytes from a place on begin with occurs there
+-- what the bytes from an offset on begin with occurs there
 pub prefix_is : (bytes needle : List ℕ) (at : ℕ) → at ≤ length bytes → OccursAt (take (length bytes - at) (drop at bytes)) needle 0 ↔ OccursAt bytes needle at
 prefix_is bytes needle at inside =
     let part = rest_is bytes at inside in
@@ -49,7 +49,7 @@ prefix_is bytes needle at inside =
 -- ---- one needle after the other
 
 module _ {X : Type 0} (items : X → List ℕ) (bytes : List ℕ) (at : ℕ) where
-  -- what is found of the needles from one on is what is found of all
+  -- the find of the needles from one on is that of all
   abbrev pub Carries : List X → ℕ → Type 0
   Carries xs k = (out : Option Span) → FoundAt bytes at (map items (drop k xs)) out → FoundAt bytes at (map items xs) out
 
@@ -76,7 +76,7 @@ none_past bytes i past (needle ∷ needles) each =
     let some = All-head IsNeedle needle needles each in
     other_needle (λ occurs. omega (arith, occurs.fits, some.0, past)) (none_past bytes i past needles (All-tail IsNeedle needle needles each))
 
--- what is found starts at the place
+-- a find starts at the offset
 pub found_start : {bytes : List ℕ} {i : ℕ} {needles : List (List ℕ)} {span : Span} → FoundAt bytes i needles (Some span) → span.start ≡ i
 found_start found = by found refl
   where
@@ -121,7 +121,7 @@ module _ {X : Type 0} (items : X → List ℕ) (bytes : List ℕ) (at : ℕ) (xs
 pub found_none : {X : Type 0} (items : X → List ℕ) (bytes : List ℕ) (at : ℕ) (xs : List X) (k : ℕ) (view : List (List ℕ)) → view ≡ map items xs → length xs ≤ k → Carries items bytes at xs k → FoundAt bytes at view None
 found_none items bytes at xs k view same over carries = subst (λ v. FoundAt bytes at v None) (sym same) (carries_end items bytes at xs k over carries)
 
--- what is found ends in the bytes
+-- a find ends in the bytes
 pub found_end : {bytes : List ℕ} {i : ℕ} {needles : List (List ℕ)} {span : Span} → FoundAt bytes i needles (Some span) → span.end ≤ length bytes
 found_end {bytes} found = by found refl
   where

@@ -1,11 +1,11 @@
--- The part of a content that a piece has of a span.
+-- The part of a haystack that is in a chunk and in a span.
 use Rattle.std.proofs.Common.{◌≡◌, ℕ, ◌+◌, ◌-◌, ◌≤◌, List, [], take, drop, length, min, sym, ap, ap₂, ◌∙◌, arith, inl, inr}
 use Rattle.std.proofs.lemmas.Bool.{cases_lt}
 use Rattle.std.proofs.lemmas.List.{take-take, drop-take, drop_all, length-take, length-drop, length-take-le}
 use Rattle.std.proofs.Common.{drop-drop}
 use Rattle.rx_input.specs.Inputs.{between}
 
--- what stands between two places, as a part of a piece
+-- the bytes between two offsets, as a part of a chunk
 pub between_is : (content : List ℕ) (start end from to : ℕ) → start + to ≤ end → from ≤ to
     → take (to - from) (drop from (take (end - start) (drop start content))) ≡ between (start + from) (start + to) content
 between_is content start end from to inside ordered =
@@ -21,8 +21,8 @@ none_between content from to done = drop_all from (take to content) (omega (arit
 pub length_between : (content : List ℕ) (from to : ℕ) → to ≤ length content → length (between from to content) ≡ to - from
 length_between content from to inside = length-drop from (take to content) ∙ ap (λ n. n - from) (length-take-le to content inside)
 
--- of a piece from `start` to `end` what lies in a span up to `stop`, from the position on: `pos` is
--- its index in the piece, `to` that of the span's end
+-- of a chunk from `start` to `end` the part in a span up to `stop`, from the position on: `pos` is
+-- its index in the chunk, `to` that of the span's end
 pub left_is : (content : List ℕ) (start end stop position pos to from : ℕ) → start ≤ end → end ≤ length content
     → start + pos ≡ position → position ≤ end
     → to ≡ min (stop - start) (length (take (end - start) (drop start content))) → from ≡ min pos to

@@ -1,4 +1,4 @@
--- What marks at nodes tell of a node that each match passes, and what is read from such a node on.
+-- A node that each match passes, from marks at nodes, and what is read from such a node on.
 use Rattle.std.proofs.Common.{◌≡◌, ℕ, ◌+◌, ◌<◌, ◌≤◌, Bool, true, List, [], ◌∷◌, ◌++◌, length, map, take, string_bytes, Option, None, Some, IfSome, option_map, slice_get, refl, sym, ap, subst, ◌∙◌, arith, inl, inr, length-append}
 use Rattle.std.specs.Char.{IsScalar, encode_utf8}
 use Rattle.std.proofs.lemmas.Bool.{cases_eq, cases_lt}
@@ -68,12 +68,12 @@ module _ (is_word : ℕ → Bool) (p : Program Look (List Range)) (s : Search) (
         record { at = next.at; behind = omega (arith, edge_on edge, next.behind); path = next.path })
   ]
 
--- where marks stop at a node, and the start is marked, each match passes the node
+-- if marks stop at a node, and the start is marked, each match passes the node
 pub closed_passes : (p : Program Look (List Range)) (stop : ℕ) (marks : List Bool) → MarksStopAt p.nodes stop marks → MayCome marks p.start → PassesNode p stop
 closed_passes p stop marks closed may is_word s i pattern e path =
     passes is_word p s stop marks closed may (path_trail put_note (first_by is_in) p.nodes (haystack_of (holds_in is_word p.line_terminator s) s) path)
 
--- ---- states that are gone through
+-- ---- states so far
 
 -- so far each of them leads on
 abbrev pub StopSoFar : List State → ℕ → List Bool → ℕ → Type 0
@@ -139,10 +139,10 @@ contains_it p q literal passes first is_word s i choices t inside walk =
       occurs = this_occurs (occurs_in_fewer s.content literal (highest s) t.end from.at ends_ (omega (arith, far.1, far.3, far.4)) far.4 takes.0);
     }
 
--- ---- what that tells of a search
+-- ---- what that means for a search
 
 module _ (needles : List (List ℕ)) (p : Program Look (List Range)) (is_word : ℕ → Bool) (s : Search) (contain : MatchesContain needles p) where
-  -- a needle occurs behind a start that counts
+  -- a needle occurs after a start that counts
   needle_from : {i : ℕ} {t : Outcome Notes} → Counts (machine_of is_in is_word p s) fresh_notes s p.start i t → OneOccursFrom (take s.end s.content) i needles
   needle_from {i} {t} counts =
       let kept = walk_keeps is_in is_word p s counts.least.walk in

@@ -11,7 +11,7 @@ get_or_mapped f (x ∷ xs) zero d e below = refl
 get_or_mapped f (x ∷ xs) (suc k) d e below = get_or_mapped f xs k d e (omega (arith, below))
 
 module _ {A : Type 0} (f : A → List ℕ) (xs : List A) where
-  -- what is known of each up to an index behind the last one
+  -- what is known of each up to an index after the last one
   pub all_of : (P : List ℕ → Type 0) (k : ℕ) → length xs ≤ k → All (λ x. P (f x)) (take k xs) → All P (map f xs)
   all_of P k over all = All-map P f xs (subst (λ ys. All (λ x. P (f x)) ys) (take_all k xs over) all)
 

@@ -1,4 +1,4 @@
--- Walks of a program over a literal that stands alone.
+-- Walks of a program over a single literal.
 use Rattle.std.proofs.Common.{◌≡◌, ℕ, zero, suc, ◌+◌, ◌≤◌, Bool, true, List, [], ◌∷◌, ◌++◌, take, drop, length, drop-drop, Some, None, slice_get, refl, sym, ap, subst, ◌∙◌, arith, length-append, append_assoc, cond, inl}
 use Rattle.std.specs.Char.{len_utf8, encode_utf8}
 use Rattle.std.proofs.lemmas.Bool.{cases_eq}
@@ -126,7 +126,7 @@ module _ (is_word : ℕ → Bool) (p : Program Look (List Range)) (s : Search) w
       ∙ ap (λ b. only_if b (ends 0)) (within_both (lowest s) (highest s) i low high)
       )
 
-  -- ---- places
+  -- ---- offsets
 
   low_there : (i : ℕ) → IsInside s i → lowest s ≤ i
   low_there i inside = omega (arith, inside.0, inside.2)
@@ -137,7 +137,7 @@ module _ (is_word : ℕ → Bool) (p : Program Look (List Range)) (s : Search) w
   end_there : (literal : List ℕ) (i : ℕ) → OccursAt Bytes literal i → i + length literal ≤ highest s
   end_there literal i occurs = omega (arith, occurs.fits, length-take (highest s) s.content)
 
--- of two pieces of text that stand one behind the other
+-- of two adjacent pieces of text
 occurs_parts : (bytes literal more : List ℕ) (i : ℕ) → OccursAt bytes (literal ++ more) i → OccursAt bytes literal i × (rest : List ℕ) × (drop (i + length literal) bytes ≡ more ++ rest)
 occurs_parts bytes literal more i occurs =
     let long = length-append literal more in
@@ -201,7 +201,7 @@ spells_on p literal more q c r over is spells = subst (λ xs. SpellsLiteral p xs
         (read_path is_word p s over.ranges c q r (i + length literal) pattern e parts.1 over.only over.here_is low (end_there is_word p s literal i parts.0) parts.2
         (subst (λ n. Path (machine_of is_in is_word p s) r n pattern e) (sym (behind i)) path))
 
--- ---- the literal's match is all that there is
+-- ---- the literal's match is the only one
 
 module _ (p : Program Look (List Range)) (literal : List ℕ) (q : ℕ) (spells : SpellsLiteral p literal q) (ending : NotesEnd p q) where
   abbrev Here : ℕ → Outcome Notes

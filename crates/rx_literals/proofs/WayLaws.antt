@@ -1,4 +1,4 @@
--- Following the ways that lead from a program's start.
+-- Following the paths from a program's start.
 use Rattle.std.proofs.Common.{◌≡◌, ℕ, zero, suc, ◌+◌, ◌-◌, ◌<◌, ◌≤◌, Bool, true, List, [], ◌∷◌, ◌++◌, map, take, drop, get_or, length, Option, Some, None, Result, Ok, Err, OnOk, IfOk, slice_get, refl, sym, ap, subst, ◌∙◌, arith, append_assoc, length-append, length-drop}
 use Rattle.std.proofs.Math.Seq.{take-append_seam}
 use Rattle.std.specs.Char.{IsScalar, encode_utf8}
@@ -25,7 +25,7 @@ use Rattle.rx_literals.specs.Needles.{OneOccursAt, this_occurs, other_occurs}
 use Rattle.rx_literals.specs.Beginnings.{MatchesBeginWith}
 use Rattle.rx_literals.specs.Ways.{Stem, OneOf, this_one, other_one, TakesStem, StemsLeadTo, StemsGoOn, HasMembers, StandFor, branches, readings}
 
--- what is known where nothing was refused may be said in other words
+-- what is known without an error, in another form
 pub on_ok : {T E : Type 0} {P Q : Type 0} (r : Result T E) → (P → Q) → OnOk r P → OnOk r Q
 on_ok (Ok x) f h = f h
 on_ok (Err e) f h = h
@@ -45,14 +45,14 @@ one_of_map P f [] k x below is h = absurd (omega (arith, below))
 one_of_map P f (y ∷ ys) zero x below is h = this_one (subst (λ z. P (f z)) (sym is) h)
 one_of_map P f (y ∷ ys) (suc k) x below is h = other_one (one_of_map P f ys k x (omega (arith, below)) is h)
 
--- one in front is replaced by others behind
+-- the first one is replaced by others at the end
 pub replaced : {X : Type 0} (P : X → Type 0) (x : X) (old more new : List X) → new ≡ old ++ more → (P x → OneOf P more) → OneOf P (x ∷ old) → OneOf P new
 replaced P x old more new is f (this_one h) = subst (OneOf P) (sym is) (one_right P old more (f h))
 replaced P x old more new is f (other_one h) = subst (OneOf P) (sym is) (one_left P more h)
 
 -- ---- the edges of a node
 
--- its one edge is an empty one to this node, if a look that it asks for holds
+-- its only edge is an epsilon transition to this node, if an assertion holds
 abbrev pub GoesTo : Option (Node Look (List Range)) → ℕ → Type 0
 GoesTo (Some (pass (q ∷ []))) r = q ≡ r
 GoesTo (Some (note slot q)) r = q ≡ r
@@ -92,7 +92,7 @@ module _ (is_word : ℕ → Bool) (p : Program Look (List Range)) (s : Search) (
       absurd (cc (only_reads (H.holds l i) (goes (q' ∷ [])) (reads_by (first_by is_in) H p.nodes q i to j (Some (look l q')) at is)))
   goes_at q r i _ at same path = absurd same
 
-  -- an empty edge that is taken
+  -- an epsilon transition that is followed
   pub record IsTaken (rs : List ℕ) (i : ℕ) : Type 0 where
     pub to : ℕ
     pub index : ℕ
@@ -136,7 +136,7 @@ module _ (is_word : ℕ → Bool) (p : Program Look (List Range)) (s : Search) (
         path = subst (λ n. Path M r n pattern e) width (subst (λ x. Path M x j pattern e) taken.3 path);
       }
 
--- a literal goes on with what stands behind it
+-- a literal is extended by what follows it
 pub occurs_longer : (bytes literal more rest : List ℕ) (i : ℕ) → OccursAt bytes literal i → drop (i + length literal) bytes ≡ more ++ rest → OccursAt bytes (literal ++ more) i
 occurs_longer bytes literal more rest i occurs behind =
     let whole : drop i bytes ≡ (literal ++ more) ++ rest = OccursAt-split bytes literal i occurs ∙ ap (λ xs. literal ++ xs) behind ∙ sym (append_assoc literal more rest) in
@@ -144,7 +144,7 @@ occurs_longer bytes literal more rest i occurs behind =
     let fits : i + length (literal ++ more) ≤ length bytes = omega (arith, long, length-append literal more, occurs.fits) in
     OccursAt-from_part bytes (literal ++ more) i fits (ap (take (length (literal ++ more))) whole ∙ take-append_seam (literal ++ more) rest)
 
--- ---- stems go on
+-- ---- stems are extended
 
 pub goes_on_there : (here : Option (Node Look (List Range))) (stem : Stem) (old new : List Stem) → new ≡ old ++ stem ∷ [] → StemsGoOn here stem old new
 goes_on_there here stem old new is p at is_word s i pattern e inside =
@@ -197,7 +197,7 @@ path_grows forward (at_end is) = omega arith
 path_grows forward (by_edge rs r k is at path) = path_grows forward path
 path_grows {q = q} {i = i} forward (by_read r j is path) = omega (arith, forward i j q r is, path_grows forward path)
 
--- an occurrence that ends before a cut stands in the bytes up to it
+-- an occurrence that ends before a split is in the bytes up to it
 pub occurs_in_fewer : (content literal : List ℕ) (high e i : ℕ) → i + length literal ≤ e → e ≤ high → e ≤ length content → OccursAt (take high content) literal i → OccursAt (take e content) literal i
 occurs_in_fewer content literal high e i ends_ below inside occurs = record {
   fits = omega (arith, length-take e content, ends_, inside);
@@ -221,7 +221,7 @@ begin_with p stems needles leads stand is_word s i choices t inside walk =
     let far = inside_of s t.end (walk_keeps is_in is_word p s walk).inside in
     stand (take t.end s.content) i (one_begins p is_word s i t.pattern t.end (omega (arith, far.1, far.3, far.4)) far.4 one)
 
--- ---- stems that are made one by one
+-- ---- stems that are built one by one
 
 pub branches_all : (literal nodes : List ℕ) (k : ℕ) (base items : List Stem) → length nodes ≤ k → items ≡ base ++ branches literal (take k nodes) → items ≡ base ++ branches literal nodes
 branches_all literal nodes k base items over so_far = so_far ∙ ap (λ xs. base ++ branches literal xs) (take_all k nodes over)
@@ -230,7 +230,7 @@ pub readings_of : (first second : Stem) (characters others : List ℕ) (next : �
 readings_of first second characters others next base items same alike is =
     is ∙ ap (λ (s : Stem). base ++ readings s.literal characters next) same ∙ ap (λ xs. base ++ readings second.literal xs next) alike
 
--- ---- what is made of a program
+-- ---- the result for a program
 
 pub begin_if : {E : Type 0} (p : Program Look (List Range)) (stems : List Stem) (needles : List (List ℕ)) (r : Result (Option (List (List ℕ))) E)
     → StemsLeadTo p (record { literal = []; node = p.start } ∷ []) stems → StandFor needles (map (λ stem. stem.literal) stems)

@@ -1,4 +1,4 @@
--- Programs whose matches begin with needles, and what that tells of a search.
+-- Programs whose matches begin with needles, and what that means for a search.
 use Rattle.std.specs.Prelude.{◌≡◌, ℕ, Bool, List, [], take, Option, Some, None}
 use Rattle.rx_sets.specs.Sets.{Range}
 use Rattle.rx_utf8.specs.Automata.{is_in}
@@ -11,26 +11,26 @@ use Rattle.rx_walks.specs.Programs.{Program, Notes, fresh_notes}
 use Rattle.rx_walks.specs.ProgramFinds.{ProgramFinds, machine_of}
 use Rattle.rx_literals.specs.Needles.{AreNeedles, FoundBetween, OneOccursAt}
 
--- what a walk takes from the start node, at a place of the search, to the end of a match begins with
--- one of the needles
+-- the bytes that a walk reads from the start node, at an offset of the search, to a match end begin
+-- with one of the needles
 abbrev pub MatchesBeginWith : List (List ℕ) → Program Look (List Range) → Type 0
 MatchesBeginWith needles p =
     (is_word : ℕ → Bool) (s : Search) (i : ℕ) (choices : List ℕ) (t : Outcome Notes) → IsInside s i
     → Walk (machine_of is_in is_word p s) [] (fresh_notes i) p.start i choices t
     → OneOccursAt (take t.end s.content) i needles
 
--- what is found of the needles in a search's span
+-- the first occurrence of the needles in a search's span
 abbrev pub FirstNeedle : List (List ℕ) → Search → Option Span → Type 0
 FirstNeedle needles s out = FoundBetween (take s.end s.content) needles s.start s.end out
 
--- where none is found, the program finds nothing
+-- if there is none, the program finds nothing
 abbrev pub NoNeedleNoMatch : Type 0
 NoNeedleNoMatch = (needles : List (List ℕ)) (p : Program Look (List Range)) (is_word : ℕ → Bool)
     (s : Search)
     → AreNeedles needles → MatchesBeginWith needles p → s.anchoring ≡ unanchored
     → FirstNeedle needles s None → ProgramFinds is_in is_word p s None
 
--- where one is found, the program finds what it finds from there on
+-- if there is one, the program finds what it finds from there on
 abbrev pub MatchesComeBehind : Type 0
 MatchesComeBehind = (needles : List (List ℕ)) (p : Program Look (List Range)) (is_word : ℕ → Bool)
     (s : Search) (span : Span) (out : Option (Outcome Notes))

@@ -4,7 +4,7 @@ use Rattle.memchr.specs.Find.{is_byte, is_byte2, is_byte3}
 use Rattle.rx_literals.specs.declared.first_bytes.FirstBytes.{FirstBytes}
 use Rattle.rx_literals.specs.declared.first_bytes.FirstBytes.TheVariants as first
 
--- the test that a byte is one of these
+-- the test whether a byte is one of these
 abbrev pub is_among : FirstBytes → ℕ → Bool
 is_among (first.One a) x = is_byte a x
 is_among (first.Two a b) x = is_byte2 a b x
@@ -14,6 +14,6 @@ is_among (first.Three a b c) x = is_byte3 a b c x
 abbrev pub BeginsAmong : FirstBytes → List ℕ → Type 0
 BeginsAmong bytes needle = (1 ≤ length needle) × (is_among bytes (slice_index needle 0) ≡ true)
 
--- each of the needles has one of them
+-- each of the needles begins with one of them
 abbrev pub BeginAmong : FirstBytes → List (List ℕ) → Type 0
 BeginAmong bytes needles = All (BeginsAmong bytes) needles

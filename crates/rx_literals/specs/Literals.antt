@@ -1,4 +1,4 @@
--- Programs whose matches are one literal, and what that tells of a search.
+-- Programs whose matches are one literal, and what that means for a search.
 use Rattle.std.specs.Prelude.{◌≡◌, ℕ, ◌+◌, ◌<◌, ◌≤◌, ◌↔◌, Bool, List, [], ◌∷◌, length, take, Some, None}
 use Rattle.memchr.specs.Find.{OccursAt}
 use Rattle.rx_sets.specs.Sets.{Range}
@@ -13,7 +13,7 @@ use Rattle.rx_walks.specs.ProgramFinds.{ProgramFinds, highest, machine_of}
 use Rattle.rx_literals.specs.Needles.{AreNeedles, FoundAt}
 use Rattle.rx_literals.specs.Beginnings.{FirstNeedle}
 
--- the match of the first pattern that takes a span, and notes nothing besides its start and its end
+-- the match of the first pattern that takes a span, and notes only its start and its end
 abbrev pub literal_match : Span → Outcome Notes
 literal_match span = record {
   pattern = 0;
@@ -21,8 +21,8 @@ literal_match span = record {
   notes = record { start = span.start; noted = (1, span.end) ∷ (0, span.start) ∷ [] };
 }
 
--- from a place of a search the least walk from the start node comes to the literal's match, if the
--- literal occurs there, and else there is none
+-- from an offset of a search the least walk from the start node has the literal's match, if the
+-- literal occurs there, otherwise there is none
 abbrev pub MatchesOnly : List ℕ → Program Look (List Range) → Type 0
 MatchesOnly literal p = (is_word : ℕ → Bool) (s : Search) (i : ℕ) (t : Outcome Notes) → IsInside s i
     → IsLeast (machine_of is_in is_word p s) [] (fresh_notes i) p.start i t
@@ -35,25 +35,25 @@ pub record IsLiteralOf (needles : List (List ℕ)) (p : Program Look (List Range
   pub needles_are : needles ≡ literal ∷ []
   pub matches_only : MatchesOnly literal p
 
--- a span lies in a search's slice
+-- a span is inside a search's slice
 pub record LiesInSlice (s : Search) (span : Span) : Type 0 where
   pub from : s.slice_start ≤ span.start
   pub to : span.end ≤ s.slice_end
 
--- the search of this span alone; looks see what stands beside it as before
+-- the search of this span only; look-around assertions see the text around it as before
 abbrev pub within : Search → Span → Search
 within s span = record s { start = span.start; end = span.end }
 
--- a search finds the literal's match in a span, and so does the search of this span alone
+-- a search finds the literal's match in a span, and so does the search of this span only
 pub record FindsLiteral (p : Program Look (List Range)) (is_word : ℕ → Bool) (s : Search)
     (span : Span) : Type 0 where
   pub some : span.start < span.end
   pub finds : ProgramFinds is_in is_word p s (Some (literal_match span))
   pub alone : ProgramFinds is_in is_word p (within s span) (Some (literal_match span))
 
--- what a search finds by a program whose matches are one literal: nothing where the literal doesn't
--- occur in its span, and else its match where it occurs first; an anchored search looks for it at
--- the span's start alone
+-- the result of a search with a program whose matches are one literal: nothing if the literal
+-- doesn't occur in its span, otherwise its first occurrence; an anchored search finds it only at
+-- the span's start
 pub record LiteralsAreFound (needles : List (List ℕ)) (p : Program Look (List Range))
     (is_word : ℕ → Bool) (s : Search) : Type 0 where
   pub nowhere : s.anchoring ≡ unanchored → FirstNeedle needles s None

@@ -1,4 +1,4 @@
--- What a prefilter looks for its needles by.
+-- How a prefilter searches for its needles.
 use Rattle.std.specs.Prelude.{◌≡◌, ℕ, ◌≤◌, List, [], ◌∷◌, length, All}
 use Rattle.rx_literals.specs.declared.prefilter.Searcher.{Searcher}
 use Rattle.rx_literals.specs.declared.prefilter.Searcher.TheVariants as searcher
@@ -12,7 +12,7 @@ SearchesNeedles (searcher.One finder) needles = needles ≡ finder ∷ []
 SearchesNeedles (searcher.First first) needles = BeginAmong first needles
 SearchesNeedles searcher.Several needles = Unit {0}
 
--- the needles are such, none is longer than is known, and this finds them
+-- the needles are allowed, none is longer than `longest`, and this searcher finds them
 pub record AreParts (needles : List (List ℕ)) (longest : ℕ) (searcher : Searcher) : Type 0 where
   pub are : AreNeedles needles
   pub some : 1 ≤ longest

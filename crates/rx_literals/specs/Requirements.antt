@@ -1,4 +1,4 @@
--- Programs whose matches all contain a needle, and how such a needle is read from a program.
+-- Programs whose matches all contain a needle, and how such a needle is extracted from a program.
 use Rattle.std.specs.Prelude.{◌≡◌, ℕ, ◌≤◌, Bool, List, [], take, Some, None, slice_get}
 use Rattle.rx_sets.specs.Sets.{Range}
 use Rattle.rx_utf8.specs.Automata.{is_in}
@@ -14,47 +14,47 @@ use Rattle.rx_literals.specs.Beginnings.{MatchesBeginWith, FirstNeedle}
 use Rattle.rx_literals.specs.Endings.{MayCome}
 use Rattle.rx_literals.specs.Ways.{TakesStem}
 
--- one of the needles occurs at a place or behind it
+-- one of the needles occurs at an offset or after it
 pub record OneOccursFrom (bytes : List ℕ) (i : ℕ) (needles : List (List ℕ)) : Type 0 where
   pub at : ℕ
   pub behind : i ≤ at
   pub occurs : OneOccursAt bytes at needles
 
--- what a walk takes from the start node, at a place of the search, to the end of a match contains
--- one of the needles
+-- the bytes that a walk reads from the start node, at an offset of the search, to a match end
+-- contain one of the needles
 abbrev pub MatchesContain : List (List ℕ) → Program Look (List Range) → Type 0
 MatchesContain needles p =
     (is_word : ℕ → Bool) (s : Search) (i : ℕ) (choices : List ℕ) (t : Outcome Notes) → IsInside s i
     → Walk (machine_of is_in is_word p s) [] (fresh_notes i) p.start i choices t
     → OneOccursFrom (take t.end s.content) i needles
 
--- where none is found in a search's span, the program finds nothing
+-- if none is found in a search's span, the program finds nothing
 abbrev pub NoneContainedNoMatch : Type 0
 NoneContainedNoMatch = (needles : List (List ℕ)) (p : Program Look (List Range))
     (is_word : ℕ → Bool) (s : Search)
     → AreNeedles needles → MatchesContain needles p → s.anchoring ≡ unanchored
     → FirstNeedle needles s None → ProgramFinds is_in is_word p s None
 
--- what matches begin with they contain
+-- needles that matches begin with are needles that they contain
 abbrev pub BeginningsAreContained : Type 0
 BeginningsAreContained = (needles : List (List ℕ)) (p : Program Look (List Range))
     → MatchesBeginWith needles p → MatchesContain needles p
 
--- ---- nodes that each match passes
+-- ---- nodes on each path to a match
 
--- from a node at a place or behind it a path leads to the end of a match
+-- from a node at an offset or after it a path leads to a match end
 pub record PathFrom (m : Machine ℕ Notes) (q i pattern e : ℕ) : Type 0 where
   pub at : ℕ
   pub behind : i ≤ at
   pub path : Path m q at pattern e
 
--- each path from the start node to the end of a match comes to this node
+-- each path from the start node to a match end passes this node
 abbrev pub PassesNode : Program Look (List Range) → ℕ → Type 0
 PassesNode p q = (is_word : ℕ → Bool) (s : Search) (i pattern e : ℕ)
     → Path (machine_of is_in is_word p s) p.start i pattern e
     → PathFrom (machine_of is_in is_word p s) q i pattern e
 
--- each path from a node to the end of a match reads this literal, and goes on from another node
+-- each path from a node to a match end reads this literal, and continues from another node
 abbrev pub ReadsTo : Program Look (List Range) → ℕ → List ℕ → ℕ → Type 0
 ReadsTo p q literal r = (is_word : ℕ → Bool) (s : Search) (i pattern e : ℕ)
     → Path (machine_of is_in is_word p s) q i pattern e
@@ -65,9 +65,9 @@ pub record ReadsLiteral (p : Program Look (List Range)) (q : ℕ) (literal : Lis
   pub next : ℕ
   pub reads : ReadsTo p q literal next
 
--- ---- marks at nodes to which a walk may come without passing one
+-- ---- marks of nodes that a walk may reach without passing one
 
--- no match ends at a node, and a walk may come to where its edges lead
+-- no match ends at a node, and a walk may reach the targets of its edges
 abbrev pub LeadsToMarked : List Bool → Node Look (List Range) → Type 0
 LeadsToMarked marks (match k) = ⊥
 LeadsToMarked marks (pass rs) = (k r : ℕ) → slice_get rs k ≡ Some r → MayCome marks r
@@ -75,7 +75,7 @@ LeadsToMarked marks (note slot r) = MayCome marks r
 LeadsToMarked marks (look l r) = MayCome marks r
 LeadsToMarked marks (set x r) = MayCome marks r
 
--- so it is at each node to which a walk may come, but for the one that is to be passed
+-- this holds of each node that a walk may reach, except the one that is to be passed
 abbrev pub MarksStopAt : List (Node Look (List Range)) → ℕ → List Bool → Type 0
 MarksStopAt nodes stop marks = (q : ℕ) (here : Node Look (List Range))
     → slice_get nodes q ≡ Some here → MayCome marks q → (q ≡ stop → ⊥) → LeadsToMarked marks here

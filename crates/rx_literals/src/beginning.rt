@@ -20,25 +20,25 @@ use std::alloc::{AllocError, Global};
 use std::collections::VecDeque;
 use std::marker::Model;
 
-/// How many states are passed at most.
+/// The maximum number of states that are passed.
 const STEPS: usize = 256;
 
-/// How many beginnings there are at most.
+/// The maximum number of beginnings.
 const BEGINNINGS: usize = 16;
 
-/// A literal with more bytes isn't made longer.
+/// A literal with more bytes isn't extended.
 const LONG: usize = 60;
 
-/// A literal with so many bytes isn't made longer where several ways lead on.
+/// A literal with this number of bytes isn't extended at a branch.
 const ENOUGH: usize = 3;
 
-/// The same of one that is the only one: it is looked for faster than several are.
+/// The same for a single literal: searching for one is faster than for several.
 const ENOUGH_ALONE: usize = 2;
 
-/// So many literals may begin with a byte that is common in texts.
+/// The maximum number of literals if they begin with a byte that is common in texts.
 const FEW: usize = 3;
 
-/// A literal that matches begin with, as far as it was read, and the state behind it. Contracts see
+/// A literal that matches begin with, as far as it was read, and the state after it. Contracts see
 /// it as a stem.
 #[derive(Drop)]
 struct Beginning {
@@ -55,7 +55,7 @@ impl Model for Beginning {
     ghost view = { λ b. record { literal = string_bytes b.literal; node = b.at } };
 }
 
-/// Beginnings, of which each match has one.
+/// Beginnings; each match has one of them.
 #[derive(Drop)]
 struct Beginnings {
     alloc: Global,
@@ -63,7 +63,7 @@ struct Beginnings {
 }
 
 impl Beginnings {
-    /// Puts one behind the others.
+    /// Appends one.
     fn put(&mut self, literal: String, at: StateID) -> Result<(), AllocError>
         ensures { OnOk result (self.new.list.items ≡ self.old.list.items
             ++ record { literal = string_bytes literal; node = at } ∷ []) }
@@ -72,7 +72,7 @@ impl Beginnings {
         Ok(())
     }
 
-    /// Leaves a beginning as it is, and answers that it doesn't lead on.
+    /// Keeps a beginning unchanged, and returns that it wasn't extended.
     fn leave(&mut self, beginning: Beginning) -> Result<bool, AllocError>
         ensures { OnOk result (self.new.list.items ≡ self.old.list.items ++ beginning ∷ []) }
     {
@@ -80,7 +80,8 @@ impl Beginnings {
         Ok(false)
     }
 
-    /// Follows an empty edge to this state alone, and answers that it leads on.
+    /// Follows the only epsilon transition to this state, and returns that the beginning was
+    /// extended.
     fn go_to(&mut self, beginning: Beginning, next: StateID) -> Result<bool, AllocError>
         ensures { OnOk result (self.new.list.items ≡ self.old.list.items
             ++ record { literal = beginning.literal; node = next } ∷ []) }
@@ -89,7 +90,8 @@ impl Beginnings {
         Ok(true)
     }
 
-    /// Whether so many ways may be followed behind a literal, which stands apart from the list.
+    /// Returns whether this number of branches may be followed after a literal, which isn't in the
+    /// list.
     fn has_room(&self, literal: &String, ways: usize) -> bool {
         if ways <= 1 {
             return literal.len() <= LONG;
@@ -106,7 +108,7 @@ impl Beginnings {
         literal.len() < enough && self.list.len().saturating_add(ways) <= most
     }
 
-    /// Follows empty edges to these states, if there is room. It answers whether it did.
+    /// Follows epsilon transitions to these states if there is room, and returns whether it did.
     fn branch(&mut self, beginning: Beginning, states: &[StateID]) -> Result<bool, AllocError>
         ensures { OnOk result (StemsGoOn (Some (pass states.now)) beginning self.old.list.items
             self.new.list.items) }
@@ -139,7 +141,7 @@ impl Beginnings {
         Ok(())
     }
 
-    /// Reads each member of a set, if they are few and there is room. It answers whether it did.
+    /// Reads each member of a set, if they are few and there is room, and returns whether it did.
     fn read_set(
         &mut self,
         beginning: Beginning,
@@ -158,7 +160,7 @@ impl Beginnings {
         }
     }
 
-    /// Goes on from a beginning, at whose end this state stands, and answers whether it leads on.
+    /// Extends a beginning that ends at this state, and returns whether it was extended.
     fn go_on_at(&mut self, state: &State, beginning: Beginning) -> Result<bool, AllocError>
         ensures { OnOk result (StemsGoOn (Some (node_of state.now)) beginning self.old.list.items
             self.new.list.items) }
@@ -174,7 +176,7 @@ impl Beginnings {
         }
     }
 
-    /// Goes on from a beginning, and answers whether it leads on.
+    /// Extends a beginning, and returns whether it was extended.
     fn go_on(&mut self, program: &Program, beginning: Beginning) -> Result<bool, AllocError>
         ensures { OnOk result (StemsLeadTo (character_program program.now)
             (beginning ∷ self.old.list.items) self.new.list.items) }
@@ -185,7 +187,7 @@ impl Beginnings {
         }
     }
 
-    /// Goes on from the first one, and answers whether it leads on.
+    /// Extends the first one, and returns whether it was extended.
     fn step(&mut self, program: &Program) -> Result<bool, AllocError>
         ensures { OnOk result (StemsLeadTo (character_program program.now) self.old.list.items
             self.new.list.items) }
@@ -196,7 +198,7 @@ impl Beginnings {
         }
     }
 
-    /// What the matches of a program begin with, as far as it is read.
+    /// Returns the beginnings of a program's matches, as far as they are read.
     fn of(alloc: Global, program: &Program) -> Result<Beginnings, AllocError>
         ensures { IfOk result (λ beginnings. StemsLeadTo (character_program program.now)
             (record { literal = []; node = program.now.start } ∷ []) beginnings.list.items) }
@@ -220,7 +222,7 @@ impl Beginnings {
         Ok(beginnings)
     }
 
-    /// The literals.
+    /// Returns the literals.
     fn literals(self) -> Result<Vec<String>, AllocError>
         ensures { IfOk result (λ literals. map (λ literal. string_bytes literal) literals.items
             ≡ map (λ stem. stem.literal) self.list.items) }
@@ -234,14 +236,14 @@ impl Beginnings {
     }
 }
 
-/// Whether a literal begins with another one.
+/// Returns whether a literal begins with another one.
 fn begins_with(literal: &String, other: &String) -> bool
     ensures { IsTrue result → OccursAt (string_bytes literal.now) (string_bytes other.now) 0 }
 {
     is_prefix(literal.as_bytes(), other.as_bytes())
 }
 
-/// Whether what begins with a literal begins with one of these too.
+/// Returns whether each text that begins with a literal begins with one of these too.
 fn begins_with_one(literals: &[String], literal: &String) -> bool
     ensures { IsTrue result → (bytes : List ℕ) (i : ℕ) → OccursAt bytes (string_bytes literal.now) i
         → OneOccursAt bytes i (map (λ other. string_bytes other) literals.now) }
@@ -254,14 +256,14 @@ fn begins_with_one(literals: &[String], literal: &String) -> bool
     false
 }
 
-/// Whether a literal begins with these bytes.
+/// Returns whether a literal begins with these bytes.
 fn begins_with_bytes(literal: &String, bytes: &[u8]) -> bool
     ensures { IsTrue result → OccursAt (string_bytes literal.now) bytes.now 0 }
 {
     is_prefix(literal.as_bytes(), bytes)
 }
 
-/// Whether what begins with a literal begins with one of these needles too.
+/// Returns whether each text that begins with a literal begins with one of these needles too.
 fn begins_with_needle(needles: &[Vec<u8>], literal: &String) -> bool
     ensures { IsTrue result → (bytes : List ℕ) (i : ℕ) → OccursAt bytes (string_bytes literal.now) i
         → OneOccursAt bytes i (map (λ needle. needle.items) needles.now) }
@@ -274,7 +276,8 @@ fn begins_with_needle(needles: &[Vec<u8>], literal: &String) -> bool
     false
 }
 
-/// Whether what begins with one of these literals begins with one of these needles too.
+/// Returns whether each text that begins with one of these literals begins with one of these
+/// needles too.
 fn begin_with_needles(needles: &[Vec<u8>], literals: &[String]) -> bool
     ensures { IsTrue result → StandFor (map (λ needle. needle.items) needles.now)
         (map (λ literal. string_bytes literal) literals.now) }
@@ -287,7 +290,7 @@ fn begin_with_needles(needles: &[Vec<u8>], literals: &[String]) -> bool
     true
 }
 
-/// Keeps a literal beside these, unless it begins with one of them.
+/// Adds a literal to these, unless it begins with one of them.
 fn keep(kept: &mut Vec<String>, literal: String) -> Result<(), AllocError>
     ensures { OnOk result (StandFor (map (λ other. string_bytes other) kept.new.items)
         (string_bytes literal ∷ map (λ other. string_bytes other) kept.old.items)) }
@@ -299,7 +302,7 @@ fn keep(kept: &mut Vec<String>, literal: String) -> Result<(), AllocError>
     Ok(())
 }
 
-/// The literals, the last one first, without those that begin with a later one.
+/// Returns the literals, the last one first, without those that begin with a later one.
 fn without_longer(alloc: Global, mut literals: Vec<String>) -> Result<Vec<String>, AllocError>
     ensures { IfOk result (λ kept. StandFor (map (λ literal. string_bytes literal) kept.items)
         (map (λ literal. string_bytes literal) literals.items)) }
@@ -311,7 +314,7 @@ fn without_longer(alloc: Global, mut literals: Vec<String>) -> Result<Vec<String
     Ok(kept)
 }
 
-/// A prefilter of these literals, if it pays to look for them.
+/// Returns a prefilter of these literals, if scanning for them pays.
 fn prefilter_of(
     alloc: Global,
     kind: MatchKind,
@@ -330,9 +333,9 @@ fn prefilter_of(
     Prefilter::new(alloc, kind, &needles)
 }
 
-/// Whether it pays to look for these needles, before an engine is asked: for one alone, and for
-/// several that have two bytes or more and begin with few bytes, of which none is common in texts,
-/// or one is and there are at most three needles.
+/// Returns whether scanning for these needles before an engine runs pays: for a single one always;
+/// for several if they have at least two bytes and begin with few bytes, and none of these bytes is
+/// common in texts, or one is and there are at most three needles.
 fn pay(needles: &[&[u8]]) -> bool {
     if needles.len() == 1 {
         return true;
@@ -348,18 +351,24 @@ fn pay(needles: &[&[u8]]) -> bool {
 }
 
 impl Prefilter {
-    /// A prefilter of what each match of a program begins with: of one literal, or of several, if
-    /// each match begins with one of them. `None` where matches may begin with nothing that is read
-    /// from the program, or where it wouldn't pay to look for it.
+    /// Returns a prefilter of the literals that each match of a program begins with: one literal,
+    /// or several, one of which each match begins with. Returns `None` if there are no such
+    /// literals in the program, or scanning for them wouldn't pay.
     ///
-    /// Read are the characters at the beginning of a pattern, also in groups, between looks, and
-    /// where they are repeated at least once. Where there are branches, or a set with at most four
-    /// members, or a part that may be missing, each way is followed, until a literal has three
-    /// bytes, or the only one two; there are at most 16 literals, each of at most 64 bytes. Of
-    /// several each has two bytes or more, and they begin with at most three bytes, of which none
-    /// is common in texts, or one is and there are at most three literals.
+    /// It reads the characters at the beginning of a pattern, also in groups, between look-around
+    /// assertions, and in a repetition of at least one. At an alternation, a set with at most four
+    /// members, or an optional part, each branch is followed until a literal has three bytes, or a
+    /// single one has two. There are at most 16 literals, each of at most 64 bytes. If there are
+    /// several, each has at least two bytes, and they begin with at most three different bytes,
+    /// none of which is common in texts, or one is and there are at most three literals.
     ///
-    /// It takes time for at most 256 states, and memory for the literals.
+    /// # Errors
+    ///
+    /// Out of memory.
+    ///
+    /// # Complexity
+    ///
+    /// Time for at most 256 states, and memory for the literals.
     pub fn from_program(
         alloc: Global,
         kind: MatchKind,
@@ -375,14 +384,21 @@ impl Prefilter {
         prefilter_of(alloc, kind, &shortest)
     }
 
-    /// Whether it may be used for a program: only where it is known of the program, by its patterns
-    /// alone, that each of its matches begins with one of the needles. Then nothing matches where
-    /// no needle occurs, and the first match doesn't start before the first needle. For a prefilter
-    /// that isn't known to serve a program, neither is so.
+    /// Returns whether the prefilter may be used for a program: if it is known from the patterns
+    /// alone that each match begins with one of the needles. Then nothing matches if no needle
+    /// occurs, and the first match doesn't start before the first needle. If this isn't known,
+    /// neither is guaranteed.
     ///
-    /// It is read of the program what its matches begin with, as far as `from_program` reads it; so
-    /// it may answer `false` of needles of which it would be so. It takes time for at most 256
-    /// states, and memory for the literals that are read. The one refusal is want of memory.
+    /// It reads the beginnings of the program's matches as `from_program` does, so it may return
+    /// `false` for needles for which it holds.
+    ///
+    /// # Errors
+    ///
+    /// Out of memory.
+    ///
+    /// # Complexity
+    ///
+    /// Time for at most 256 states, and memory for the literals that are read.
     pub fn serves(&self, alloc: Global, program: &Program) -> Result<bool, AllocError>
         ensures { IfOk result (λ serves. IsTrue serves
             → MatchesBeginWith self.now (character_program program.now)) }

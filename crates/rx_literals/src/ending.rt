@@ -1,4 +1,4 @@
-//! Whether all matches of a program end where the slice does.
+//! Whether all matches of a program end at the slice's end.
 
 ghost use Rattle.std.specs.Prelude.{◌≡◌, ◌<◌, ℕ, false, map, slice_get, IfOk, IsTrue, Some};
 ghost use Rattle.rx_program.specs.Programs.{character_program, node_of};
@@ -10,22 +10,22 @@ use rx_program::{Program, State};
 use rx_util::StateID;
 use std::alloc::{AllocError, Global};
 
-/// How often the states are gone through at most. Most edges lead to states with greater numbers,
-/// so that a few times do.
+/// The maximum number of passes over the states. Most edges lead to states with greater numbers, so
+/// a few suffice.
 pub(crate) const ROUNDS: usize = 16;
 
-/// What going through the states tells of those that are marked.
+/// The result of a pass over the states.
 #[derive(Clone, Copy, Debug)]
 pub(crate) enum Told {
-    /// A match ends at one of them.
+    /// A match ends at a marked state.
     Match,
     /// More were marked.
     More,
-    /// No edge leads from them to others, but for those that ask for the slice's end.
+    /// No edge leads from marked states to others, except those that require the slice's end.
     Closed,
 }
 
-/// Marks a state, and answers whether it wasn't.
+/// Marks a state, and returns whether it wasn't marked.
 pub(crate) fn mark(marks: &mut [bool], state: StateID) -> bool
     ensures kept { result ≡ false → marks.new ≡ marks.old }
     ensures marked { MayCome marks.new state }
@@ -39,7 +39,7 @@ pub(crate) fn mark(marks: &mut [bool], state: StateID) -> bool
     true
 }
 
-/// Marks states, and answers whether one of them wasn't.
+/// Marks states, and returns whether one of them wasn't marked.
 pub(crate) fn mark_all(marks: &mut [bool], states: &[StateID]) -> bool
     ensures kept { result ≡ false → marks.new ≡ marks.old }
     ensures marked { (k r : ℕ) → slice_get states.now k ≡ Some r → MayCome marks.new r }
@@ -54,7 +54,7 @@ pub(crate) fn mark_all(marks: &mut [bool], states: &[StateID]) -> bool
     more
 }
 
-/// Marks the states to which the edges of one lead at which no match ends.
+/// Marks the targets of a state's edges, unless a match ends at it.
 fn mark_next(marks: &mut [bool], state: &State) -> Told
     ensures closed { result ≡ Told.Closed → marks.new ≡ marks.old }
     ensures leads { result ≡ Told.Closed → LeadsToMarks marks.new (node_of state.now) }
@@ -73,7 +73,7 @@ fn mark_next(marks: &mut [bool], state: &State) -> Told
     if more { Told::More } else { Told::Closed }
 }
 
-/// Goes through the states once, and marks those to which the edges of marked ones lead.
+/// Iterates over the states once, and marks the targets of the edges of marked ones.
 fn go_through(marks: &mut [bool], states: &[State]) -> Told
     ensures closed { result ≡ Told.Closed → MarksAreClosed (map node_of states.now) marks.new }
     ensures grows { MarksGrow marks.old marks.new }
@@ -92,10 +92,17 @@ fn go_through(marks: &mut [bool], states: &[State]) -> Told
     told
 }
 
-/// Whether each match of a program, unless it is one of a pattern that was asked for, is known to
-/// end at the slice's end, or at the content's where that comes before: from the state that walks
-/// start from, all edges to a match pass a look for that end. The one error is want of memory, of
-/// which it takes a byte for each state. It takes time in proportion to the states.
+/// Returns whether each match of a program, unless a particular pattern is requested, is known to
+/// end at the slice's end, or at the haystack's if that is less: from the start state all paths to
+/// a match pass an assertion of that end.
+///
+/// # Errors
+///
+/// Out of memory.
+///
+/// # Complexity
+///
+/// Time linear in the states, and one byte of memory for each.
 pub fn ends_with_slice(alloc: Global, program: &Program) -> Result<bool, AllocError>
     ensures { IfOk result (λ ends. IsTrue ends → EndsWithSlice (character_program program.now)) }
 {

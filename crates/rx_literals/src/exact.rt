@@ -1,4 +1,4 @@
-//! The literal that the matches of a program are.
+//! The literal that all matches of a program are.
 
 ghost use Rattle.std.specs.Prelude.{◌≡◌, [], ◌∷◌, IfOk, IfSome, IsTrue, OnOk, Some, slice_get, string_bytes};
 ghost use Rattle.std.specs.Option.{ForSome};
@@ -13,10 +13,10 @@ use rx_sets::{Range, from_ordinal};
 use rx_util::{MatchKind, PatternID, StateID};
 use std::alloc::{AllocError, Global};
 
-/// How many characters a literal has at most: a needle has no more bytes.
+/// The maximum number of characters of a literal: a needle has no more bytes.
 const CHARACTERS: usize = 64;
 
-/// The member of a set that has one, by its ranges.
+/// Returns the only member of a set of ranges, if there is only one.
 fn only_member(ranges: &[Range]) -> Option<char>
     ensures { IfSome result (IsOnlyMember ranges.now) }
 {
@@ -26,8 +26,8 @@ fn only_member(ranges: &[Range]) -> Option<char>
     from_ordinal(ranges[0].0)
 }
 
-/// The character that the state with this number reads, if it reads that one alone, and the state
-/// to which it leads.
+/// Returns the character that the state with this number reads, if that is the only one, and the
+/// state to which it leads.
 pub(crate) fn read_at(program: &Program, at: StateID) -> Option<(char, StateID)>
     ensures { IfSome result (λ read. ReadsOnly
         (slice_get (character_program program.now).nodes at) read.0 read.1) }
@@ -41,7 +41,7 @@ pub(crate) fn read_at(program: &Program, at: StateID) -> Option<(char, StateID)>
     }
 }
 
-/// The state to which the state with this number leads, if it notes a place in this slot.
+/// Returns the state to which the state with this number leads, if it notes an offset in this slot.
 fn behind_note(program: &Program, at: StateID, slot: usize) -> Option<StateID>
     ensures { IfSome result (λ next. slice_get (character_program program.now).nodes at
         ≡ Some (note slot next)) }
@@ -52,7 +52,7 @@ fn behind_note(program: &Program, at: StateID, slot: usize) -> Option<StateID>
     }
 }
 
-/// Whether a match of the first pattern ends at the state with this number.
+/// Returns whether a match of the first pattern ends at the state with this number.
 fn is_match(program: &Program, at: StateID) -> bool
     ensures { IsTrue result → slice_get (character_program program.now).nodes at ≡ Some (match 0) }
 {
@@ -62,7 +62,7 @@ fn is_match(program: &Program, at: StateID) -> bool
     }
 }
 
-/// Whether the end is noted at the state with this number, and behind it the match ends.
+/// Returns whether the state with this number notes the end, and then the match ends.
 fn notes_end(program: &Program, at: StateID) -> bool
     ensures { IsTrue result → NotesEnd (character_program program.now) at }
 {
@@ -72,8 +72,7 @@ fn notes_end(program: &Program, at: StateID) -> bool
     }
 }
 
-/// The literal over which each walk goes from the start, as far as it was read, and the state
-/// behind it.
+/// The literal that each walk reads from the start, as far as it was read, and the state after it.
 #[derive(Drop)]
 struct Spelling {
     literal: String,
@@ -81,7 +80,7 @@ struct Spelling {
 }
 
 impl Spelling {
-    /// Goes on from the state, and answers whether it reads one character alone.
+    /// Advances by one state, and returns whether it reads exactly one character.
     fn step(&mut self, program: &Program) -> Result<bool, AllocError>
         ensures { OnOk result
             (SpellsLiteral (character_program program.now)
@@ -100,8 +99,8 @@ impl Spelling {
     }
 }
 
-/// The literal that walks go over from the start on, and the state behind it; `None` where they
-/// don't note first where they begin.
+/// Returns the literal that walks read from the start, and the state after it; `None` if they don't
+/// first note where they begin.
 fn spelled(alloc: Global, program: &Program) -> Result<Option<Spelling>, AllocError>
     ensures { IfOk result (λ spelled. IfSome spelled (λ spelling.
         SpellsLiteral (character_program program.now)
@@ -123,7 +122,7 @@ fn spelled(alloc: Global, program: &Program) -> Result<Option<Spelling>, AllocEr
     Ok(Some(spelling))
 }
 
-/// The literal that each match is; `None` where that isn't found.
+/// Returns the literal that each match is, or `None` if none is found.
 fn only_literal(alloc: Global, program: &Program) -> Result<Option<String>, AllocError>
     ensures { IfOk result (λ made. IfSome made
         (λ literal. IsLiteralOf (string_bytes literal ∷ []) (character_program program.now))) }
@@ -139,9 +138,17 @@ fn only_literal(alloc: Global, program: &Program) -> Result<Option<String>, Allo
 }
 
 impl Prefilter {
-    /// A prefilter of the literal that each match of a program is, and `None` where that isn't
-    /// found: the pattern must be characters that stand alone, one after the other, with no group,
-    /// look or repetition, and have at most 64 bytes. It takes time for at most 67 states.
+    /// Returns a prefilter of the literal that each match of a program is, or `None` if none is
+    /// found. The pattern must consist of single characters, without a group, a look-around
+    /// assertion or a repetition, and have at most 64 bytes.
+    ///
+    /// # Errors
+    ///
+    /// Out of memory.
+    ///
+    /// # Complexity
+    ///
+    /// Time for at most 67 states.
     pub fn of_literal(alloc: Global, program: &Program) -> Result<Option<Prefilter>, AllocError>
         ensures { IfOk result (λ made. ForSome made
             (λ prefilter. IsLiteralOf prefilter (character_program program.now))) }

@@ -12,10 +12,10 @@ use std::alloc::{AllocError, Global};
 /// A set with more members isn't read.
 const MEMBERS: usize = 4;
 
-/// At least as many as there are characters.
+/// An upper bound on the number of characters.
 const CHARACTERS: u32 = 0x11_0000;
 
-/// Puts the character with this ordinal behind others, if there is one.
+/// Appends the character with this ordinal, if there is one.
 fn put_member(members: &mut Vec<char>, index: u32) -> Result<(), AllocError>
     ensures kept { OnOk result ((c : ℕ) → Contains members.old.items c
         → Contains members.new.items c) }
@@ -28,8 +28,7 @@ fn put_member(members: &mut Vec<char>, index: u32) -> Result<(), AllocError>
     Ok(())
 }
 
-/// Puts the members of a range behind those of others, if they are few in all. It answers whether
-/// they are.
+/// Appends the members of a range, if there are few in all, and returns whether there are.
 fn put_members(members: &mut Vec<char>, range: &Range) -> Result<bool, AllocError>
     ensures kept { OnOk result ((c : ℕ) → Contains members.old.items c
         → Contains members.new.items c) }
@@ -46,7 +45,7 @@ fn put_members(members: &mut Vec<char>, range: &Range) -> Result<bool, AllocErro
     Ok(members.len() <= MEMBERS)
 }
 
-/// The members of a set, by its ranges, if they are few.
+/// Returns the members of a set of ranges, if they are few.
 pub(crate) fn few_members(alloc: Global, ranges: &[Range]) -> Result<Option<Vec<char>>, AllocError>
     ensures { IfOk result (λ some. ForSome some (λ members. HasMembers ranges.now members.items)) }
 {

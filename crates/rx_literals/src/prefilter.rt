@@ -1,4 +1,4 @@
-//! Prefilters: few literals that are looked for before an engine is asked.
+//! Prefilters: a few literals that are scanned for before an engine runs.
 
 ghost use Rattle.std.specs.Prelude.{◌≡◌, ◌≤◌, ◌<◌, ◌↔◌, ℕ, All, IfErr, IfOk, IsTrue, List, MatchOption, [], ◌∷◌, length, map};
 ghost use Rattle.rx_util.specs.declared.search.MatchError.{MatchError};
@@ -15,30 +15,30 @@ use std::alloc::{AllocError, Global};
 use std::marker::Model;
 use std::rc::Rc;
 
-/// How many needles a prefilter has at most.
+/// The maximum number of needles of a prefilter.
 const NEEDLES: usize = 16;
 
-/// How many bytes a needle has at most.
+/// The maximum number of bytes of a needle.
 const NEEDLE_LEN: usize = 64;
 
-/// How needles are looked for in one piece.
+/// How to search for needles in one chunk.
 #[derive(Debug, Drop)]
 pub(crate) enum Searcher {
     /// There is one, of one byte.
     Byte(u8),
     /// There is one.
     One(Finder<'static>),
-    /// There may be more, which begin with few bytes.
+    /// There may be more, and they begin with few different bytes.
     First(FirstBytes),
-    /// There may be more: each place is tried.
+    /// There may be more: each offset is tried.
     Several,
 }
 
-/// The needles, and what they are looked for by.
+/// The needles, and how to search for them.
 #[derive(Debug, Drop)]
 pub(crate) struct Parts {
     needles: Vec<Vec<u8>>,
-    // At least as many bytes as each needle has.
+    // An upper bound on the length of the needles.
     longest: usize,
     searcher: Searcher,
 }
@@ -55,14 +55,14 @@ impl Model for Parts {
         p.searcher };
 }
 
-/// Whether a prefilter may look for this needle.
+/// Returns whether a prefilter may have this needle.
 fn is_needle(needle: &[u8]) -> bool
     ensures { IsTrue result ↔ IsNeedle needle.now }
 {
     !needle.is_empty() && needle.len() <= NEEDLE_LEN
 }
 
-/// Whether a prefilter may look for these needles.
+/// Returns whether a prefilter may have these needles.
 fn are_needles(needles: &[&[u8]]) -> bool
     ensures { IsTrue result ↔ AreNeedles (map (λ needle. needle.now) needles.now) }
 {
@@ -77,7 +77,7 @@ fn are_needles(needles: &[&[u8]]) -> bool
     true
 }
 
-/// Copies of the needles.
+/// Returns copies of the needles.
 fn copied(alloc: Global, needles: &[&[u8]]) -> Result<Vec<Vec<u8>>, AllocError>
     ensures { IfOk result (λ copies. map (λ copy. copy.items) copies.items
         ≡ map (λ needle. needle.now) needles.now) }
@@ -89,7 +89,7 @@ fn copied(alloc: Global, needles: &[&[u8]]) -> Result<Vec<Vec<u8>>, AllocError>
     Ok(copies)
 }
 
-/// At least as many bytes as each needle has.
+/// Returns an upper bound on the length of the needles.
 fn longest_of(needles: &[&[u8]]) -> usize
     ensures longest { All (λ needle. length needle ≤ result)
         (map (λ needle. needle.now) needles.now) }
@@ -102,7 +102,7 @@ fn longest_of(needles: &[&[u8]]) -> usize
     longest
 }
 
-/// What finds one needle.
+/// Returns the searcher for one needle.
 fn searcher_of_one(alloc: Global, needle: &[u8]) -> Result<Searcher, AllocError>
     ensures { IfOk result (λ searcher. SearchesNeedles searcher (needle.now ∷ [])) }
 {
@@ -112,7 +112,7 @@ fn searcher_of_one(alloc: Global, needle: &[u8]) -> Result<Searcher, AllocError>
     Ok(Searcher::One(Finder::new(needle).into_owned(alloc)?))
 }
 
-/// What finds the needles.
+/// Returns the searcher for the needles.
 fn searcher_of(alloc: Global, needles: &[&[u8]]) -> Result<Searcher, AllocError>
     ensures { IfOk result (λ searcher. SearchesNeedles searcher
         (map (λ needle. needle.now) needles.now)) }
@@ -126,7 +126,7 @@ fn searcher_of(alloc: Global, needles: &[&[u8]]) -> Result<Searcher, AllocError>
     }
 }
 
-/// Where a byte is in `hay` first.
+/// Returns the first occurrence of a byte in `hay`.
 fn find_byte(byte: u8, hay: &[u8]) -> Option<Span>
     ensures { FoundBetween hay.now ((byte ∷ []) ∷ []) 0 (length hay.now) result }
 {
@@ -139,7 +139,7 @@ fn find_byte(byte: u8, hay: &[u8]) -> Option<Span>
     }
 }
 
-/// Where a needle, which mustn't be empty, lies in `hay` first.
+/// Returns the first occurrence of a needle, which mustn't be empty, in `hay`.
 fn find_one(finder: &Finder<'static>, hay: &[u8]) -> Option<Span>
     requires { 1 ≤ length finder.now }
     ensures { FoundBetween hay.now (finder.now ∷ []) 0 (length hay.now) result }
@@ -154,7 +154,7 @@ fn find_one(finder: &Finder<'static>, hay: &[u8]) -> Option<Span>
 }
 
 impl Parts {
-    /// These needles, which must be such as a prefilter may look for.
+    /// Returns the parts of a prefilter with these needles, which must be allowed.
     fn new(alloc: Global, needles: &[&[u8]]) -> Result<Parts, AllocError>
         requires { AreNeedles (map (λ needle. needle.now) needles.now) }
         ensures { IfOk result (λ parts. parts ≡ map (λ needle. needle.now) needles.now) }
@@ -167,7 +167,7 @@ impl Parts {
         })
     }
 
-    /// Where the first needle lies that `hay` has at a place.
+    /// Returns the occurrence at an offset of `hay` of the first needle that occurs there.
     fn find_at(&self, hay: &[u8], at: usize) -> Option<Span>
         requires { at < length hay.now }
         ensures { FoundAt hay.now at self.now result }
@@ -183,7 +183,7 @@ impl Parts {
         None
     }
 
-    /// The least place of `hay` at which a needle lies, by trying each.
+    /// Returns the first occurrence of a needle in `hay`, by trying each offset.
     fn try_each(&self, hay: &[u8]) -> Option<Span>
         ensures { FoundBetween hay.now self.now 0 (length hay.now) result }
     {
@@ -195,7 +195,7 @@ impl Parts {
         None
     }
 
-    /// The least place of `hay` at which a needle lies, by trying those with one of the bytes that
+    /// Returns the first occurrence of a needle in `hay`, by trying the offsets of the bytes that
     /// the needles begin with.
     fn try_first(&self, first: &FirstBytes, hay: &[u8]) -> Option<Span>
         requires { BeginAmong first.now self.now }
@@ -211,14 +211,15 @@ impl Parts {
         None
     }
 
-    /// A law, for the proof alone: the needles are such as a prefilter may look for.
+    /// A law, for the proof only: a prefilter may have these needles.
     fn needles_are_lawful(&self)
         ensures { AreNeedles self.now }
     {
         let _needles = &self.needles;
     }
 
-    /// The least place of `hay` at which a needle lies, and the first needle that does there.
+    /// Returns the least offset of `hay` at which a needle occurs, and the first needle that does
+    /// there.
     fn find(&self, hay: &[u8]) -> Option<Span>
         ensures { FoundBetween hay.now self.now 0 (length hay.now) result }
     {
@@ -231,8 +232,8 @@ impl Parts {
     }
 }
 
-/// Literals that are looked for before an engine is asked: at most 16 needles of at most 64 bytes,
-/// none of them empty, in an order. Contracts see the needles.
+/// Literals that are scanned for before an engine runs: at most 16 needles, in order, each of 1 to
+/// 64 bytes. Contracts see the needles.
 #[derive(Debug, Drop)]
 pub struct Prefilter {
     parts: Rc<Parts>,
@@ -247,9 +248,16 @@ impl Model for Prefilter {
 }
 
 impl Prefilter {
-    /// A prefilter of these needles, and `None` where there is no needle, or an empty one, or more
-    /// than 16 of them, or one of more than 64 bytes. What it finds is the same for each kind of
-    /// matches. `O(n)` in the bytes of the needles.
+    /// Returns a prefilter of these needles, or `None` if there is no needle, an empty one, more
+    /// than 16, or one of more than 64 bytes. What it finds doesn't depend on the match kind.
+    ///
+    /// # Errors
+    ///
+    /// Out of memory.
+    ///
+    /// # Complexity
+    ///
+    /// `O(n)` in the bytes of the needles.
     pub fn new(
         alloc: Global,
         _kind: MatchKind,
@@ -266,7 +274,7 @@ impl Prefilter {
         Ok(Some(Prefilter { parts }))
     }
 
-    /// The same prefilter, which shares its needles. The one refusal is `Memory`. `O(1)`.
+    /// Returns a prefilter that shares the needles. The only error is `Memory`. `O(1)`.
     pub fn clone(&self) -> Result<Prefilter, MatchError>
         ensures same { IfOk result (λ prefilter. prefilter ≡ self.now) }
         ensures refused { IfErr result (λ error. error ≡ MatchError.Memory) }
@@ -276,14 +284,14 @@ impl Prefilter {
         })
     }
 
-    /// A law, for the proof alone: the needles are such as a prefilter may look for.
+    /// A law, for the proof only: a prefilter may have these needles.
     pub fn needles_are_lawful(&self)
         ensures { AreNeedles self.now }
     {
         self.parts.needles_are_lawful();
     }
 
-    /// At least as many bytes as each needle has.
+    /// Returns an upper bound on the length of the needles.
     pub(crate) fn max_needle_len(&self) -> usize
         ensures longest { All (λ needle. length needle ≤ result) self.now }
         ensures some { 1 ≤ result }
@@ -291,7 +299,7 @@ impl Prefilter {
         self.parts.longest
     }
 
-    /// The needles, in their order.
+    /// Returns the needles, in their order.
     pub(crate) fn needles(&self) -> &[Vec<u8>]
         ensures needles { map (λ needle. needle.items) result.now ≡ self.now }
         ensures are { AreNeedles self.now }
@@ -299,7 +307,8 @@ impl Prefilter {
         &self.parts.needles
     }
 
-    /// The least place of `hay` at which a needle lies, and the first needle that does there.
+    /// Returns the least offset of `hay` at which a needle occurs, and the first needle that does
+    /// there.
     pub(crate) fn find_in(&self, hay: &[u8]) -> Option<Span>
         ensures { FoundBetween hay.now self.now 0 (length hay.now) result }
     {

@@ -1,4 +1,4 @@
-//! Literals that each match of a program contains, wherever they are in it.
+//! Literals that each match of a program contains, anywhere.
 
 ghost use Rattle.std.specs.Prelude.{◌≡◌, ◌∷◌, [], map, string_bytes, IfOk, IfSome, IsTrue};
 ghost use Rattle.std.specs.Option.{ForSome};
@@ -15,14 +15,13 @@ use rx_program::{Program, State};
 use rx_util::{MatchKind, StateID};
 use std::alloc::{AllocError, Global};
 
-/// How many states a program has at most of which literals are read.
+/// The maximum number of states of a program from which literals are extracted.
 const STATES: usize = 256;
 
-/// How many characters of a literal are read at most: a needle has no more than four times as many
-/// bytes.
+/// The maximum number of characters of a literal: a needle has at most four times as many bytes.
 const CHARACTERS: usize = 16;
 
-/// Marks the states to which the edges of one lead at which no match ends.
+/// Marks the targets of a state's edges, unless a match ends at it.
 fn mark_edges(marks: &mut [bool], state: &State) -> Told
     ensures closed { result ≡ Told.Closed → marks.new ≡ marks.old }
     ensures leads { result ≡ Told.Closed → LeadsToMarked marks.new (node_of state.now) }
@@ -40,15 +39,15 @@ fn mark_edges(marks: &mut [bool], state: &State) -> Told
     if more { Told::More } else { Told::Closed }
 }
 
-/// Whether the edges of a state are left out: walks stop at it, or it isn't marked.
+/// Returns whether the edges of a state are left out: walks stop at it, or it isn't marked.
 fn is_left_out(marks: &[bool], index: usize, stop: usize) -> bool
     ensures { IsTrue result → MayCome marks.now index → index ≡ stop }
 {
     index == stop || index < marks.len() && !marks[index]
 }
 
-/// Goes through the states once, and marks those to which the edges of marked ones lead, but for
-/// the edges of the state at which walks stop.
+/// Iterates over the states once, and marks the targets of the edges of marked ones, except those
+/// of the state at which walks stop.
 fn go_through_but(marks: &mut [bool], states: &[State], stop: usize) -> Told
     ensures closed { result ≡ Told.Closed → MarksStopAt (map node_of states.now) stop marks.new }
     ensures grows { MarksGrow marks.old marks.new }
@@ -67,7 +66,7 @@ fn go_through_but(marks: &mut [bool], states: &[State], stop: usize) -> Told
     told
 }
 
-/// Returns whether each way from the start of a program to a match is known to pass the state with
+/// Returns whether each path from the start of a program to a match is known to pass the state with
 /// this number: without its edges no match is reached.
 fn each_match_passes(alloc: Global, program: &Program, stop: usize) -> Result<bool, AllocError>
     ensures { IfOk result (λ passes. IsTrue passes
@@ -86,7 +85,7 @@ fn each_match_passes(alloc: Global, program: &Program, stop: usize) -> Result<bo
     Ok(false)
 }
 
-/// Returns the characters that each way reads one after the other from a state on.
+/// Returns the characters that each path reads, in order, from a state on.
 fn read_from(alloc: Global, program: &Program, at: StateID) -> Result<String, AllocError>
     ensures { IfOk result (λ literal.
         ReadsLiteral (character_program program.now) at (string_bytes literal)) }
@@ -105,14 +104,14 @@ fn read_from(alloc: Global, program: &Program, at: StateID) -> Result<String, Al
     Ok(literal)
 }
 
-/// Returns whether it pays to look for a literal: it has two bytes or more, or one that isn't common
+/// Returns whether scanning for a literal pays: it has at least two bytes, or one that isn't common
 /// in texts.
 fn pays(literal: &[u8]) -> bool {
     literal.len() >= 2 || literal.iter().all(|byte| !is_common(*byte))
 }
 
-/// Returns the literal that is read from the state with this number on, if it has more bytes than
-/// this, it pays to look for it, and each match of the program is known to contain it.
+/// Returns the literal that is read from the state with this number on, if it has more than `len`
+/// bytes, scanning for it pays, and each match of the program is known to contain it.
 fn required_at(
     alloc: Global,
     program: &Program,
@@ -133,8 +132,8 @@ fn required_at(
     }
 }
 
-/// Returns the longest literal that each match of a program is known to contain, if it pays to look
-/// for one; of several with as many bytes the first.
+/// Returns the longest literal that each match of a program is known to contain, if scanning for
+/// one pays; of several with the same length the first.
 fn longest_required(alloc: Global, program: &Program) -> Result<Option<String>, AllocError>
     ensures { IfOk result (λ made. IfSome made (λ literal.
         MatchesContain (string_bytes literal ∷ []) (character_program program.now))) }
@@ -151,15 +150,21 @@ fn longest_required(alloc: Global, program: &Program) -> Result<Option<String>, 
 }
 
 impl Prefilter {
-    /// A prefilter of a literal that each match of a program contains, wherever it is in the match,
-    /// as `=>` for `\w+\s*=>\s*\w+` or `;` for `.*;`. `None` where none is found, or where it
-    /// wouldn't pay to look for it.
+    /// Returns a prefilter of a literal that each match of a program contains, anywhere in the
+    /// match, such as `=>` for `\w+\s*=>\s*\w+` or `;` for `.*;`. Returns `None` if none is found,
+    /// or scanning for it wouldn't pay.
     ///
-    /// A literal is the characters that a pattern reads one after the other, up to 16 of them, in
-    /// every match: not in a branch, nor in what may be missing. The longest is taken; a single byte
-    /// that is common in texts is none. Of a program with more than 256 states none is read. The
-    /// one error is want of memory. It takes time in proportion to the states at most, times those
-    /// from which a literal is read.
+    /// A literal is a sequence of at most 16 characters that a pattern reads in every match: not in
+    /// a branch, nor in an optional part. The longest is used; a single byte that is common in
+    /// texts isn't. If a program has more than 256 states, none is extracted.
+    ///
+    /// # Errors
+    ///
+    /// Out of memory.
+    ///
+    /// # Complexity
+    ///
+    /// Time at most linear in the states, times the number of states from which a literal is read.
     pub fn required(alloc: Global, program: &Program) -> Result<Option<Prefilter>, AllocError>
         ensures { IfOk result (λ made. ForSome made
             (λ prefilter. MatchesContain prefilter (character_program program.now))) }

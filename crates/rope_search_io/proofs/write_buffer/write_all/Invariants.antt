@@ -1,4 +1,4 @@
--- What was given to the sink so far is the front of the bytes.
+-- What the sink was given so far is a prefix of the bytes.
 use Rattle.std.proofs.Common.{◌≤◌, ◌-◌, length, take}
 use Rattle.rope_search_io.specs.WriteBuffer.{Writes}
 use Rattle.rope_search_io.proofs.write_buffer.write_all.Given as goal

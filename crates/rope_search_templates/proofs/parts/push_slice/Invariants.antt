@@ -1,4 +1,4 @@
--- The chunks so far stand behind the old text.
+-- The chunks so far follow the old text.
 use Rattle.std.proofs.Common.{string_bytes}
 use Rattle.std.specs.Str.{chars}
 use Rattle.ropey.specs.Chunks.{text_of}

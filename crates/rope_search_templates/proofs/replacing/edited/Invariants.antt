@@ -1,4 +1,4 @@
--- The text in which the matches up to some one are replaced, and the changes that were told.
+-- The text with the matches so far replaced, and their changes.
 use Rattle.std.proofs.Common.{◌≡◌, drop}
 use Rattle.ropey.specs.Chunks.{text_of}
 use Rattle.rope_search_changes.specs.Text.{bytes_of}

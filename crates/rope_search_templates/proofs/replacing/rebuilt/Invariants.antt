@@ -1,4 +1,4 @@
--- What is built so far, what is left of the old text, and the changes that were told.
+-- What is built so far, the rest of the old text, and the changes so far.
 use Rattle.std.proofs.Common.{◌≡◌, drop}
 use Rattle.ropey.specs.Chunks.{text_of}
 use Rattle.rope_search_changes.specs.Text.{bytes_of}

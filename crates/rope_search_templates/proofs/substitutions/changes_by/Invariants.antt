@@ -1,4 +1,4 @@
--- The changes that are told so far.
+-- The changes so far.
 use Rattle.std.proofs.Common.{◌≡◌, length, drop, map, vec_len, vec_capacity}
 use Rattle.str_indices.specs.Text.{byte_len}
 use Rattle.ropey.specs.Chunks.{text_of}

@@ -13,7 +13,7 @@ use Rattle.rope_search_templates.proofs.substitutions.edited.Goals as goal
 abbrev nothing : Given
 nothing = record { start = 0; end = 0; text = record { ref_ptr = (0, 0); now = [] } }
 
--- the one that comes next, from the last on
+-- the next one, from the last on
 record IsNext (content : List ℕ) (all : List Given) (left : ℕ) (one : Substitution) : Type 0 where
   at : ℕ
   more : drop (left - 1) (map told all) ≡ one ∷ drop left (map told all)

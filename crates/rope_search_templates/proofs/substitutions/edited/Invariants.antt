@@ -1,4 +1,4 @@
--- The text in which those from some one on have been put in their places.
+-- The text with the substitutions from some one on made.
 use Rattle.std.proofs.Common.{◌≡◌, ◌≤◌, true, length, drop, map}
 use Rattle.std.specs.Str.{all_scalars}
 use Rattle.ropey.specs.Chunks.{text_of}

@@ -4,7 +4,7 @@ use Rattle.rx_literals.proofs.EndingLaws.{all_lead, one_more}
 use Rattle.rx_literals.proofs.ending.go_through.Goals as goal
 use Rattle.rx_literals.proofs.ending.go_through.Goals.{in-More, in-Closed}
 
--- the state at hand
+-- the current state
 there : (c : goal.Joined-mark_next) → slice_get c.args.states.now c.loop-index.index ≡ Some c.index-states-index.result
 there c = slice_get-get_or c.args.states.now c.loop-index.index c.index-states-index.result (omega (arith, c.loop-index-test.true)) ∙ ap Some (sym c.index-states-index.is)
 

@@ -4,7 +4,7 @@ use Rattle.rx_literals.proofs.RequirementLaws.{all_stop, stop_on}
 use Rattle.rx_literals.proofs.required.go_through_but.Goals as goal
 use Rattle.rx_literals.proofs.required.go_through_but.Goals.{in-More, in-Closed}
 
--- the state at hand
+-- the current state
 there : (c : goal.Joined-mark_edges) → slice_get c.args.states.now c.loop-index.index ≡ Some c.index-states-index.result
 there c = slice_get-get_or c.args.states.now c.loop-index.index c.index-states-index.result (omega (arith, c.loop-index-test.true)) ∙ ap Some (sym c.index-states-index.is)
 

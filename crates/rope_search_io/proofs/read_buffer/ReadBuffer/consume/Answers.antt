@@ -1,4 +1,4 @@
--- Bytes taken from the front of a window of the array: the window that begins as many places later.
+-- Bytes consumed from the front of a window of the array: the window that begins that much later.
 use Rattle.std.proofs.Common.{◌≡◌, ℕ, ◌+◌, ◌-◌, ◌≤◌, List, length, take, drop, arith, sym, ap, ◌∙◌}
 use Rattle.std.proofs.lemmas.List.{drop-take, drop-drop, length-take}
 use Rattle.rope_search_io.specs.ReadBuffer.{Unread}

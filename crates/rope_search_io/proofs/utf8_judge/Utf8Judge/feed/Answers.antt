@@ -4,7 +4,7 @@ use Rattle.rope_search_io.specs.Utf8Judge.{Judging, Continues}
 use Rattle.rope_search_io.proofs.Utf8Lemmas.{Continues-two, Continues-past}
 use Rattle.rope_search_io.proofs.utf8_judge.Utf8Judge.feed.Goals as goal
 
--- the two parts of a text that is cut
+-- the two parts of a text that is split
 halves : (front back bytes : List ℕ) (n : ℕ) → front ≡ take n bytes → back ≡ drop n bytes → front ++ back ≡ bytes
 halves front back bytes n p q = ap (λ l. l ++ back) p ∙ ap (λ l. take n bytes ++ l) q ∙ take-append-drop n bytes
 

@@ -1,4 +1,4 @@
--- What the bytes so far ask of those that follow.
+-- What the bytes so far require of those that follow.
 use Rattle.std.proofs.Common.{◌↔◌, ◌++◌, List, ℕ, drop}
 use Rattle.rope_search_io.specs.Utf8Judge.{Continues}
 use Rattle.rope_search_io.proofs.utf8_judge.Utf8Judge.push_all.Given as goal

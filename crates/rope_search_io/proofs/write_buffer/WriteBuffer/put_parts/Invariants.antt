@@ -1,4 +1,4 @@
--- The parts so far went behind what waited.
+-- The parts so far were put.
 use Rattle.std.proofs.Common.{take}
 use Rattle.rope_search_io.specs.WriteBuffer.{Puts, joined}
 use Rattle.rope_search_io.proofs.write_buffer.WriteBuffer.put_parts.Given as goal

@@ -1,4 +1,4 @@
--- What was passed over so far.
+-- What was skipped so far.
 use Rattle.std.proofs.Common.{ℕ, ◌+◌, List}
 use Rattle.rope_search_templates.proofs.LeftLemmas.{IsTaken}
 use Rattle.rope_search_templates.proofs.left.Left.skip.Given as goal

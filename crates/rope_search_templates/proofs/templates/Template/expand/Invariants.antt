@@ -1,4 +1,4 @@
--- What the pieces so far stand for stands behind the old text.
+-- The expansions of the pieces so far follow the old text.
 use Rattle.std.proofs.Common.{◌≡◌, string_bytes}
 use Rattle.std.specs.Str.{chars}
 use Rattle.ropey.specs.Chunks.{text_of}

@@ -1,4 +1,4 @@
--- What is left names an explicit group where the whole does.
+-- The rest names an explicit group if the whole does.
 use Rattle.std.proofs.Common.{◌≡◌}
 use Rattle.rope_search_templates.specs.Templates.{names_explicit_groups}
 use Rattle.rope_search_templates.proofs.templates.Template.names_explicit_groups.Given as goal
