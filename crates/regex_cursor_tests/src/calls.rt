@@ -7,7 +7,7 @@ use ropey::Rope;
 use std::alloc::Global;
 use std::test::Fail;
 
-/// What is found of `git nix`, in any case, from byte 1 on, by a cursor that begins there.
+/// Returns the match of `git nix`, in any case, from byte 1 on, by a cursor that begins there.
 fn git_nix(alloc: Global, text: &str) -> Result<Option<Span>, Fail> {
     let mut builder = Regex::builder();
     builder.syntax(
@@ -23,7 +23,7 @@ fn git_nix(alloc: Global, text: &str) -> Result<Option<Span>, Fail> {
     Ok(found.map(|found| found.span()))
 }
 
-/// Settings of the syntax hold in a rope from a place on.
+/// Settings of the syntax apply in a rope from an offset on.
 #[test]
 fn from_a_place_on(rt: HostRuntime) -> Result<(), Fail> {
     assert!(rt; git_nix(rt.alloc(), "x")? == None);
@@ -32,7 +32,7 @@ fn from_a_place_on(rt: HostRuntime) -> Result<(), Fail> {
     Ok(())
 }
 
-/// A regex of two trees, under the settings that are the default.
+/// Returns a regex of two trees, with default settings.
 fn of_trees(alloc: Global) -> Result<Regex, Fail> {
     let first = parse(alloc, "b", &syntax::Config::new())?;
     let second = parse(alloc, "ab", &syntax::Config::new())?;
@@ -51,7 +51,7 @@ fn build_many_from_hir(rt: HostRuntime) -> Result<(), Fail> {
     Ok(())
 }
 
-/// Where group 1 of the next match lies, if there is one.
+/// Returns the span of group 1 of the next match, if there is one.
 fn next_group(found: &mut CapturesMatches<&str>) -> Result<Option<Span>, MatchError> {
     match found.next() {
         Some(caps) => Ok(caps?.get_group(1)),
@@ -59,7 +59,7 @@ fn next_group(found: &mut CapturesMatches<&str>) -> Result<Option<Span>, MatchEr
     }
 }
 
-/// Groups of matches in an input that was moved on.
+/// Groups of matches in an input whose position was moved.
 #[test]
 fn moved_captures(rt: HostRuntime) -> Result<(), Fail> {
     let re = Regex::new(rt.alloc(), "a(.)")?;

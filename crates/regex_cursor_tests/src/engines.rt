@@ -1,15 +1,15 @@
-//! Examples of whole matches by the engines that search by automata.
+//! Examples of whole matches by the engines with automata.
 
 use regex_cursor::engines::{dfa, hybrid};
 use regex_cursor::{Input, Match, Span};
 use std::test::Fail;
 
-/// Where a match lies, if there is one.
+/// Returns the span of a match, if there is one.
 fn span_of(found: Option<Match>) -> Option<Span> {
     found.map(|found| found.span())
 }
 
-/// A match by states that are made as they are come to, which take room.
+/// A match by states that are made on demand, and the memory that they use.
 #[test]
 fn by_some_states(rt: HostRuntime) -> Result<(), Fail> {
     let re = hybrid::Regex::new(rt.alloc(), "[a-z]+")?;
@@ -20,7 +20,7 @@ fn by_some_states(rt: HostRuntime) -> Result<(), Fail> {
     Ok(())
 }
 
-/// A match by states that are all made, and none.
+/// A match by states that are all made in advance, and no match.
 #[test]
 fn by_all_states(rt: HostRuntime) -> Result<(), Fail> {
     let re = dfa::Regex::new(rt.alloc(), "[a-z]+")?;

@@ -1,5 +1,5 @@
-//! Tests of `regex_cursor` that are proved: an example for each public type, a cursor of one's own,
-//! and finders of one's own for a searcher.
+//! Proved tests of `regex_cursor`: an example for each public type, a custom cursor, and custom
+//! finders for a searcher.
 #![tactic(auto)]
 
 #[cfg(test)]

@@ -1,11 +1,11 @@
-//! All matches of a regex, one after the other.
+//! All matches of a regex, in order.
 
 use counters::Counter;
 use regex_cursor::engines::meta::{LinearMatches, Regex};
 use regex_cursor::{ChunkCursor, Input, PatternID};
 use std::test::Fail;
 
-/// Matches come one after the other, by finds, and from a list once these have read too much.
+/// Matches come in order, by finds, and from a list once these have read too much.
 #[test]
 fn linear_matches(rt: HostRuntime) -> Result<(), Fail> {
     let alloc = rt.alloc();

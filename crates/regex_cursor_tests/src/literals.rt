@@ -3,7 +3,7 @@
 use regex_cursor::{ChunkCursor, Input, MatchKind, Prefilter, Span, literal};
 use std::test::Fail;
 
-/// One of two needles, found across the edge of two pieces.
+/// One of two needles, found across the boundary of two chunks.
 #[test]
 fn prefilter(rt: HostRuntime) -> Result<(), Fail> {
     let chunks: [&[u8]; 3] = [b"one fo", b"", b"ur two"];

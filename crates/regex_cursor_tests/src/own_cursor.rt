@@ -1,4 +1,4 @@
-//! A cursor of one's own, and a search over it.
+//! A custom cursor, and a search over it.
 
 ghost use Rattle.std.specs.Prelude.{◌≡◌};
 
@@ -7,8 +7,8 @@ use regex_cursor::{Anchored, Cursor, Input, MatchKind, Prefilter, Span, literal}
 use std::marker::Model;
 use std::test::Fail;
 
-/// A content that is shown byte by byte, so that pieces cut characters, and of which it isn't told
-/// how long it is.
+/// A haystack that is shown byte by byte, so that chunks split characters, and whose length isn't
+/// known.
 #[derive(Drop)]
 struct Bytewise<'a> {
     bytes: &'a [u8],
@@ -68,7 +68,7 @@ impl<'a> Cursor for Bytewise<'a> {
     }
 
     fn total_bytes(&self) -> Option<usize> {
-        // The cursor's facts, for the proof alone.
+        // For the proof: the cursor's facts.
         let _at = self.at;
         None
     }
@@ -78,7 +78,7 @@ impl<'a> Cursor for Bytewise<'a> {
     }
 }
 
-/// A needle that lies over many pieces, which cut its characters.
+/// A needle that spans many chunks, which split its characters.
 #[test]
 fn a_literal_in_a_cursor_of_ones_own(rt: HostRuntime) -> Result<(), Fail> {
     let needles: [&[u8]; 2] = ["éé".as_bytes(), "été".as_bytes()];
@@ -92,7 +92,7 @@ fn a_literal_in_a_cursor_of_ones_own(rt: HostRuntime) -> Result<(), Fail> {
     Ok(())
 }
 
-/// Searches back from the end of a content of which it isn't told how long it is.
+/// Searches backward from the end of a haystack whose length isn't known.
 #[test]
 fn back_in_a_cursor_of_ones_own(rt: HostRuntime) -> Result<(), Fail> {
     let mut input = Input::new(Bytewise::new("aé été".as_bytes()));

@@ -1,4 +1,4 @@
-//! Examples of what a pattern's tree and its program are made of, and of why a text is none.
+//! Examples of the parts of a pattern's tree and of its program, and of why a text isn't a pattern.
 
 use regex_cursor::nfa::{Program, State, compile};
 use regex_cursor::util::hir::{CharacterSet, Look, Node, Repetition};
@@ -6,7 +6,7 @@ use regex_cursor::util::syntax::Config;
 use regex_cursor::{Hir, Mistake, Reason, Refusal, explain, parse};
 use std::test::Fail;
 
-/// Where and why a text is refused, and that a pattern isn't.
+/// Where and why a text is refused, and that a pattern isn't refused.
 #[test]
 fn refusal(rt: HostRuntime) -> Result<(), Fail> {
     let why: Option<Refusal> = explain(rt.alloc(), "a)", &Config::new())?;
@@ -16,7 +16,7 @@ fn refusal(rt: HostRuntime) -> Result<(), Fail> {
     Ok(())
 }
 
-/// The set of characters that a node reads.
+/// Returns the set of characters that a node reads.
 fn set_of(node: &Node) -> Option<&CharacterSet> {
     match node {
         Node::Set(set) => Some(set),
@@ -24,7 +24,7 @@ fn set_of(node: &Node) -> Option<&CharacterSet> {
     }
 }
 
-/// How often a node says that the part below it is repeated at least.
+/// Returns the minimum number of repetitions at a node.
 fn least_of(node: &Node) -> Option<u32> {
     match node {
         Node::Repeat(Repetition { min, .. }) => Some(*min),

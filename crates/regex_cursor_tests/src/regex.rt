@@ -13,7 +13,7 @@ use ropey::Rope;
 use std::alloc::Global;
 use std::test::Fail;
 
-/// A search over a rope, then over one of its lines, with groups and a cache that is kept.
+/// A search over a rope, then over one of its lines, with groups and a cache that is reused.
 #[test]
 fn regex(rt: HostRuntime) -> Result<(), Fail> {
     let rope = Rope::from_str(rt.alloc(), "a frog@pond,\na toad@road\n")?;
@@ -30,7 +30,7 @@ fn regex(rt: HostRuntime) -> Result<(), Fail> {
     Ok(())
 }
 
-/// Where the match lies that an iterator gives, if it gives one.
+/// Returns the span of the match that an iterator yields, if it yields one.
 fn span_of(item: Option<Result<Match, MatchError>>) -> Result<Option<Span>, MatchError> {
     match item {
         Some(Ok(found)) => Ok(Some(found.span())),
@@ -39,8 +39,8 @@ fn span_of(item: Option<Result<Match, MatchError>>) -> Result<Option<Span>, Matc
     }
 }
 
-/// Matches one after the other. The input is moved on, and back: where the last match didn't end,
-/// an empty one is found.
+/// Matches in order. The input is moved forward and back: an empty match is found where the last
+/// match didn't end.
 #[test]
 fn find_matches(rt: HostRuntime) -> Result<(), Fail> {
     let re = Regex::new(rt.alloc(), "x*")?;
@@ -53,7 +53,7 @@ fn find_matches(rt: HostRuntime) -> Result<(), Fail> {
     Ok(())
 }
 
-/// Where group 1 of the match lies that an iterator gives, if it gives one.
+/// Returns the span of group 1 of the match that an iterator yields, if it yields one.
 fn first_group(found: &mut CapturesMatches<ChunkCursor>) -> Result<Option<Span>, MatchError> {
     match found.next() {
         Some(caps) => Ok(caps?.get_group(1)),
@@ -61,7 +61,7 @@ fn first_group(found: &mut CapturesMatches<ChunkCursor>) -> Result<Option<Span>,
     }
 }
 
-/// Matches with their groups. What is over gives no more.
+/// Matches with their groups. An iterator that has ended yields no more.
 #[test]
 fn captures_matches(rt: HostRuntime) -> Result<(), Fail> {
     let chunks: [&[u8]; 2] = [b"a frog@po", b"nd"];
@@ -73,7 +73,8 @@ fn captures_matches(rt: HostRuntime) -> Result<(), Fail> {
     Ok(())
 }
 
-/// The first part in `a,b,c`, once the input was moved on, and back, past the first match.
+/// Returns the first part in `a,b,c`, after the input was moved forward and back, past the first
+/// match.
 fn first_part(re: &Regex) -> Result<Option<Span>, MatchError> {
     let mut parts: Split<&str> = re.split(Input::new("a,b,c"))?;
     parts.input().set_span(4..5);
@@ -93,7 +94,7 @@ fn parts(rt: HostRuntime) -> Result<(), Fail> {
     Ok(())
 }
 
-/// A regex under settings, by the clone of a builder.
+/// Returns a regex with settings, built by a clone of a builder.
 fn under_settings(alloc: Global) -> Result<Regex, Fail> {
     let mut builder = Builder::new();
     builder.configure(Config::new().line_terminator(b';').hybrid(false));
@@ -102,14 +103,14 @@ fn under_settings(alloc: Global) -> Result<Regex, Fail> {
     Ok(builder.clone()?.build(alloc, "^(b)")?)
 }
 
-/// Whether a regex keeps these settings, and counts patterns and groups.
+/// Returns whether a regex keeps these settings, and counts patterns and groups.
 fn are_kept(re: &Regex) -> bool {
     let config = re.get_config();
     let are_set = config.get_line_terminator() == b';' && !config.get_hybrid() && config.get_dfa();
     are_set && re.pattern_len() == 1 && re.captures_len() == 2 && re.group_info().slot_len() == 2
 }
 
-/// A regex under settings, which it keeps, and the end of the match that it finds.
+/// A regex with settings, which it keeps, and the end of the match that it finds.
 #[test]
 fn builder(rt: HostRuntime) -> Result<(), Fail> {
     let re = under_settings(rt.alloc())?;
@@ -127,7 +128,7 @@ fn build_error(rt: HostRuntime) -> Result<(), Fail> {
     Ok(())
 }
 
-/// The match that is found in an input with a cache which is lent.
+/// Returns the match found in an input with a borrowed cache.
 fn found_with(
     re: &Regex,
     cache: &mut Cache,
@@ -140,7 +141,7 @@ fn found_with(
     Ok(found.map(|found| found.span()))
 }
 
-/// One search each by two regexes, for the second of which the cache is reset.
+/// Searches once with each of two regexes; the cache is reset for the second.
 fn in_turn(
     first: &Regex,
     second: &Regex,
@@ -163,15 +164,15 @@ fn with_one_cache(
     in_turn(first, second, &mut cache)
 }
 
-/// Whether there is a match, where any will do.
+/// Returns whether there is a match, by a search for any match.
 fn has_any(re: &Regex) -> Result<bool, MatchError> {
     let mut input = Input::new("bax");
     input.set_earliest(true);
     Ok(re.find(input)?.is_some())
 }
 
-/// A cache that was made for one regex and is reset for another one; and a search for any match, of
-/// which only whether there is one is promised.
+/// A cache that was made for one regex and is reset for another one; and a search for any match,
+/// whose only specified result is whether there is one.
 #[test]
 fn cache(rt: HostRuntime) -> Result<(), Fail> {
     let first = Regex::new(rt.alloc(), "x")?;

@@ -4,7 +4,7 @@ use regex_cursor::{Cursor, RopeyCursor};
 use ropey::Rope;
 use std::test::Fail;
 
-/// Whether a cursor shows this text in one piece.
+/// Returns whether a cursor shows this text in one chunk.
 fn shows(cursor: &RopeyCursor, text: &str) -> bool {
     cursor.chunk() == text.as_bytes()
         && cursor.total_bytes() == Some(text.len())
@@ -12,7 +12,7 @@ fn shows(cursor: &RopeyCursor, text: &str) -> bool {
         && cursor.utf8_aware()
 }
 
-/// A text of one chunk, which is walked by it.
+/// A text of one chunk, which the cursor visits.
 #[test]
 fn ropey_cursor(rt: HostRuntime) -> Result<(), Fail> {
     let rope = Rope::from_str(rt.alloc(), "one two")?;

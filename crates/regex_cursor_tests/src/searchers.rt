@@ -1,4 +1,4 @@
-//! Matches that a searcher comes to, one after the other, by a finder.
+//! Matches of a searcher, in order, by a custom finder.
 
 ghost use Rattle.std.specs.Prelude.{◌≡◌, IfOk};
 ghost use Rattle.std.specs.Option.{ForSome};
@@ -11,7 +11,7 @@ use rx_util::{HalfMatch, Match, MatchError, Span};
 use std::alloc::Global;
 use std::test::Fail;
 
-/// The match that an engine finds, by a cache of its own.
+/// Returns the match found by an engine, with its own cache.
 fn find(alloc: Global, vm: &PikeVM, input: &mut Input<&str>) -> Result<Option<Match>, MatchError>
     ensures asked { input.new.asked ≡ input.old.asked }
     ensures inside { IfOk result (λ found. ForSome found
@@ -23,7 +23,7 @@ fn find(alloc: Global, vm: &PikeVM, input: &mut Input<&str>) -> Result<Option<Ma
     Ok(caps.get_match())
 }
 
-/// Where the match ends that an engine finds.
+/// Returns where the match found by an engine ends.
 fn find_end(
     alloc: Global,
     vm: &PikeVM,
@@ -39,7 +39,7 @@ fn find_end(
     }
 }
 
-/// The next match of a searcher.
+/// Returns the next match of a searcher.
 fn next_match(
     alloc: Global,
     vm: &PikeVM,
@@ -48,7 +48,7 @@ fn next_match(
     searcher.try_advance(|input| find(alloc, vm, input))
 }
 
-/// An empty match where the one before ended is passed over.
+/// An empty match where the one before ended is skipped.
 #[test]
 fn empty_matches(rt: HostRuntime) -> Result<(), Fail> {
     let alloc = rt.alloc();
@@ -63,7 +63,7 @@ fn empty_matches(rt: HostRuntime) -> Result<(), Fail> {
     Ok(())
 }
 
-/// So is any half match that ends there.
+/// So is a half match that ends there.
 #[test]
 fn half_matches(rt: HostRuntime) -> Result<(), Fail> {
     let alloc = rt.alloc();

@@ -1,4 +1,4 @@
-//! The program of a crate that stands on `rope_search`, which its README shows.
+//! The program of a crate that uses `rope_search`, as its README shows it.
 use rope_search::{Buffer, Fault, Limits, Lines, Position};
 use std::io;
 use std::process::ExitCode;
@@ -14,7 +14,7 @@ fn main(rt: HostRuntime) -> ExitCode {
     }
 }
 
-/// A text and a pattern, and an edit, which the report follows.
+/// Returns a buffer with a text, a pattern and an edit, which the report follows.
 fn edited(rt: &HostRuntime, tick: &mut Lines) -> Result<Buffer, Fault> {
     let mut buffer = Buffer::new(rt.alloc(), Limits::default())?;
     buffer.set_text(tick, "a frog\na toad")?;
@@ -24,7 +24,7 @@ fn edited(rt: &HostRuntime, tick: &mut Lines) -> Result<Buffer, Fault> {
     Ok(buffer)
 }
 
-/// Writes a line for each match: where it is, and its columns.
+/// Writes a line for each match: its line and its columns.
 fn show(rt: &HostRuntime, buffer: &Buffer) -> io::Result<()> {
     for (line, row) in buffer.report().unwrap_or(&[]).iter().enumerate() {
         for (start, end) in row.matches() {
@@ -34,7 +34,7 @@ fn show(rt: &HostRuntime, buffer: &Buffer) -> io::Result<()> {
     Ok(())
 }
 
-/// What it writes: three matches, one of them in what was put in.
+/// It writes three matches, one of them in the inserted text.
 #[test]
 fn a_program_of_ones_own(rt: HostRuntime) -> Result<(), std::test::Fail> {
     let mut tick = Lines::new(&rt);

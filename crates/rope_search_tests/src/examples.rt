@@ -5,8 +5,8 @@ use rope_search::{
 };
 use std::test::Fail;
 
-// Nothing is said of what it answers: so what follows is proved without the contract of a command, and
-// shows what that does.
+// It has no contract, so the tests are proved without the contract of a command, and show its
+// effect.
 fn session_of(
     rt: &HostRuntime,
     tick: &mut Lines,
@@ -47,12 +47,12 @@ fn a_run_over_memory(rt: HostRuntime) -> Result<(), Fail> {
     Ok(())
 }
 
-// So it is with this.
+// The same for this.
 fn apply(session: &mut Session, tick: &mut Lines, command: Command<'_>) -> Result<Reply, Fault> {
     session.apply(tick, command)
 }
 
-// So it is with a buffer that has a text and a pattern.
+// The same for a buffer with a text and a pattern.
 fn buffer_of(
     rt: &HostRuntime,
     tick: &mut Lines,
@@ -65,7 +65,7 @@ fn buffer_of(
     Ok(buffer)
 }
 
-// So it is with this.
+// The same for this.
 fn groups_at(
     session: &mut Session,
     tick: &mut Lines,
@@ -75,7 +75,8 @@ fn groups_at(
     session.groups_at(tick, line, number)
 }
 
-// Whether these are the places of a match and of its two groups, and no other group is there.
+// Returns whether these are the columns of a match and of its two groups, and there is no other
+// group.
 fn are_these(groups: &Groups, places: [Option<(usize, usize)>; 3]) -> bool {
     groups[0] == places[0]
         && groups[1] == places[1]
@@ -83,8 +84,8 @@ fn are_these(groups: &Groups, places: [Option<(usize, usize)>; 3]) -> bool {
         && groups[9].is_none()
 }
 
-/// `Session::groups_at`: the groups of a match of the report, each by its columns; the frog has two
-/// code units. Its line is searched once more.
+/// `Session::groups_at`: the groups of a match of the report, as columns; the frog has two code
+/// units. Its line is searched once more.
 #[test]
 fn groups_of_a_match(rt: HostRuntime) -> Result<(), Fail> {
     let mut tick = Lines::new(&rt);
@@ -101,8 +102,8 @@ fn groups_of_a_match(rt: HostRuntime) -> Result<(), Fail> {
     Ok(())
 }
 
-/// `pattern_error` and `Refusal`, `Reason`, `Mistake`: where and why a text is no pattern; nothing
-/// for a pattern, also one that is too heavy, and for one that is too long.
+/// `pattern_error` and `Refusal`, `Reason`, `Mistake`: where and why a text is no pattern; `None`
+/// for a pattern, also for one that is too heavy, and for one that is too long.
 #[test]
 fn why_a_pattern_is_refused(rt: HostRuntime) -> Result<(), Fail> {
     let open = Refusal {
@@ -116,7 +117,7 @@ fn why_a_pattern_is_refused(rt: HostRuntime) -> Result<(), Fail> {
     Ok(())
 }
 
-/// `Reply`: what an accepted command is answered. A fork is a buffer of its own.
+/// `Reply`: the replies to accepted commands. A fork is a buffer of its own.
 #[test]
 fn replies(rt: HostRuntime) -> Result<(), Fail> {
     let mut tick = Lines::new(&rt);
@@ -141,7 +142,7 @@ fn replies(rt: HostRuntime) -> Result<(), Fail> {
 
 /// `Payload`: one that was kept, one that is too long to keep, and one for which there was no
 /// memory. `Limits`: one on the bytes of a text, which doesn't apply to patterns. A refusal leaves
-/// the text.
+/// the text unchanged.
 #[test]
 fn payloads(rt: HostRuntime) -> Result<(), Fail> {
     let mut tick = Lines::new(&rt);
@@ -177,8 +178,8 @@ fn payloads(rt: HostRuntime) -> Result<(), Fail> {
     Ok(())
 }
 
-/// `Buffer`, `Position` and `Lines`: an edit between two positions, and back. The line that it is in is
-/// searched again alone, as the count of rows tells.
+/// `Buffer`, `Position` and `Lines`: an edit between two positions, and its undo. Only the edited
+/// line is searched again, as the count of rows shows.
 #[test]
 fn an_edit_of_a_line(rt: HostRuntime) -> Result<(), Fail> {
     let mut tick = Lines::new(&rt);
@@ -196,13 +197,13 @@ fn an_edit_of_a_line(rt: HostRuntime) -> Result<(), Fail> {
     Ok(())
 }
 
-// So it is with this.
+// The same for this.
 fn edit_all(session: &mut Session, tick: &mut Lines, edits: &[Edit<'_>]) -> Result<(), Fault> {
     session.edit_all(tick, edits)
 }
 
-/// `Edit`: several edits as one, all told in terms of the text before any of them, of which two may
-/// touch. Each searches as many lines as it inserts, and one undo takes all back.
+/// `Edit`: several edits as one. Their positions are those of the text before any of them, and two
+/// may touch. Each searches as many lines as it inserts, and one undo reverts all.
 #[test]
 fn several_edits_as_one(rt: HostRuntime) -> Result<(), Fail> {
     let mut tick = Lines::new(&rt);

@@ -1,10 +1,9 @@
-//! Examples of where bytes come from and where they go, one for each type.
+//! Examples of sources and sinks of bytes, one for each type.
 use rope_search::{Broken, Device, Failed, Fault, MemorySink, MemorySource, Sink, Source};
 use rope_search_io::{ReadBuffer, Utf8Judge, WriteBuffer, write_all};
 use std::test::Fail;
 
-/// A source over memory gives at most as many bytes in a call as it was told, and fails
-/// at one call.
+/// A source in memory gives at most `step` bytes in a call, and fails at one call.
 #[test]
 fn a_memory_source(rt: HostRuntime) -> Result<(), Fail> {
     let mut source = MemorySource::new(b"rope", 3, Some(2));
@@ -19,8 +18,7 @@ fn a_memory_source(rt: HostRuntime) -> Result<(), Fail> {
     Ok(())
 }
 
-/// A sink over memory takes at most as many bytes in a call as it was told, and no more than it has
-/// room for.
+/// A sink in memory takes at most `step` bytes in a call, and no more than it has room for.
 #[test]
 fn a_memory_sink(rt: HostRuntime) -> Result<(), Fail> {
     let mut sink = MemorySink::new(rt.alloc(), 4, 3, None)?;
@@ -45,8 +43,8 @@ fn a_device(rt: HostRuntime) -> Result<(), Fail> {
     Ok(())
 }
 
-/// Bytes are taken from a read buffer one by one, or many at once; it reads its source where none
-/// is left.
+/// Bytes are consumed from a read buffer one by one, or many at once; it reads its source when it
+/// is empty.
 #[test]
 fn a_read_buffer(rt: HostRuntime) -> Result<(), Fail> {
     let mut source = MemorySource::new(b"rope", 4096, None);
@@ -60,7 +58,7 @@ fn a_read_buffer(rt: HostRuntime) -> Result<(), Fail> {
     Ok(())
 }
 
-/// Bytes wait in a write buffer until they are sent, or until there is no room for more.
+/// Bytes stay in a write buffer until they are sent, or until there is no room for more.
 #[test]
 fn a_write_buffer(rt: HostRuntime) -> Result<(), Fail> {
     let mut sink = MemorySink::new(rt.alloc(), 8, 4096, None)?;
@@ -76,7 +74,7 @@ fn a_write_buffer(rt: HostRuntime) -> Result<(), Fail> {
     Ok(())
 }
 
-/// Whether bytes are UTF-8 is judged in pieces, which may cut characters.
+/// UTF-8 is checked in parts, which may split characters.
 #[test]
 fn a_utf8_judge(rt: HostRuntime) {
     let mut judge = Utf8Judge::new();
@@ -88,8 +86,8 @@ fn a_utf8_judge(rt: HostRuntime) {
     assert!(rt; !judge.is_utf8());
 }
 
-/// A fault is shown by its word. Of the faults that apply to a command, the one of the least rank
-/// is told.
+/// A fault is shown by its word. Of the faults that apply to a command, the one with the least rank
+/// is reported.
 #[test]
 fn a_fault(rt: HostRuntime) -> Result<(), Fail> {
     let cases = [

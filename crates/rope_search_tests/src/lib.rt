@@ -1,5 +1,5 @@
-//! Tests of `rope_search` and the crates below it that are proved: an example of each public type,
-//! and a source and a sink of one's own.
+//! Proved tests of `rope_search` and the crates below it: an example of each public type, and a
+//! custom source and sink.
 #![tactic(auto)]
 
 #[cfg(test)]

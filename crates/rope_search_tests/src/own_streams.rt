@@ -1,4 +1,4 @@
-//! A source and a sink of one's own, and what goes from one to the other.
+//! A custom source and sink, and a copy from one to the other.
 
 ghost use Rattle.std.specs.Prelude.{Some};
 
@@ -7,11 +7,11 @@ use rope_search_io::{Broken, Failed, Sink, Source, write_all};
 use std::alloc::Global;
 use std::test::Fail;
 
-/// Gives a byte a call.
+/// Gives one byte in each call.
 #[derive(Drop)]
 struct Typist<'a> {
     bytes: &'a [u8],
-    // Read by contracts alone; they take no bytes at run time.
+    // Read by contracts only; they take no bytes at run time.
     reads: Counter,
     narrow: Counter,
     failures: Counter,
@@ -55,7 +55,7 @@ impl<'a> Source for Typist<'a> {
     }
 }
 
-/// Prints what it is given, at most so many bytes of a call on a page, as long as there are pages.
+/// Prints what it is given, in each call at most one page, as long as there are pages.
 #[derive(Drop)]
 struct Printer {
     printed: Vec<u8>,
@@ -79,7 +79,7 @@ impl Printer {
     }
 }
 
-/// How many bytes a page has.
+/// The number of bytes of a page.
 const PAGE: usize = 5;
 
 impl Sink for Printer {
@@ -112,7 +112,7 @@ impl Sink for Printer {
 
 const TEXT: &[u8] = b"a few words, in bytes";
 
-/// Hands on what a source gives, up to its end or the first failure.
+/// Copies what a source gives to a sink, up to its end or the first failure.
 fn copy(source: &mut Typist, sink: &mut Printer) -> Result<(), Broken> {
     for _ in 0..100 {
         let mut room = [0; 3];

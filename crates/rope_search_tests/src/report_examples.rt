@@ -23,7 +23,7 @@ fn one_finder_for_many_lines(rt: HostRuntime) -> Result<(), Fail> {
     Ok(())
 }
 
-// Whether these are three matches, of which the first has these groups.
+// Returns whether these are three matches, the first of which has these groups.
 fn are_three(found: &[Groups]) -> bool {
     let [first, _, _] = found else {
         return false;
@@ -35,8 +35,8 @@ fn are_three(found: &[Groups]) -> bool {
         && first[4].is_none()
 }
 
-/// `find_all` and `Groups`: all matches in a whole text, over the ends of its lines, each with the
-/// spans of its groups. One that the pattern doesn't have has none.
+/// `find_all` and `Groups`: all matches in a whole text, across the ends of its lines, each with
+/// the spans of its groups. A group that the pattern doesn't have has none.
 #[test]
 fn matches_in_a_whole_text(rt: HostRuntime) -> Result<(), Fail> {
     let text = Rope::from_str(rt.alloc(), "a=1\nb c=\nd")?;
@@ -47,8 +47,8 @@ fn matches_in_a_whole_text(rt: HostRuntime) -> Result<(), Fail> {
     Ok(())
 }
 
-// Nothing is said of what it answers: so what follows is proved without the contracts of positions, and
-// shows what they do.
+// It has no contract, so the tests are proved without the contracts of positions, and show their
+// effect.
 fn are_of_each_other(text: &Rope, line: usize, column: usize, byte_idx: usize) -> bool {
     let position = Position { line, column };
     match byte_of(text, position) {
@@ -57,7 +57,7 @@ fn are_of_each_other(text: &Rope, line: usize, column: usize, byte_idx: usize) -
     }
 }
 
-/// `Position`: one in the text of a line, or at that text's end, is at one place, whose position it
+/// `Position`: one in the text of a line, or at that text's end, has one offset, whose position it
 /// is. The frog has four bytes and two code units, and its line ends before CR LF.
 #[test]
 fn positions_and_their_places(rt: HostRuntime) -> Result<(), Fail> {

@@ -1,10 +1,10 @@
-//! Each public type of `ropey` in use.
+//! Uses of each public type of `ropey`.
 
 use ropey::{Ends, Error, Rope, RopeBuilder, RopeSlice, TextRange};
 use std::alloc::{AllocError, Global};
 use std::test::Fail;
 
-/// Whether there is a part, and it is this text.
+/// Returns whether there is a part, and it is this text.
 fn is_text(part: Option<RopeSlice<'_>>, text: &str) -> bool {
     match part {
         Some(part) => part.as_str() == Some(text),
@@ -12,7 +12,8 @@ fn is_text(part: Option<RopeSlice<'_>>, text: &str) -> bool {
     }
 }
 
-/// Whether a rope of nine characters tells what stands at its last one, and behind it.
+/// Returns whether a rope of nine characters has the right results for its last character, and
+/// after it.
 fn tells_its_end(rope: &Rope) -> bool {
     rope.try_char_to_utf16_cu(9) == Ok(10)
         && rope.try_char_to_byte(10) == Err(Error::CharIndexOutOfBounds(10, 9))
@@ -54,7 +55,7 @@ fn an_edited_rope(rt: HostRuntime) -> Result<(), Fail> {
     Ok(())
 }
 
-/// A rope of two parts, which a CR LF lies across.
+/// Returns a rope of two parts; a CR LF spans their boundary.
 fn of_parts(alloc: Global) -> Result<Rope, Error> {
     let mut builder = RopeBuilder::new(alloc);
     builder.append("one\r")?;
@@ -62,7 +63,7 @@ fn of_parts(alloc: Global) -> Result<Rope, Error> {
     builder.finish()
 }
 
-/// A rope of a text and a slice.
+/// Returns a rope of a text and a slice.
 fn with_slice(alloc: Global, slice: RopeSlice<'_>) -> Result<Rope, Error> {
     let mut builder = RopeBuilder::new(alloc);
     builder.append("three ")?;
@@ -81,7 +82,7 @@ fn rope_builder(rt: HostRuntime) -> Result<(), Fail> {
     Ok(())
 }
 
-/// Whether the bytes of `aé` come from its start on, and back from its end.
+/// Returns whether the bytes of `aé` are yielded from its start on, and backward from its end.
 fn gives_bytes(rope: &Rope) -> bool {
     let mut bytes = rope.bytes();
     let mut back = rope.bytes_at(rope.len_bytes()).reversed();
@@ -92,7 +93,7 @@ fn gives_bytes(rope: &Rope) -> bool {
         && back.next() == Some(0xA9)
 }
 
-/// Whether its characters do, and a clone that is turned round goes back.
+/// Returns whether its characters are too, and a reversed clone goes backward.
 fn gives_chars(rope: &Rope) -> Result<bool, AllocError> {
     let mut chars = rope.chars();
     let mut is_so = chars.next() == Some('a');
@@ -108,7 +109,8 @@ fn bytes_and_chars(rt: HostRuntime) -> Result<(), Fail> {
     Ok(())
 }
 
-/// Whether three lines, of which the last is empty, come from the start on, and back from the end.
+/// Returns whether three lines, the last of which is empty, are yielded from the start on, and
+/// backward from the end.
 fn gives_lines(rope: &Rope) -> bool {
     let mut lines = rope.lines();
     let mut back = rope.lines_at(rope.len_lines()).reversed();
@@ -118,7 +120,7 @@ fn gives_lines(rope: &Rope) -> bool {
         && is_text(back.next(), "two\n")
 }
 
-/// Whether they are found by their numbers.
+/// Returns whether they are found by their numbers.
 fn has_lines(rope: &Rope) -> bool {
     let is_first = rope.len_lines() == 3 && rope.line(0).as_str() == Some("one\r\n");
     is_first && is_text(rope.get_line(1), "two\n") && rope.get_line(3).is_none()
@@ -131,7 +133,7 @@ fn lines(rt: HostRuntime) -> Result<(), Fail> {
     Ok(())
 }
 
-/// Whether a rope of one chunk gives it, from its end back, and from its start on.
+/// Returns whether a rope of one chunk yields it, backward from its end, and from its start on.
 fn gives_chunk(rope: &Rope, text: &str) -> bool {
     let (mut behind, byte, char, line) = rope.chunks_at_byte(rope.len_bytes());
     let mut ahead = rope.chunks_at_char(0).0;
@@ -151,7 +153,8 @@ fn chunks(rt: HostRuntime) -> Result<(), Fail> {
     Ok(())
 }
 
-/// Whether a slice counts its own text: this one starts with the LF, which is a break for it.
+/// Returns whether a slice counts in its own text: this one starts with the LF, which is a break
+/// for it.
 fn counts_its_own(slice: RopeSlice<'_>) -> bool {
     let copy = slice;
     slice.len_chars() == 5
@@ -161,8 +164,8 @@ fn counts_its_own(slice: RopeSlice<'_>) -> bool {
         && copy.get_char(4) == Some('🐸')
 }
 
-/// Whether the parts of a rope are there that lie in it. Where a `get_` form answers a slice, the
-/// plain form has its condition.
+/// Returns whether the parts inside a rope exist. If a `get_` method returns a slice, the condition
+/// of the plain method holds.
 fn has_parts(rope: &Rope) -> bool {
     if rope.get_slice(..5).is_none() || rope.get_byte_slice(8..).is_none() {
         return false;
@@ -181,12 +184,12 @@ fn rope_slice(rt: HostRuntime) -> Result<(), Fail> {
     Ok(())
 }
 
-/// The first character of a range.
+/// Returns the first character of a range.
 fn first_char<R: TextRange>(rope: &Rope, char_range: R) -> Option<char> {
     rope.get_slice(char_range)?.get_char(0)
 }
 
-/// Whether ranges of each form begin where they should.
+/// Returns whether ranges of each form begin where they should.
 fn take_ranges(rope: &Rope) -> bool {
     first_char(rope, 1..2) == Some('n')
         && first_char(rope, 1..=2) == Some('n')
@@ -197,13 +200,13 @@ fn take_ranges(rope: &Rope) -> bool {
         && first_char(rope, ..=3).is_none()
 }
 
-/// Whether a range that was iterated to its end is empty.
+/// Returns whether a range that was iterated to its end is empty.
 fn is_empty_where_spent(rope: &Rope) -> bool {
     let mut spent = 1..=1;
     spent.next() == Some(1) && spent.next().is_none() && is_text(rope.get_slice(spent), "")
 }
 
-/// What ranges tell of their ends.
+/// Checks the bounds of ranges.
 fn tell_ends() -> bool {
     let ends = (1..=2).ends();
     let open = Ends {

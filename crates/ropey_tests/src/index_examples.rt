@@ -1,4 +1,4 @@
-//! How the modules of `str_indices` are used.
+//! Uses of the modules of `str_indices`.
 
 use str_indices::byte_chunk::{ByteChunk, Chunk};
 use str_indices::{Counter, chars, lines, lines_crlf, lines_lf, utf16};
@@ -12,7 +12,7 @@ fn are_characters(text: &str) -> bool {
         && chars::from_byte_idx(text, 5) == 2
 }
 
-/// A column of a language server counts UTF-16 code units. The second unit of a pair answers the
+/// A column of a language server counts UTF-16 code units. The second unit of a pair has the
 /// character's start.
 fn are_code_units(text: &str) -> bool {
     utf16::count(text) == 5
@@ -31,7 +31,7 @@ fn are_lines(text: &str) -> bool {
         && lines_lf::to_byte_idx(text, 1) == 5
 }
 
-/// A text falls into its first line, the break, and the rest.
+/// A text splits into its first line, the break, and the rest.
 fn fall_apart(text: &str) -> bool {
     match lines::first_break(text) {
         Some(at) => &text[..at.start] == "one" && &text[at.end..] == "two",
@@ -58,7 +58,7 @@ fn readme(rt: HostRuntime) {
     assert_eq!(rt; utf16::to_byte_idx(text, 9), 8);
 }
 
-/// Which bytes of eight are LF: 1 in their lanes, the first byte in the lowest.
+/// Returns which bytes of eight are LF: 1 in their lanes, the first byte in the lowest.
 fn are_lanes(chunk: usize) -> bool {
     chunk.cmp_eq_byte(b'\n') == 0x0000_0101_0000_0100
         && chunk.cmp_eq_byte(b'\n').first_nonzero() == 1

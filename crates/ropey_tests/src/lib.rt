@@ -1,5 +1,4 @@
-//! Tests of `ropey` and `str_indices` that are proved: an example of each public type, and a chunk of
-//! one's own.
+//! Proved tests of `ropey` and `str_indices`: an example of each public type, and a custom chunk.
 #![tactic(auto)]
 
 #[cfg(test)]

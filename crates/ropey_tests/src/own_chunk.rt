@@ -1,5 +1,4 @@
-//! A chunk of one's own: four bytes, as a machine without vectors may have them, and kernels over
-//! it.
+//! A custom chunk: four bytes, as a machine without vectors may have them, and kernels over it.
 
 ghost use Rattle.std.specs.Prelude.{◌≡◌, [], ◌∷◌, if◌then◌else◌};
 ghost use Rattle.std.proofs.Common.{«lit≤», «lit<»};
@@ -17,7 +16,7 @@ struct Four {
     fourth: u8,
 }
 
-/// 1 for a lane from `low` to `high`, and 0 for another.
+/// Returns 1 for a lane from `low` to `high`, and 0 for another.
 fn mark_between(low: u8, high: u8, lane: u8) -> u8
     ensures { result ≡ (if is_between low high lane then 1 else 0) }
 {
@@ -123,7 +122,7 @@ impl ByteChunk for Four {
     }
 }
 
-/// Whether kernels over it answer what the calls do, which take vectors.
+/// Returns whether kernels over it have the results of the calls, which use vectors.
 fn count_alike(text: &str, leading: usize, turns: &mut Counter) -> bool {
     lines_crlf::count_breaks_impl::<Four>(text, leading, turns) == lines_crlf::count_breaks(text)
         && chars::count_impl::<Four>(text, leading, turns) == chars::count(text)
