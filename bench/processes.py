@@ -1,7 +1,7 @@
-"""Programs that are given commands, and what these take: time, memory, instructions.
+"""Programs that get commands, and their cost: time, memory, instructions.
 
-Time is that of the processor that a program takes itself, the kernel's work for it included, so what else the machine
-does matters little; a program that runs alone on one thread takes as long by a clock.
+Time is the processor time of the program itself, including the kernel's work for it, so other load on the machine
+matters little; for a program that runs alone on one thread it is the same as wall-clock time.
 """
 import os
 import re
@@ -13,13 +13,13 @@ import time
 from texts import TOP
 
 PROGRAM = os.path.join(TOP, "bin", "rope-search")
-PLAIN = os.path.join(TOP, "bin", "plain")  # where cargo and Rust's regex are at hand: make bin/plain
+PLAIN = os.path.join(TOP, "bin", "plain")  # if cargo and Rust's regex are installed: make bin/plain
 OURS, THEIRS = "rope-search", "plain Rust program"
 RUNS = 5
 
 
 def programs():
-    """The programs that take commands, by their names."""
+    """The programs that execute commands, by their names."""
     return {OURS: PROGRAM, **({THEIRS: PLAIN} if os.path.exists(PLAIN) else {})}
 
 
@@ -40,7 +40,7 @@ def written(folder, name, *commands):
 
 
 class Session:
-    """A program at the other end of pipes. Where it ended early, it answers nothing."""
+    """A program at the other end of pipes. If it ended early, it answers nothing."""
 
     def __init__(self, program):
         self.process = subprocess.Popen([program], stdin=subprocess.PIPE, stdout=subprocess.PIPE)
@@ -55,8 +55,8 @@ class Session:
             self.process.wait()
 
     def spent(self):
-        """The nanoseconds of the processor that the program took so far: the clock of its number, as
-        clock_getcpuclockid of C has it."""
+        """The nanoseconds of processor time that the program took so far: the clock of its process number, as
+        clock_getcpuclockid of C returns it."""
         return time.clock_gettime_ns(~self.process.pid << 3 | 2)
 
     def ask(self, commands):
@@ -78,7 +78,7 @@ class Session:
 
 
 def kept_by(program, settings, commands):
-    """The bytes that a session has from the system after the commands, less those that it had before them."""
+    """The bytes that a session gets from the system after the commands, minus those that it had before them."""
     with Session(program) as session:
         session.ask(settings)
         before = session.resident()
@@ -87,8 +87,8 @@ def kept_by(program, settings, commands):
 
 
 def taken(program, settings, *batches, runs=RUNS):
-    """What batches of commands take behind settings, one after the other in a session: for each the nanoseconds, in the
-    median of so many sessions, and the replies."""
+    """The cost of batches of commands after settings, one after the other in a session: for each the nanoseconds, as
+    the median of several sessions, and the replies."""
     times = []
     for _ in range(runs):
         with Session(program) as session:
@@ -99,7 +99,7 @@ def taken(program, settings, *batches, runs=RUNS):
 
 
 def timed(words, given=os.devnull, out=None):
-    """The nanoseconds of a run, and what it wrote where that goes to no file."""
+    """The nanoseconds of a run, and its output unless that goes to a file."""
     with open(given, "rb") as stdin, open(out or os.devnull, "wb") as file:
         process = subprocess.Popen(words, stdin=stdin, stdout=file if out else subprocess.PIPE)
         said = b"" if out else process.stdout.read()
@@ -108,15 +108,15 @@ def timed(words, given=os.devnull, out=None):
 
 
 def nanos_of(call):
-    """The nanoseconds of a call, and its answer."""
+    """The nanoseconds of a call, and its result."""
     start = time.process_time_ns()
     answer = call()
     return time.process_time_ns() - start, answer
 
 
 def peak_of(words, given):
-    """The most memory that a run held, in kB. A child of this program would be told with the pages that it had from
-    here before it began, so a small program starts it."""
+    """The maximum memory that a run held, in kB. A child of this program would be reported with the pages that it
+    inherited, so a small program starts it."""
     with open(given, "rb") as stdin, tempfile.NamedTemporaryFile() as told:
         by_time = ["/usr/bin/time", "-q", "-f", "%M", "-o", told.name, *words]
         subprocess.run(by_time, stdin=stdin, stdout=subprocess.DEVNULL, check=True)
@@ -128,8 +128,8 @@ def tells_peak():
 
 
 def instructions(program, *commands):
-    """How many instructions a program takes up to its last reply, of a line each: nearly the same each time, whatever
-    else the machine does. It is stopped there, so what it frees at its end isn't counted."""
+    """The number of instructions of a program up to its last reply, of a line each: nearly the same each time, whatever
+    the load of the machine. It is stopped there, so what it frees at its end isn't counted."""
     words = ["valgrind", "--tool=callgrind", "--callgrind-out-file=/dev/null", program]
     with subprocess.Popen(words, stdin=subprocess.PIPE, stdout=subprocess.PIPE, stderr=subprocess.PIPE) as ran:
         ran.stdin.write(b"".join(commands))

@@ -1,4 +1,4 @@
-"""The page of results, read."""
+"""Reads the page of results."""
 import os
 import re
 
@@ -18,7 +18,8 @@ def cells(line):
 
 
 def figures(text, topic):
-    """The figures of a topic's table, by the names of row and column in either order: none where it has no topic."""
+    """The figures of a topic's table, by the names of row and column in either order: none if there is no such
+    topic."""
     found = re.search(rf"^## {topic}\n(.*?)(?=^## |\Z)", text, flags=re.M | re.S)
     rows = [cells(line) for line in found[1].splitlines() if line.startswith("|")] if found else [[]]
     told = {(row[0], name): field for row in rows[2:] for name, field in zip(rows[0][1:], row[1:]) if field}

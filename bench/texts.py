@@ -1,4 +1,4 @@
-"""The texts that are measured over."""
+"""The texts of the measurements."""
 import glob
 import os
 import random
@@ -21,7 +21,7 @@ def lines_of(lines):
 
 
 def source_text():
-    """Lines of the sources here, of which 250,000 bytes of ASCII are taken."""
+    """Lines of this repository's sources, with a total of 250,000 bytes of ASCII."""
     out = []
     for path in sorted(glob.glob(os.path.join(TOP, "crates", "*", "src", "*.rt"))):
         with open(path, encoding="utf-8") as file:
@@ -30,7 +30,7 @@ def source_text():
 
 
 def part_of(kind):
-    """What a text of a kind repeats."""
+    """The part that a text of a kind repeats."""
     if kind == "ascii":
         return source_text()
     if kind == "mixed":
@@ -41,7 +41,7 @@ def part_of(kind):
 
 
 def text_of(kind, size):
-    """A text of a kind: so many lines, or at least so many bytes."""
+    """A text of a kind: with this number of lines, or at least this number of bytes."""
     if kind == "lines":
         return lines_of(size)
     if kind == "short":

@@ -1,6 +1,7 @@
-"""A letter by each way into the library: by calls in C, Python, Lua, Rust and WebAssembly, by commands over pipes, in Neovim,
-and by the language server. Each function returns medians in nanoseconds: of a letter typed in a random line until the
-report is right again, of its undo, and of a window's rows, as many as that way has; none if its tool isn't at hand."""
+"""A letter typed by each way to use the library: by calls in C, Python, Lua, Rust and WebAssembly, by commands over
+pipes, in Neovim, and by the language server. Each function returns medians in nanoseconds: of a letter typed in a
+random line until the report is up to date, of its undo, and of a window's rows, as many of these as that way has; none
+if its tool isn't installed."""
 import json
 import os
 import random
@@ -13,14 +14,14 @@ import time
 from processes import PROGRAM, written
 from texts import TOP
 
-CALLED = r"y\(\w+"  # under which calls are measured
+CALLED = r"y\(\w+"  # with which calls are measured
 RARE = r"line \d*000 "  # in one line of a thousand
 WEB_MODULE = os.path.join(TOP, "bin", "rope_search.wasm")
 MEMORY64 = "--experimental-wasm-memory64"
 
 
 def told_by(words, **more):
-    """The medians that a program tells, each behind its name."""
+    """The medians that a program prints, each after its name."""
     told = subprocess.run(words, stdout=subprocess.PIPE, check=True, text=True, env=dict(os.environ, **more)).stdout
     return [float(line.split()[1]) for line in told.splitlines()]
 
@@ -46,14 +47,14 @@ def by_c(folder, lines, edits):
 
 
 def over_pipes(folder, lines, edits):
-    """Those of a letter typed and undone, by a program in C that writes the commands to the program."""
+    """Those of a letter typed and undone, by a C program that writes the commands to the program."""
     made = os.path.join(folder, "piped")
     subprocess.run(["cc", "-O2", "-o", made, os.path.join(TOP, "bench", "piped.c")], check=True)
     return told_by([made, PROGRAM, str(lines), str(edits)])
 
 
 def by_lua(lines, edits):
-    """The same as in C by bindings/lua, where LuaJIT is at hand."""
+    """The same as in C by bindings/lua, if LuaJIT is installed."""
     if not shutil.which("luajit"):
         return []
     paths = {"LUA_PATH": os.path.join(TOP, "bindings", "lua", "?.lua")}
@@ -61,7 +62,7 @@ def by_lua(lines, edits):
 
 
 def by_rust(folder, lines, edits):
-    """The same by bindings/rust, where cargo is at hand."""
+    """The same by bindings/rust, if cargo is installed."""
     if not shutil.which("cargo"):
         return []
     words = ["cargo", "build", "--quiet", "--release", "--offline", "--target-dir", folder]
@@ -71,8 +72,8 @@ def by_rust(folder, lines, edits):
 
 
 def by_node(way, lines, edits):
-    """The same by bindings/node, which runs the program and has no window, or by bindings/web over its module, where Node is
-    at hand."""
+    """The same by bindings/node, which runs the program and has no window, or by bindings/web over its module, if Node
+    is installed."""
     if not shutil.which("node") or way == WEB_MODULE and not os.path.exists(way):
         return []
     words = ["node", "--no-warnings", MEMORY64, os.path.join(TOP, "bench", "embedded.mjs"), way, str(lines), str(edits)]
@@ -80,7 +81,7 @@ def by_node(way, lines, edits):
 
 
 def by_neovim(lines, edits):
-    """The median of a letter put into a row of Neovim, where examples/nvim follows, and taken out again."""
+    """The median of a letter inserted into a row of Neovim, which examples/nvim follows, and removed again."""
     if not shutil.which("nvim"):
         return []
     paths = [os.path.join(TOP, folder, "?.lua") for folder in ("examples/nvim/lua", "bindings/lua")]
@@ -90,7 +91,7 @@ def by_neovim(lines, edits):
 
 
 class Server:
-    """The language server of examples/ with a document, and a client that awaits what it publishes."""
+    """The language server of examples/ with a document, and a client that waits for its diagnostics."""
 
     def __init__(self, text, pattern):
         words = [sys.executable, os.path.join(TOP, "examples", "language_server")]
@@ -120,7 +121,7 @@ class Server:
         return json.loads(self.process.stdout.read(length))
 
     def published(self, method, **params):
-        """The nanoseconds from a notification until the report that it changes is published."""
+        """The nanoseconds from a notification until the diagnostics that it changes are published."""
         start = time.perf_counter_ns()
         self.send(method, **params)
         while self.read().get("method") != "textDocument/publishDiagnostics":
@@ -136,8 +137,8 @@ class Server:
 
 
 def by_server(lines, edits):
-    """The medians of a letter put into a line that has a match, and taken out again, until the language server has published
-    the report: one line in a thousand is in it."""
+    """The medians of a letter inserted into a line that has a match, and removed again, until the language server has
+    published the report: one line in a thousand is in it."""
     chance, times = random.Random(7), []
     with Server(lines_of_calls(lines).decode(), RARE) as server:
         for _ in range(edits):

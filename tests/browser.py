@@ -1,4 +1,4 @@
-"""A page in headless Chromium, driven by its debugging protocol over pipes, and the server that it is loaded from."""
+"""A page in headless Chromium, driven by its debugging protocol over pipes, and the server for its files."""
 import functools
 import http.server
 import json
@@ -18,7 +18,7 @@ def chromium():
 
 
 class Files(http.server.SimpleHTTPRequestHandler):
-    """The files of a folder, with one that may lie elsewhere."""
+    """The files of a folder; one of them may be elsewhere."""
 
     def __init__(self, *arguments, module, **named):
         self.module = module
@@ -32,7 +32,7 @@ class Files(http.server.SimpleHTTPRequestHandler):
 
 
 class Served:
-    """A server of a folder on a port of its own, as python3 -m http.server is one."""
+    """A server of a folder on its own port, like python3 -m http.server."""
 
     def __init__(self, folder, module):
         handler = functools.partial(Files, directory=folder, module=module)
@@ -49,7 +49,7 @@ class Served:
 
 
 class Page:
-    """A page in a browser of its own."""
+    """A page in its own browser."""
 
     def __init__(self, url, home, *flags):
         commands, to = os.pipe()
@@ -113,14 +113,14 @@ class Page:
                 return answer["result"]
 
     def value(self, expression):
-        """What an expression is in the page, also one of a promise."""
+        """The value of an expression in the page, also of a promise."""
         told = self.ask("Runtime.evaluate", expression=expression, awaitPromise=True, returnByValue=True)
         if "exceptionDetails" in told:
             raise RuntimeError(json.dumps(told["exceptionDetails"])[:500])
         return told["result"].get("value")
 
     def wait(self, expression, seconds=SECONDS):
-        """Waits until an expression holds, and gives it."""
+        """Waits until an expression is true, and returns it."""
         until = time.monotonic() + seconds
         while not (found := self.value(expression)):
             if time.monotonic() > until:
@@ -129,7 +129,7 @@ class Page:
         return found
 
     def type(self, text):
-        """Types text where the focus is."""
+        """Types text at the focus."""
         self.ask("Input.insertText", text=text)
 
     def press(self, key, control=False, shift=False):

@@ -1,4 +1,4 @@
-"""What crates.txt says of the repository's crates, and copies of them, in which rt works beside a run of rt here."""
+"""The repository's crates, from crates.txt, and copies of them, in which rt can work beside another run of rt."""
 import functools
 import os
 import shutil
@@ -9,20 +9,20 @@ ROOT = os.path.dirname(os.path.dirname(os.path.abspath(__file__)))
 
 
 def read_list(path):
-    """Each crate of a list, and the libraries that it names."""
+    """The crates of a list, each with the libraries that it names."""
     with open(path, encoding="utf-8") as file:
         lines = [line.partition("#")[0].partition(":") for line in file]
     return {crate.split()[0]: libraries.split() for crate, colon, libraries in lines if colon}
 
 
 def listed():
-    """Each crate of the repository, and the libraries that it names."""
+    """The crates of the repository, each with the libraries that it names."""
     return read_list(f"{ROOT}/crates.txt")
 
 
 def compiled():
-    """Each crate that is compiled with checks and not proved, and the libraries that it names: those of tests/compiled, and
-    the benchmarks' program."""
+    """The crates that are compiled with checks and not proved, each with the libraries that it names: those of
+    tests/compiled, and the benchmarks' program."""
     return read_list(f"{ROOT}/tests/compiled/list.txt")
 
 
@@ -41,7 +41,8 @@ def kit():
 
 
 def toolchain_in(room, script):
-    """A toolchain in a folder whose clang is a script, in which {clang} is the kit's; and the path of that script."""
+    """A toolchain in a folder whose clang is a script, in which {clang} is the kit's clang; and the path of that
+    script."""
     os.makedirs(f"{room}/toolchain/bin")
     os.symlink(f"{kit()}/toolchain/lib", f"{room}/toolchain/lib")
     for tool in os.listdir(f"{kit()}/toolchain/bin"):
@@ -55,13 +56,13 @@ def toolchain_in(room, script):
 
 
 def is_static(name):
-    """Whether the crate is a static library, for programs that aren't Rattle's to link."""
+    """Whether the crate is a static library, to be linked by programs that aren't written in Rattle."""
     with open(f"{ROOT}/crates.txt", encoding="utf-8") as file:
         return any(line.partition(":")[0].split() == [name, "staticlib"] for line in file)
 
 
 def below(name):
-    """The repository's crates that a crate stands on, with their libraries, and the crate itself first."""
+    """The repository's crates that a crate depends on, with their libraries, the crate itself first."""
     crates, found = listed(), [name]
     for crate in found:
         found += [library for library in crates[crate] if library in crates and library not in found]
@@ -76,8 +77,8 @@ def link(path, to):
 
 
 def copied(name, room):
-    """Copies a crate with the work that rt keeps of it, and those below with what rt made of them, to a folder, and
-    gives the crate's own there. The libraries are links: rt removes one before it makes it anew."""
+    """Copies a crate with rt's work on it, and the crates below with rt's output, to a folder, and returns the crate's
+    folder there. The libraries are links: rt removes one before it writes it again."""
     crates = below(name)
     for crate in crates:
         here, there = f"{ROOT}/crates/{crate}", f"{room}/crates/{crate}"
@@ -94,8 +95,8 @@ def copied(name, room):
 
 
 def words_over(command, name, libraries, jobs, toolchain=None):
-    """The words of rattle that check or build a crate, in its own folder, over the libraries that are built in a folder
-    of crates: so many functions are proved at a time. Another toolchain than the kit's may compile it."""
+    """The rattle command that checks or builds a crate, in its own folder, with the libraries that are built in a
+    folder of crates, and this number of functions proved at a time. Another toolchain than the kit's may compile it."""
     top = "src/main.rt" if os.path.exists(f"{ROOT}/crates/{name}/src/main.rt") else "src/lib.rt"
     words = [f"{kit()}/bin/rattle", command, "--crate-name", name, top, "--extern", f"std={kit()}/rlibs/std.rlib"]
     crates = below(name)

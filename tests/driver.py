@@ -1,6 +1,6 @@
-"""Cases for bin/search-driver: lines that it reads, and what it has to answer to them.
+"""Cases for bin/search-driver: the lines that it reads, and their expected answers.
 
-The head of tests/compiled/search_driver/src/main.rt.txt says which lines there are.
+The head of tests/compiled/search_driver/src/main.rt.txt describes the lines.
 """
 import itertools
 from dataclasses import dataclass
@@ -16,7 +16,7 @@ OUTSIDE = "the pattern isn't in the grammar"
 TOO_LARGE = "the patterns are too large"
 EVERY_CHARACTER = "all"  # the haystack of all scalar values
 
-# How want of memory is told: by the program itself, and of a pattern that is parsed or compiled.
+# The messages for out of memory: of the program itself, and of a pattern that is parsed or compiled.
 WANT = b"no memory\n"
 PATTERN_WANT, PROGRAM_WANT = b"there was no memory for the pattern\n", b"there was no memory for the program\n"
 NO_MEMORY = [WANT, PATTERN_WANT, PROGRAM_WANT]
@@ -24,8 +24,8 @@ NO_MEMORY = [WANT, PATTERN_WANT, PROGRAM_WANT]
 
 @dataclass(frozen=True)
 class Settings:
-    """The settings of a pattern: flags that are on, how deep it may be nested, the byte that `.` doesn't match, and
-    the byte that ends lines."""
+    """The settings of a pattern: the flags that are on, the limit on nesting, the byte that `.` doesn't match, and the
+    byte that ends lines."""
 
     flags: str = ""
     nest_limit: Optional[int] = None
@@ -38,7 +38,7 @@ class Settings:
 
 @dataclass(frozen=True)
 class Case:
-    """A line, the answer that is due, or none where a test looks at it itself, and a name for messages."""
+    """A line, the expected answer, or None if a test checks it itself, and a name for messages."""
 
     name: str
     line: str
@@ -46,17 +46,17 @@ class Case:
 
 
 def written(content):
-    """A text or bytes as a field; a text that isn't in hexadecimal digits is one already."""
+    """A text or bytes as a field; a text that isn't in hexadecimal digits is already one."""
     return content.encode().hex() if isinstance(content, str) else content.hex()
 
 
 def line_of(word, *fields):
-    """A line. None is a field that isn't told."""
+    """A line. None is a field that is left out."""
     return ",".join([word] + ["" if field is None else str(field) for field in fields]) + "\n"
 
 
 def about(word, pattern, answer=None, settings=Settings(), *more):
-    """A case about a pattern alone."""
+    """A case about only a pattern."""
     settings_told = f" under {settings}" if settings != Settings() else ""
     name = f"{word} {pattern[:70]!r}{settings_told}{' with ' + str(more) if more else ''}"
     return Case(name, line_of(word, written(pattern), *settings.fields(), *more), answer)
@@ -65,8 +65,8 @@ def about(word, pattern, answer=None, settings=Settings(), *more):
 def search(
     pattern, haystack, answer=None, cut=0, asked=None, inside=False, settings=Settings(), slots=None, taken=None
 ):
-    """A case of a search for all matches, or for the first one, of which so many slots are told. It is asked for a
-    slice, a span, and where matches start, in so many bytes of the haystack, which `EVERY_CHARACTER` may stand for."""
+    """A case of a search for all matches, or for the first one with this number of slots, with a slice, a span, and
+    where matches may start, in this number of bytes of the haystack, for which `EVERY_CHARACTER` is an abbreviation."""
     slice_, span, anchored = asked or ((None, None), (None, None), None)
     is_told = haystack != EVERY_CHARACTER
     fields = [written(pattern), *settings.fields(), cut, haystack.hex() if is_told else haystack, *slice_, *span]
@@ -105,20 +105,21 @@ def problems(cases):
 
 
 def in_runs(cases, count=500):
-    """What is wrong with the answers to cases, which are sent in runs of so many, each of which ends in time."""
+    """What is wrong with the answers to cases, which are sent in runs of limited size, each of which must end in
+    time."""
     cases = iter(cases)
     while batch := list(itertools.islice(cases, count)):
         yield from problems(batch)
 
 
 def without_again(out):
-    """An answer without the marks of searches that were refused and asked for again."""
+    """An answer without the marks of searches that were refused memory and requested again."""
     return b" ".join(word for word in out[:-1].split(b" ") if word and word != b"again") + out[-1:]
 
 
 def refusals(case, whole, count, due):
-    """The case is answered, or want of memory is told, whichever of the program's requests is refused, alone or with
-    all that follow. Where the program can't read its input, it says nothing. What is due has to be seen."""
+    """The case is answered, or out of memory is reported, whichever of the program's requests is refused, alone or with
+    all later ones. If the program can't read its input, it writes nothing. The expected answer must occur."""
     seen = set()
     for number, name in itertools.product(range(1, count + 1), ("at", "from")):
         ended, _, _ = counted(lambda environment: answer_to(case.line, environment), **{name: number})
@@ -135,7 +136,7 @@ def refusals(case, whole, count, due):
 
 
 def check_memory(case, due, whole=None):
-    """Tests a case with each of its requests for memory refused in turn. The answer is `whole`, if that is told."""
+    """Tests a case with each of its requests for memory refused in turn. The answer is `whole`, if that is given."""
     ended, count, _ = counted(lambda environment: answer_to(case.line, environment))
     whole = ended.out if whole is None else whole
     test(f"{case.name}, nothing refused", differences(ended, whole, 0) + ([] if count else ["it asked for no memory"]))

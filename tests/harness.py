@@ -1,5 +1,5 @@
-"""What all tests of the built programs share: running a program, comparing what it wrote, and counting
-which tests passed."""
+"""What all tests of the built programs share: running a program, comparing its output, and counting the tests that
+passed."""
 import atexit
 import functools
 import os
@@ -19,11 +19,11 @@ LIBRARY_FOLDER = os.path.abspath(os.environ.get("ROPE_SEARCH_LIBRARIES") or os.p
 LIBRARY = os.path.join(LIBRARY_FOLDER, "librope_search.so")
 with open(os.path.join(TOP, "VERSION"), encoding="utf-8") as file:
     VERSION = file.read().strip()
-SONAME = "librope_search.so." + VERSION.rpartition(".")[0]  # by which programs find the shared library when they run
-ROOM = tempfile.mkdtemp(prefix="rope-search-")  # the one folder that tests write in
+SONAME = "librope_search.so." + VERSION.rpartition(".")[0]  # used by programs to find the shared library when they run
+ROOM = tempfile.mkdtemp(prefix="rope-search-")  # the only folder that tests write to
 atexit.register(shutil.rmtree, ROOM, ignore_errors=True)
-SECONDS = 600  # that a program of a test may take, also on a busy machine
-SHARE = int(os.environ.get("SHARE") or 100)  # how many percent of the cases at random are tried
+SECONDS = 600  # the timeout of a program in a test, also on a busy machine
+SHARE = int(os.environ.get("SHARE") or 100)  # the percentage of the random cases that are tried
 PASSED, FAILED = [], []
 
 # The first session of docs/protocol.md, which is also the stored run of the program.
@@ -31,12 +31,12 @@ FIRST = b"text 5\nab abpattern 6\n(a)(b)replace 4\n$2$1print\nundo\nlist\nprint\
 
 
 def share_of(cases):
-    """How many of so many cases at random are tried."""
+    """How many of this number of random cases are tried."""
     return max(1, cases * SHARE // 100)
 
 
 def test(name, problems):
-    """Counts a test, of which `problems` is what is wrong with it, and nothing where it passes."""
+    """Counts a test. `problems` says what is wrong; it is empty if the test passes."""
     problems = list(problems)
     (FAILED if problems else PASSED).append(name)
     if problems:
@@ -52,7 +52,7 @@ def test(name, problems):
 
 @functools.lru_cache(maxsize=None)
 def library(name, what):
-    """The library that tests/NAME.c makes, to preload into a program, built once, or None where that fails."""
+    """The library made from tests/NAME.c, to preload into a program, built once, or None if that fails."""
     made = os.path.join(ROOM, name + ".so")
     build = [os.environ.get("CC", "cc"), "-std=c11", "-D_GNU_SOURCE", "-O2", "-Wall", "-Wextra", "-shared", "-fPIC"]
     build += ["-o", made, os.path.join(TOP, "tests", name + ".c")]
@@ -79,7 +79,7 @@ def example_rows(page, form, section="Examples"):
 
 
 class Run:
-    """What a run wrote, and its status: that of the process, or minus the signal that ended it."""
+    """The output and the status of a run: that of the process, or minus the number of the signal that ended it."""
 
     def __init__(self, status, out, err):
         self.status, self.out, self.err = status, out, err
@@ -107,7 +107,7 @@ def start(arguments=(), environment=None, program=PROGRAM, **files):
 
 
 def run(data, arguments=(), environment=None):
-    """Runs the program on bytes that lie in a file."""
+    """Runs the program with these bytes in a file as its input."""
     with tempfile.TemporaryFile(dir=ROOM) as given:
         given.write(data)
         given.seek(0)
@@ -115,8 +115,8 @@ def run(data, arguments=(), environment=None):
 
 
 def run_in_pieces(data, size):
-    """Runs the program on a pipe that gives each read the next `size` bytes, fewer at the end."""
-    read_end, write_end = os.pipe2(os.O_DIRECT | os.O_CLOEXEC)  # a read takes one write's bytes
+    """Runs the program on a pipe, of which each read gives the next `size` bytes, or fewer at the end."""
+    read_end, write_end = os.pipe2(os.O_DIRECT | os.O_CLOEXEC)  # a read gets the bytes of one write
 
     def feed():
         try:
@@ -137,7 +137,7 @@ def run_in_pieces(data, size):
 
 
 def differences(ended, out, status, err=b""):
-    """What is wrong with a run that must write `out` and `err` and end with `status`."""
+    """What is wrong with a run that must write `out` and `err` and exit with `status`."""
     wrong = []
     if ended.out != out:
         wrong.append(f"wrote {short(ended.out)}, not {short(out)}")

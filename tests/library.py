@@ -1,4 +1,4 @@
-"""Commands of the protocol carried out by calls of the library, as examples/calls.py does: what they are replied."""
+"""Commands of the protocol executed by calls of the library, as examples/calls.py does, and their replies."""
 import os
 import sys
 
@@ -11,11 +11,11 @@ from calls import rope_search
 
 
 def reply(session, command):
-    """What a command is replied, which the session carries out."""
+    """The reply to a command, which the session executes."""
     return calls.reply(session, *command)
 
 
 def replies(commands, limit=1 << 30):
-    """What commands are replied, one after the other, in a session of their own."""
+    """The replies to commands, executed in order in a session of their own."""
     with rope_search.Session(limit) as session:
         return [reply(session, command) for command in commands]

@@ -1,4 +1,4 @@
-"""Which rows of its report the library tells as replaced, beside what the model knows of the texts before and after."""
+"""The rows of its report that the library reports as replaced, compared with the model's texts before and after."""
 from library import reply
 from protocol import Session, lines_of, parts_replaced, place_of, rows_of
 
@@ -6,8 +6,8 @@ CHANGING = ("text", "edit", "undo", "redo", "pattern", "off", "replace")
 
 
 def hull(buffer, word, numbers, payload):
-    """From where to where an edit or a replacement reaches: where it starts, where it ends in the old text and where in
-    the new one, in characters; None where it changes nothing."""
+    """The extent of an edit or a replacement, in characters: where it starts, and where it ends in the old text and in
+    the new one; None if it changes nothing."""
     old, new = buffer.text, payload.decode(errors="replace")
     if word == "edit":
         start, stop = place_of(old, *numbers[:2]), place_of(old, *numbers[2:4])
@@ -22,8 +22,8 @@ def lines_between(text, start, stop):
 
 
 class Watched:
-    """A session of the model, with what each buffer tells, and for each of its texts the hull of the change that led to
-    it from the one before."""
+    """A session of the model, with what each buffer reports, and for each of its texts the extent of the change that
+    led to it from the one before."""
 
     def __init__(self):
         self.model, self.told, self.hulls = Session(), [(0, 0, 0)], [[None]]
@@ -33,7 +33,7 @@ class Watched:
         return [] if buffer.pattern is None else rows_of(buffer.text, buffer.pattern)
 
     def most_added(self, word, payload, change):
-        """How many rows may be told as added."""
+        """The maximum number of rows that may be reported as added."""
         buffer = self.model.buffer
         if buffer.pattern is None:
             return 0
@@ -44,7 +44,7 @@ class Watched:
         return len(lines_of(buffer.text))
 
     def carried_out(self, command):
-        """What the model replies, and what the change was of which the command made or unmade a text."""
+        """The model's reply, and the change whose text the command made current or left."""
         word, numbers, payload = command
         buffer, hulls = self.model.buffer, self.hulls[self.model.chosen]
         at, change = buffer.at, None
@@ -66,7 +66,7 @@ class Watched:
 
 
 def wrong_stretch(before, after, stretch, most):
-    """What is wrong with rows that are told as replaced."""
+    """What is wrong with rows that are reported as replaced."""
     first, removed, added = stretch
     if first + removed > len(before) or first + added > len(after):
         yield f"{stretch} isn't within {len(before)} and {len(after)} rows"
@@ -77,7 +77,7 @@ def wrong_stretch(before, after, stretch, most):
 
 
 def wrong_changes(session, commands):
-    """What is wrong with what a session tells after each of some commands, up to the first that is answered wrong."""
+    """What is wrong with what a session reports after each of some commands, up to the first wrong answer."""
     watched = Watched()
     for place, command in enumerate(commands):
         before, got = watched.rows(), reply(session, command)

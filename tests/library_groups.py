@@ -1,5 +1,5 @@
-"""The groups of each match of a report by the library, beside the model's: each match of each line, and numbers and
-lines of which there are none; that each search is counted, and that nothing else changes."""
+"""The groups of each match of a report by the library, compared with the model's: each match of each line, and numbers
+and lines that don't exist; that each search is counted, and that nothing else changes."""
 import random
 
 from library import rope_search
@@ -9,7 +9,7 @@ from random_patterns import Maker
 from test_edits import some_text
 from walks import spelled
 
-# Beside these, patterns at random, which have groups too.
+# In addition to these, random patterns, which have groups too.
 PATTERNS = ("(a)|(b)", "((a)|é)+b?", "()a*", "x*", r"(\w)(?:(a)|(b))*", "(a)(a)?(a)?(a)?(a)?(a)?(a)?(a)?(a)?(b)?(b)?", "(🐸)|(?:(a)(b))")
 NO_MATCH = (1 << 64) - 1
 
@@ -19,7 +19,7 @@ def state_of(session):
 
 
 def due_groups(pattern, text, line):
-    """The groups 0 to 9 of each match in a line, by their columns."""
+    """The groups 0 to 9 of each match in a line, as columns."""
     data, told = text.encode(), []
     for spans in matches_with_groups(pattern, text):
         spans = (list(spans) + [None] * 10)[:10]
@@ -28,7 +28,7 @@ def due_groups(pattern, text, line):
 
 
 def asked(session, line, number):
-    """What is answered, and how many rows that is counted as."""
+    """The answer, and the number of rows that it is counted as."""
     before = session.counted.rows
     try:
         answer = [group and tuple(group) for group in session.groups_at(line, number)]

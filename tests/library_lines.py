@@ -1,5 +1,5 @@
-"""Lines, clamped positions, matches by a unit and edits by bytes of the library, beside plain models of them: of small
-texts all lines, columns and bytes, and of texts at random."""
+"""Lines, clamped positions, matches in other units and edits by bytes of the library, compared with plain models: all
+lines, columns and bytes of small texts, and some of random texts."""
 import ctypes
 import itertools
 import random
@@ -14,7 +14,7 @@ LIMIT = 40
 
 
 def answered(call, *arguments):
-    """What a call answers, or why it is refused."""
+    """The answer of a call, or why it is refused."""
     try:
         return call(*arguments)
     except rope_search.Fault as fault:
@@ -27,7 +27,7 @@ def line_text(text, line):
 
 
 def clamped(text, line, column, count):
-    """The position nearest to a line and a column, by how much a part of a text counts."""
+    """The position nearest to a line and a column, for a way to count the columns of a text."""
     lines = lines_of(text)
     if line >= len(lines):
         return position_at(text, len(text))
@@ -37,7 +37,8 @@ def clamped(text, line, column, count):
 
 
 def wrong_lines(session, text):
-    """What is wrong with a text's lines, and with clamped positions: of all columns to two past the end, and the greatest."""
+    """What is wrong with a text's lines, and with clamped positions: for all columns up to two past the end, and for
+    the greatest."""
     lines, most = len(lines_of(text)), len(text.encode()) + 2
     for encoding, count in ENCODINGS.items():
         for line in (*range(lines + 2), MOST):
@@ -59,7 +60,8 @@ def wrong_lines(session, text):
 
 
 def wrong_copies(session, text):
-    """What copies of lines leave in a caller's array, with as much room as the line takes, less and more."""
+    """What is wrong with copies of lines in a caller's array, with as much room as the line takes, with less and with
+    more."""
     calls, handle = rope_search.library(), session._handle
     for line in range(len(lines_of(text)) + 1):
         own = line_text(text, line).encode() if line < len(lines_of(text)) else None
@@ -72,7 +74,7 @@ def wrong_copies(session, text):
 
 
 def wrong_matches(session, text, pattern, chosen):
-    """What is wrong with the matches of some rows by each unit."""
+    """What is wrong with the matches of some rows in each unit."""
     calls, handle = rope_search.library(), session._handle
     rows = rows_of(text, pattern) if pattern is not None else []
     for bits, count in zip((8, 16, 32, 0, 7, 64), (*ENCODINGS.values(), None, None, None)):
@@ -104,13 +106,13 @@ def wrong_text(text):
 
 
 def wrong_small():
-    """Of all texts of at most three characters, and some longer ones, among them one whose lines lie in several chunks."""
+    """For all texts of at most three characters, and some longer ones, one of them with lines that span chunks."""
     small = ["".join(text) for count in range(4) for text in itertools.product("\n\ra\u00e9\U0001f438", repeat=count)]
     return [one for text in (*small, "a\u00e9\U0001f438b\r\nx\ry\n", "\u2028a\v") for one in wrong_text(text)]
 
 
 def wrong_long():
-    """Of a text whose lines lie in several chunks, at some columns."""
+    """For a text with lines that span chunks, at some columns."""
     text = ("a\u00e9\U0001f438" * 900 + "\r\n") * 3
     chosen = random.Random(4)
     with rope_search.Session() as session:
@@ -131,12 +133,12 @@ def wrong_long():
 
 
 def places_of(text):
-    """The characters before each byte at which a position is."""
+    """The number of characters before each byte offset that is a position."""
     return {len(text[:place].encode()): place for place in range(len(text) + 1) if text[place - 1 : place + 1] != "\r\n" or place == 0}
 
 
 def wrong_edits(seed):
-    """What is wrong with edits by bytes of a text at random, and with the way back from them."""
+    """What is wrong with edits by bytes of a random text, and with undoing them."""
     chosen = random.Random(f"bytes {seed}")
     text, pattern = some_text(chosen, 12), chosen.choice((None, *PATTERNS))
     with rope_search.Session(LIMIT) as session:
@@ -174,7 +176,7 @@ def wrong_edits(seed):
 
 
 def wrong_numbers():
-    """A number that C can't take raises an error, and isn't cut."""
+    """A number that C can't represent raises an error, and isn't truncated."""
     with rope_search.Session() as session:
         session.set_text("a")
         for call in (lambda: session.byte_of((1 << 64, 0)), lambda: session.edit((0, -1), (0, 0), ""),

@@ -1,5 +1,5 @@
-"""The matches that a report lists by the library, beside the model's rows: the first from a position on, the last before
-it, and the place of each among all."""
+"""The matches in a report by the library, compared with the model's rows: the first from a position on, the last before
+it, and the index of each among all."""
 import random
 
 from library import rope_search
@@ -12,12 +12,12 @@ LAST = (1 << 64) - 1
 
 
 def all_listed(rows):
-    """The matches of rows: each by its line, its number in the row, and its columns."""
+    """The matches of rows: each with its line, its number in the row, and its columns."""
     return [(line, number, *span) for line, row in enumerate(rows) for number, span in enumerate(row)]
 
 
 def wrong_look_ups(session, rows):
-    """What is wrong with what is looked up of a report from positions of it and around, and by lines and numbers."""
+    """What is wrong with look-ups in a report from positions in it and around it, and by lines and numbers."""
     matches = all_listed(rows)
     spots = {(line, column + more) for line, _, *span in matches for column in span for more in (-1, 0, 1) if column + more >= 0}
     spots |= {(line, column) for line in (0, 1, len(rows), LAST) for column in (0, LAST)}

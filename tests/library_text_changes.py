@@ -1,5 +1,5 @@
-"""In which ranges of bytes the library tells that a text was replaced, and how many undo steps it has, beside a mirror:
-the ranges that are due, and the old text with each of them replaced by the new text's range, from the last one back."""
+"""The ranges of bytes that the library reports as replaced, and its number of undo steps, compared with a mirror: the
+expected ranges, and the old text with each range replaced by the new text's range, from the last one back."""
 import functools
 import itertools
 import random
@@ -19,8 +19,8 @@ def bytes_in(text):
 
 
 def ranges_of(old, parts):
-    """The ranges between parts of a text that stay: each part is where it starts and ends in the old text, in
-    characters, and what takes its place."""
+    """The ranges between parts of a text that stay: each part has its start and end in the old text, in characters, and
+    its replacement."""
     ranges, moved = [], 0
     for start, stop, new in parts:
         first, last = bytes_in(old[:start]), bytes_in(old[:stop])
@@ -30,7 +30,7 @@ def ranges_of(old, parts):
 
 
 def raised(call):
-    """Whether a call is refused because there is nothing to go back to."""
+    """Whether a call is refused because there is nothing to undo."""
     try:
         call()
     except rope_search.Nothing:
@@ -43,7 +43,8 @@ def turned(ranges):
 
 
 def composed(length, steps):
-    """The ranges of several steps put together, of a text of so many bytes: what no byte is in that stays through all."""
+    """The composed ranges of several steps, of a text of this number of bytes: they contain no byte that stays through
+    all steps."""
     stays = list(range(length))
     for ranges in steps:
         behind, at = [], 0
@@ -61,14 +62,15 @@ def composed(length, steps):
 
 
 def applied(old, new, ranges):
-    """The old text with each range replaced by the new one's, as whoever mirrors it does: from the last one back."""
+    """The old text with each range replaced by the new one's, as a client that mirrors it does: from the last one
+    back."""
     for first, last, start, stop in reversed(ranges):
         old = old[:first] + new[start:stop] + old[last:]
     return old
 
 
 def wrong_ranges(old, new, told, due):
-    """What is wrong with the ranges that are told of two texts in bytes."""
+    """What is wrong with the ranges that are reported for two texts in bytes."""
     if due is not None and told != due:
         yield f"{told} are told, not {due}"
     ends = [(0, 0), *((last, stop) for _, last, _, stop in told)]
@@ -85,13 +87,13 @@ def wrong_ranges(old, new, told, due):
 
 
 class Mirror:
-    """A session of the model, with what each buffer tells, and for each of its texts the ranges that led to it."""
+    """A session of the model, with what each buffer reports, and for each of its texts the ranges that led to it."""
 
     def __init__(self):
         self.model, self.told, self.led = Session(), [[]], [[[]]]
 
     def due(self, word, numbers, payload):
-        """The ranges that are due of an accepted command, of the buffer as it was before it."""
+        """The expected ranges of an accepted command, for the buffer before it."""
         buffer, led = self.model.buffer, self.led[self.model.chosen]
         old = buffer.text
         if word == "text":
@@ -128,7 +130,7 @@ class Mirror:
         buffer.at -= first
 
     def join(self, steps):
-        """Makes the last steps one, and tells whether there are so many."""
+        """Joins the last steps, and returns whether there are that many."""
         buffer, led = self.model.buffer, self.led[self.model.chosen]
         if steps > buffer.at:
             return False
@@ -152,7 +154,7 @@ def ranges_of_matches(old, pattern, template):
 
 
 def wrong_told(session, mirror, old, place):
-    """What is wrong with what a session tells after a command that the mirror carried out."""
+    """What is wrong with what a session reports after a command that the mirror executed."""
     model, number = mirror.model, mirror.model.chosen
     told = [tuple(one) for one in session.text_changes]
     wrong = [] if told == mirror.told[number] else [f"{told} are told, not {mirror.told[number]}"]
@@ -165,8 +167,8 @@ def wrong_told(session, mirror, old, place):
 
 
 def wrong_text_changes(session, commands, chosen):
-    """What is wrong with what a session tells after each of some commands, and after steps that are dropped between them,
-    up to the first that is wrong."""
+    """What is wrong with what a session reports after each of some commands, and after steps that are dropped between
+    them, up to the first that is wrong."""
     mirror = Mirror()
     for place, command in enumerate(commands):
         if chosen.random() < 0.05:
@@ -193,7 +195,7 @@ def wrong_text_changes(session, commands, chosen):
 
 
 def wrong_after_edits(seed):
-    """What is wrong with what is told of several edits as one, and of the way back from them and forward again."""
+    """What is wrong with what is reported for several edits as one, and for their undo and redo."""
     chosen = random.Random(f"ranges of edits {seed}")
     text = some_text(chosen, 12)
     with rope_search.Session(LIMIT) as session:
@@ -230,8 +232,8 @@ def wrong_after_edits(seed):
 
 
 def wrong_joined(session, pattern, texts, led, steps):
-    """What is wrong once the last steps are made one: on the way back over them, and forward again. Each makes no more rows
-    than what comes back has lines, and leaves the report of the text."""
+    """What is wrong after the last steps are joined: when they are undone and redone. Each makes at most as many rows
+    as the restored text has lines, and leaves the report of the text."""
     first = len(texts) - 1 - steps
     due = composed(bytes_in(texts[first]), led[first + 1 :]) if steps > 1 else led[-1]
     session.join(steps)
@@ -258,8 +260,8 @@ def matches_of(text, pattern):
 
 
 def small_changes(length):
-    """What is wrong after each edit of each text of so many characters over CR, LF and `a`, after the way back, after
-    steps that are dropped at each of these, and after matches are replaced."""
+    """What is wrong after each edit of each text with this number of characters from CR, LF and `a`, after its undo,
+    after steps are dropped at each of these, and after matches are replaced."""
     with rope_search.Session() as session:
         for text in map("".join, itertools.product(SMALL, repeat=length)):
             for start, stop, new in itertools.product(range(length + 1), range(length + 1), ("", "a", "\n", "\r\n")):
@@ -305,8 +307,8 @@ def wrong_small(session, text, start, stop, new):
 
 
 def small_joins(length):
-    """What is wrong after each two edits of each text of so many characters over CR, LF and `a`, made one, on the way back
-    and forward again."""
+    """What is wrong after each two edits of each text with this number of characters from CR, LF and `a`, joined,
+    undone and redone."""
     with rope_search.Session() as session:
         session.set_pattern("a$|^")
         for text in map("".join, itertools.product(SMALL, repeat=length)):
@@ -318,7 +320,7 @@ def small_joins(length):
 
 
 def edits_of(text):
-    """The edits of a text that start and end outside of its breaks: where, by what, and what they make of it."""
+    """The edits of a text that start and end outside of its breaks: where, by what, and the resulting text."""
     places = [place for place in range(len(text) + 1) if text[place - 1 : place + 1] != "\r\n" or not place]
     return [(start, stop, new, text[:start] + new + text[stop:])
             for start, stop, new in itertools.product(places, places, ("", "a", "\n", "\r")) if start <= stop]

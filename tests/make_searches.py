@@ -1,13 +1,12 @@
 #!/usr/bin/env python3
-"""Makes the table of searches that tests/searches.jsonl is.
+"""Makes the table of searches in tests/searches.jsonl.
 
     tests/make_searches.py COUNT > tests/searches.jsonl
 
-Each line has a pattern, a haystack, and all matches that Python's re finds, each as the spans of its groups in
-bytes, null for one that is absent. The two semantics agree where nothing that may be empty is repeated, so the
-patterns repeat no such thing. `$` and `\\z` are `\\Z` for re, since its `$` also stands before a last line feed.
-The model of tests/walks.py has to find the same in each case, or there is no table. The table depends on COUNT
-alone.
+Each line has a pattern, a haystack, and all matches that Python's re finds, each as the spans of its groups in bytes,
+null for one that is absent. The two semantics agree if nothing that may be empty is repeated, so the patterns repeat no
+such thing. `$` and `\\z` are `\\Z` for re, because its `$` also matches before a last line feed. The model of
+tests/walks.py has to find the same in each case, otherwise no table is made. The table depends only on COUNT.
 """
 import json
 import random
@@ -21,8 +20,8 @@ IN_RE = {"$": "\\Z", "\\z": "\\Z"}
 
 
 def found_by_re(tree, haystack):
-    """All matches. Each is searched for from the end of the one before, or one character further where an empty
-    one stands there."""
+    """All matches. Each is searched for from the end of the one before, or one character further on if that finds an
+    empty match there."""
     compiled = re.compile(spelled(tree, IN_RE))
     places = [len(haystack[:index].encode()) for index in range(len(haystack) + 1)]
     matches, found = [], compiled.search(haystack)
@@ -42,14 +41,14 @@ def found_by_model(tree, haystack):
 
 
 def within(tree):
-    """A tree and all that are inside it."""
+    """A tree and all subtrees."""
     yield tree
     for part in below(tree):
         yield from within(part)
 
 
 def worth(tree, haystack, matches):
-    """How much a case has of what is worth testing."""
+    """The number of features worth testing that a case has."""
     trees = list(within(tree))
     repeats = [part for part in trees if isinstance(part, Repeat)]
     return sum(
@@ -69,7 +68,7 @@ def cases(count):
     while len(made) < count:
         tree = maker.tree()
         pattern, haystack = spelled(tree), maker.haystack(tree)
-        # re takes `\B` to fail in an empty text.
+        # For re `\B` fails in an empty text.
         if (pattern, haystack) in made or not haystack:
             continue
         matches = found_by_re(tree, haystack)

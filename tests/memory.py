@@ -1,5 +1,5 @@
-"""A program run with each of its requests for memory counted, and one of them refused, or one and all that
-follow it, by the library that tests/refuse_memory.c makes."""
+"""Runs a program with each of its requests for memory counted, and one of them refused, or one and all later ones, by
+the library made from tests/refuse_memory.c."""
 import os
 
 import harness
@@ -7,12 +7,12 @@ from harness import ROOM
 
 
 def library():
-    """The library that refuses memory, or None where it can't be built."""
+    """The library that refuses memory, or None if it can't be built."""
     return harness.library("refuse_memory", "refuses memory")
 
 
 def told_by(runs, settings):
-    """A run with the library, which `runs` makes of an environment, and the figures that the library tells."""
+    """A run with the library, started by `runs` with an environment, and the figures that the library reports."""
     tally = os.path.join(ROOM, "tally")
     if os.path.exists(tally):
         os.remove(tally)
@@ -26,7 +26,7 @@ def told_by(runs, settings):
 
 
 def tallied(runs, **settings):
-    """Such a run, the number of its requests, the greatest of them and all of them together, in bytes."""
+    """Such a run, the number of its requests, and the greatest and the sum of them, in bytes."""
     ended, figures = told_by(runs, settings)
     return ended, *figures[:3]
 
@@ -38,6 +38,6 @@ def counted(runs, **settings):
 
 
 def most_held(runs, **settings):
-    """Such a run, and the most bytes that were held at a time."""
+    """Such a run, and the maximum number of bytes held at a time."""
     ended, figures = told_by(runs, settings)
     return ended, figures[3]

@@ -1,6 +1,6 @@
-"""A plain reader of patterns, by the grammar of docs/patterns.md: the tree that a pattern spells, or that it is outside
-the grammar, and what it weighs; and what is found of it in a text, by the walks of tests/walks.py. It shares nothing
-with the engine, and nothing with Python's `re`, which reads patterns otherwise.
+"""A plain parser of patterns, by the grammar of docs/patterns.md: the tree that a pattern spells, or that it is outside
+the grammar, and its weight; and its matches in a text, by the walks of tests/walks.py. It shares nothing with the
+engine, and nothing with Python's `re`, whose patterns differ.
 """
 import bisect
 import functools
@@ -9,9 +9,9 @@ import re
 from walks import Alternation, Concat, Empty, Group, Look, Repeat, Search, Set
 from walks import is_digit, is_space, is_word, may_be_empty
 
-NEST_LIMIT = 250  # how deep groups and repetitions may stand in one another
+NEST_LIMIT = 250  # the limit on the nesting of groups and repetitions
 MOST_TIMES = 65_535  # the greatest number of a repetition
-SCALARS = 0x10F800  # how many scalar values there are
+SCALARS = 0x10F800  # the number of scalar values
 LAST = 0x10FFFF
 
 NAME = r"P?<(?P<name>[A-Za-z_][A-Za-z0-9_]*)>"
@@ -34,7 +34,7 @@ class Outside(Exception):
 
 
 def ordinal(code):
-    """The number of a scalar value, where surrogates aren't counted."""
+    """The number of a scalar value, not counting surrogates."""
     return code - 0x800 if code > 0xDFFF else code
 
 
@@ -44,7 +44,7 @@ def every_character():
 
 @functools.lru_cache(maxsize=None)
 def folded_alike():
-    """The characters that have one simple case folding, where these are two or more, as ordinals."""
+    """The characters that share a simple case folding, if there are at least two, as ordinals."""
     alike = {}
     for c in every_character():
         folded = next((text for text in (c.casefold(), c.lower()) if len(text) == 1), c)
@@ -78,25 +78,25 @@ class Members:
         return Members((end + 1, low - 1) for end, low in zip(ends, self.starts + [SCALARS]) if end + 1 < low)
 
     def folded(self):
-        """All characters that have the simple case folding of one in the set."""
+        """All characters with the simple case folding of one in the set."""
         alike = (numbers for numbers in folded_alike() if any(map(self.holds, numbers)))
         return Members(self.ranges + [(number, number) for numbers in alike for number in numbers])
 
 
 def spread(low, high):
-    """The characters from one up to another."""
+    """The characters of a range."""
     return Members([(ordinal(ord(low)), ordinal(ord(high)))])
 
 
 @functools.lru_cache(maxsize=1_000)
 def in_each_case(c):
-    """A character and those that fold as it does."""
+    """A character and those with the same folding."""
     return spread(c, c).folded()
 
 
 @functools.lru_cache(maxsize=None)
 def letter_class(letter):
-    """What `\\d`, `\\s`, `\\w` or one with a capital letter stands for."""
+    """The set of `\\d`, `\\s`, `\\w` or of one with a capital letter."""
     if letter.isupper():
         return letter_class(letter.lower()).others()
     numbers = (ordinal(ord(c)) for c in filter(CLASSES[letter], every_character()))
@@ -107,7 +107,7 @@ def letter_class(letter):
 
 
 def changed(flags, head):
-    """The flags that are on behind the head of a setting, or in a group with flags."""
+    """The flags that are on after the head of a setting, or in a group with flags."""
     on, off = head["on"], head["off"] or ""
     letters = on + off
     if len(set(letters)) < len(letters) or (head["end"] == ")" and not letters):
@@ -123,7 +123,7 @@ def number_of(digits):
 
 
 class Reader:
-    """Reads a pattern from its start on. What reads a tree answers how deep it is nested, too."""
+    """Parses a pattern from its start. Methods that parse a tree also return its nesting depth."""
 
     def __init__(self, text):
         self.text, self.at, self.groups, self.names = text, 0, 0, set()
@@ -143,7 +143,7 @@ class Reader:
         return found
 
     def take(self, form):
-        """What stands here in this form, which has to."""
+        """Consumes text of this form, which must follow."""
         found = form.match(self.text, self.at)
         if not found:
             raise Outside
@@ -151,7 +151,8 @@ class Reader:
         return found
 
     def branches(self, flags, level):
-        """Rows parted by bars, up to a `)` or the end, in so many groups. A setting holds in the rows that follow."""
+        """Branches separated by bars, up to a `)` or the end, with this number of groups before. A setting applies in
+        the branches that follow."""
         rows, depth, is_over = [], 0, False
         while not is_over:
             row, deep, flags = self.row(flags, level)
@@ -160,7 +161,7 @@ class Reader:
         return (Alternation(tuple(rows)) if len(rows) > 1 else rows[0]), depth
 
     def row(self, flags, level):
-        """Items in a row, and the flags that are on behind it."""
+        """A sequence of items, and the flags that are on after it."""
         items, depth = [], 0
         while self.at < len(self.text) and self.text[self.at] not in "|)":
             if self.begins("("):
@@ -177,7 +178,7 @@ class Reader:
         return (Concat(tuple(items)) if len(items) > 1 else items[0] if items else Empty()), depth, flags
 
     def group(self, head, flags, level):
-        """What stands in a group behind its head, up to its `)`."""
+        """The contents of a group after its head, up to its `)`."""
         number, name = None, head["name"]
         if head["end"]:
             flags = changed(flags, head)
@@ -193,7 +194,7 @@ class Reader:
         return (inside if number is None else Group(number, inside, name)), depth + 1
 
     def repeated(self, tree, depth, flags):
-        """The tree with all repetitions that stand behind it."""
+        """The tree with all repetitions that follow it."""
         while self.at < len(self.text) and self.text[self.at] in "*+?{":
             sign, low, comma, high, mark = self.take(POSTFIX).groups()
             if sign:
@@ -230,14 +231,14 @@ class Reader:
         return Set(f"(?{letters}:{spelling})" if letters else spelling, members)
 
     def alone(self, c, flags):
-        """One character, under `i` with those that fold as it does."""
+        """One character, under `i` with those of the same folding."""
         return in_each_case(c) if "i" in flags else spread(c, c)
 
     def dot(self, flags):
         return Members([(0, SCALARS - 1)]) if "s" in flags else spread("\n", "\n").others()
 
     def escape(self):
-        """An escape: a look, the members of a letter class, or the character that it stands for."""
+        """An escape: an assertion, the members of a letter class, or the escaped character."""
         *digits, letter = self.take(ESCAPE).groups()
         code = next((int(number, 16) for number in digits if number), None)
         if code is not None:
@@ -255,7 +256,7 @@ class Reader:
         return letter
 
     def class_members(self, folds):
-        """What a class between brackets stands for."""
+        """The set of a bracketed class."""
         self.eat("[")
         is_negated = self.eat("^")
         ranges = self.class_ranges()
@@ -263,7 +264,7 @@ class Reader:
         return members.others() if is_negated else members
 
     def class_ranges(self):
-        """The ranges that the items of a class name, up to its end."""
+        """The ranges of the items of a class, up to its end."""
         ranges = []
         if self.eat("]"):
             ranges += spread("]", "]").ranges
@@ -303,7 +304,7 @@ class Reader:
 
 @functools.lru_cache(maxsize=5_000)
 def tree_of(pattern):
-    """The tree that a pattern spells, or None where it is outside the grammar."""
+    """The tree that a pattern spells, or None if it is outside the grammar."""
     try:
         return Reader(pattern).whole()
     except Outside:
@@ -314,7 +315,7 @@ def tree_of(pattern):
 
 
 def repeated_weight(tree):
-    """What the copies of a repetition weigh."""
+    """The weight of the copies of a repetition."""
     weight, least, most = weight_of(tree.inside), tree.least, tree.most
     if most == 0:
         return 1
@@ -326,7 +327,7 @@ def repeated_weight(tree):
 
 
 def weight_of(tree):
-    """What a tree weighs: as many nodes as its program has, and the ranges of its sets."""
+    """The weight of a tree: the number of nodes of its program, and of the ranges of its sets."""
     if isinstance(tree, Set):
         return 1 + len(tree.has.ranges)
     if isinstance(tree, Group):
@@ -340,8 +341,8 @@ def weight_of(tree):
 
 @functools.lru_cache(maxsize=5_000)
 def pattern_weight(pattern):
-    """What a pattern in the grammar weighs: its tree, the group of the whole match, and the end. How many ranges
-    letter classes have is told by Python's version of Unicode, and may be some more by that of the program."""
+    """The weight of a pattern in the grammar: of its tree, the group of the whole match, and the end. The number of
+    ranges of letter classes is that of Python's version of Unicode, and may be greater in that of the program."""
     return 3 + weight_of(tree_of(pattern))
 
 
@@ -349,12 +350,12 @@ def pattern_weight(pattern):
 
 
 def is_literal(pattern):
-    """Whether a pattern is a text that stands for itself, which is looked for as one."""
+    """Whether a pattern is a literal text, which is searched for as one."""
     return bool(pattern) and not set(pattern) & set("\\.+*?()|[{^$")
 
 
 def occurrences(literal, text):
-    """The places of a literal in a text, each looked for from the end of the one before."""
+    """The offsets of a literal in a text, each searched for from the end of the one before."""
     at = text.find(literal)
     while at >= 0:
         yield at
@@ -363,19 +364,19 @@ def occurrences(literal, text):
 
 @functools.lru_cache(maxsize=1_000)
 def search_in(pattern, text):
-    """Searches of a whole text for a pattern, from any place on."""
+    """Searches of a whole text for a pattern, from any offset on."""
     return Search(tree_of(pattern), text.encode())
 
 
 def in_characters(text, span):
-    """A span of places in UTF-8, as places in characters."""
+    """A span of offsets in UTF-8, as offsets in characters."""
     data = text.encode()
     return tuple(len(data[:place].decode()) for place in span)
 
 
 @functools.lru_cache(maxsize=50_000)
 def matches(pattern, text):
-    """The matches of a pattern in a text, as pairs of places in characters."""
+    """The matches of a pattern in a text, as pairs of offsets in characters."""
     if is_literal(pattern):
         return [(start, start + len(pattern)) for start in occurrences(pattern, text)]
     return [in_characters(text, groups[0]) for groups in search_in(pattern, text).matches()]
@@ -383,15 +384,15 @@ def matches(pattern, text):
 
 @functools.lru_cache(maxsize=1_000)
 def matches_with_groups(pattern, text):
-    """The matches of a pattern in a text, each as the spans of its groups in the text's UTF-8, from group 0 on, None for
-    an absent one."""
+    """The matches of a pattern in a text, each as the spans of its groups in the text's UTF-8, from group 0 on, None
+    for an absent one."""
     if is_literal(pattern):
         return [[(start, start + len(pattern.encode()))] for start in occurrences(pattern.encode(), text.encode())]
     return search_in(pattern, text).matches()
 
 
 def match_from(pattern, text, place):
-    """The first match in a text that starts at a place or behind it, or None."""
+    """The first match in a text that starts at an offset or after it, or None."""
     if is_literal(pattern):
         start = text.find(pattern, place)
         return (start, start + len(pattern)) if start >= 0 else None

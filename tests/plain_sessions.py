@@ -1,5 +1,5 @@
-"""What the Python models answer to calls of the library, beside what the model of tests/sessions, which is in Rust, says of
-the same sessions: so that one is checked by the other."""
+"""The answers of the Python models to calls of the library, compared with those of the model in tests/sessions, which
+is in Rust, for the same sessions, so that each checks the other."""
 import functools
 
 from library_groups import due_groups
@@ -33,7 +33,7 @@ def refused(status):
 
 @functools.lru_cache(maxsize=100_000)
 def is_known(pattern):
-    """Whether the Python models find the pattern in short texts at once."""
+    """Whether the Python models find the pattern quickly in short texts."""
     return is_literal(pattern) or is_light(pattern)
 
 
@@ -56,7 +56,7 @@ class Plain:
         return self.model.buffer.pattern
 
     def answer(self, name, numbers, payload):
-        """The status, the numbers and the bytes that a call answers."""
+        """The status, the numbers and the bytes that a call returns."""
         if name == "Version":
             return 2_000, [], b""
         if name == "PatternError":
@@ -80,7 +80,7 @@ class Plain:
         return refused(0)
 
     def check_light(self):
-        """Gives up where the Python models would search for long."""
+        """Gives up if the Python models would search for long."""
         if self.pattern is None:
             return
         most = MOST_OF_LITERALS if is_literal(self.pattern) else MOST_CHARACTERS
@@ -278,7 +278,7 @@ def numbers_in(words):
 
 
 def wrong_session(lines):
-    """What is wrong with the answers of a session, and whether it was compared whole."""
+    """What is wrong with the answers of a session, and whether it was compared completely."""
     plain = Plain()
     for line in lines:
         name, numbers, payload, status, told, data = line.split("|")

@@ -1,19 +1,18 @@
-"""A small model of the protocol of docs/protocol.md: what an input is answered, and the status that the
-program ends with."""
+"""A small model of the protocol of docs/protocol.md: the output for an input, and the exit status of the program."""
 import functools
 import re
 
 from pattern_model import match_from, matches, matches_with_groups, pattern_weight, tree_of
 
-TEXT_LIMIT = 1 << 30  # the most bytes that a text may have
-PATTERN_LIMIT = 65_536  # the most bytes that a pattern may have
-WEIGHT_LIMIT = 262_144  # the most that a pattern may weigh
+TEXT_LIMIT = 1 << 30  # the maximum number of bytes of a text
+PATTERN_LIMIT = 65_536  # the maximum number of bytes of a pattern
+WEIGHT_LIMIT = 262_144  # the maximum weight of a pattern
 BREAK = re.compile("\r\n|[\r\n]")
-LINE_LIMIT = 128  # the most bytes of a command line, its LF left off
+LINE_LIMIT = 128  # the maximum number of bytes of a command line, without its LF
 NUMBER_LIMIT = (1 << 64) - 1
 LINE = re.compile(rb"([a-z]+)((?: [0-9]{1,20})*)")
-REFERENCE = re.compile(r"\$([0-9$])")  # what of a template doesn't stand for itself
-# The words of commands, each with how many numbers follow it.
+REFERENCE = re.compile(r"\$([0-9$])")  # the parts of a template that are not copied
+# The words of commands, each with the count of numbers that follow it.
 WORDS = {
     b"text": 1,
     b"edit": 5,
@@ -28,13 +27,13 @@ WORDS = {
     b"fork": 0,
     b"use": 1,
 }
-HAS_PAYLOAD = ("text", "edit", "pattern", "replace")  # the last number is how many bytes it has
+HAS_PAYLOAD = ("text", "edit", "pattern", "replace")  # the last number is that of its bytes
 STATUS = {"input": 0, "command": 2, "cut": 2}
 CLOSING = {"input": b"", "command": b"error command\n", "cut": b"error end\n"}
 
 
 def command_of(line):
-    """The word and the numbers of a command line, or None where it is no command."""
+    """The word and the numbers of a command line, or None if it is no command."""
     found = LINE.fullmatch(line)
     numbers = tuple(map(int, found[2].split())) if found else ()
     if not found or WORDS.get(found[1]) != len(numbers) or max(numbers, default=0) > NUMBER_LIMIT:
@@ -77,7 +76,7 @@ def is_utf8(data):
 
 
 def units(text):
-    """How many UTF-16 code units a text takes."""
+    """The number of UTF-16 code units of a text."""
     return len(text.encode("utf-16-le")) // 2
 
 
@@ -98,7 +97,7 @@ def positions_of(text):
 
 
 def place_of(text, line, column):
-    """The place of a position in a text, in characters, or None where it is nowhere."""
+    """The offset of a position in a text, in characters, or None if it is nowhere."""
     lines = lines_of(text)
     if line >= len(lines):
         return None
@@ -131,26 +130,26 @@ def listed(text, pattern):
 
 
 def position_at(text, place):
-    """The line and the column of a place: between a CR and an LF it is one past the end of the line's text."""
+    """The line and the column of an offset: between a CR and an LF it is one past the end of the line's text."""
     line, start = [(number, start) for number, (start, _) in enumerate(lines_of(text)) if start <= place][-1]
     return line, units(text[start:place])
 
 
 def found_next(text, pattern, place):
-    """How the first match in a whole text that starts at a place or behind it is told, or that there is none."""
+    """The reply with the first match in a whole text that starts at an offset or after it, or that there is none."""
     found = match_from(pattern, text, place)
     return b"m %d %d %d %d\n" % (*position_at(text, found[0]), *position_at(text, found[1])) if found else b"no match\n"
 
 
 def expanded(template, groups):
-    """What a template stands for at a match, of whose groups these are the texts, None for an absent one."""
+    """The expansion of a template for a match with these texts of its groups, None for an absent one."""
     meant = {"$": "$", **{str(number): text for number, text in enumerate(groups)}}
     return REFERENCE.sub(lambda found: meant.get(found[1]) or "", template)
 
 
 def parts_replaced(text, pattern, template):
-    """The parts of a text with all matches replaced, in turn: what stands before a match, what takes its place, and so
-    on, and what stands behind the last."""
+    """The parts of a text with all matches replaced, in order: the text before a match, its replacement, and so on, and
+    the text after the last."""
     data, parts, at = text.encode(), [], 0
     for groups in matches_with_groups(pattern, text):
         start, end = groups[0]
@@ -161,7 +160,7 @@ def parts_replaced(text, pattern, template):
 
 
 class Buffer:
-    """The texts of a buffer, of which one is the current one, and its pattern or None."""
+    """The texts of a buffer, one of which is the current one, and its pattern or None."""
 
     def __init__(self, text=""):
         self.texts, self.at, self.pattern = [text], 0, None
@@ -171,7 +170,7 @@ class Buffer:
         return self.texts[self.at]
 
     def edited(self, first_line, first_column, last_line, last_column, payload):
-        """The text after an edit, or None where its positions don't allow it."""
+        """The text after an edit, or None if its positions don't allow it."""
         first = place_of(self.text, first_line, first_column)
         last = place_of(self.text, last_line, last_column)
         if first is None or last is None or last < first:
@@ -179,13 +178,13 @@ class Buffer:
         return self.text[:first] + payload + self.text[last:]
 
     def add(self, text):
-        """Puts a text behind the current one, in the place of all that stood there, and makes it current."""
+        """Replaces all texts after the current one by another, and makes that current."""
         self.texts[self.at + 1 :] = [text]
         self.at += 1
 
 
 class Session:
-    """Buffers, of which one is chosen, and how many bytes a text may have."""
+    """Buffers, one of which is chosen, and the limit on the bytes of a text."""
 
     def __init__(self, limit=TEXT_LIMIT):
         self.buffers, self.chosen, self.limit = [Buffer()], 0, limit
@@ -195,13 +194,13 @@ class Session:
         return self.buffers[self.chosen]
 
     def takes_memory(self, word):
-        """Whether a command of this word may be answered that memory lacks."""
+        """Whether the reply to a command with this word may be that it is out of memory."""
         return word in ("text", "edit", "pattern", "fork", "next", "replace") or (
             word in ("undo", "redo") and self.buffer.pattern is not None
         )
 
     def is_for_nothing(self, word, numbers):
-        """Whether what the command is about isn't there."""
+        """Whether what the command needs doesn't exist."""
         return {
             "list": self.buffer.pattern is None,
             "next": self.buffer.pattern is None,
@@ -261,9 +260,9 @@ class Session:
         return b"ok\n"
 
     def cost(self, command):
-        """How many rows a command may make at most, and how often it may search a whole text: rows for the lines of
-        what an edit inserts and of what takes the place of each match, and else for all lines of the text that it leads
-        to, where there is a pattern then."""
+        """The maximum number of rows that a command may make, and of searches of a whole text: rows for the lines of an
+        edit's inserted text and of each replacement, otherwise for all lines of the resulting text, if it then has a
+        pattern."""
         (word, _, payload), buffer = command, self.buffer
         wholes = int(word in ("next", "replace"))
         if self.refusal(*command) or (buffer.pattern is None and word != "pattern"):
@@ -280,7 +279,7 @@ class Session:
         return sum(len(lines_of(text)) for text in texts), wholes
 
     def reply(self, command, lacks_memory=False):
-        """The reply to a command, where memory is refused to it or not."""
+        """The reply to a command, with memory refused to it or not."""
         if lacks_memory:
             assert self.takes_memory(command[0])
             return b"error memory\n"
@@ -289,14 +288,14 @@ class Session:
 
 
 def replies(commands, refused=frozenset(), limit=TEXT_LIMIT):
-    """The replies to the commands, where memory is refused to those whose places are in `refused`."""
+    """The replies to the commands, with memory refused to those whose indices are in `refused`."""
     session = Session(limit)
     return [session.reply(command, place in refused) for place, command in enumerate(commands)]
 
 
 def replies_and_costs(commands, limit=TEXT_LIMIT, refused=frozenset()):
-    """The replies to the commands, and how many rows these may make at most and how often they may search a whole text,
-    together; where memory is refused to those whose places are in `refused`, which may have cost as much by then."""
+    """The replies to the commands, and the maximum number of rows that these may make and of their searches of a whole
+    text, in all; with memory refused to those whose indices are in `refused`, which may have had their cost by then."""
     session, told, rows, wholes = Session(limit), [], 0, 0
     for place, command in enumerate(commands):
         more = session.cost(command)
@@ -306,12 +305,12 @@ def replies_and_costs(commands, limit=TEXT_LIMIT, refused=frozenset()):
 
 
 def costs(commands, limit=TEXT_LIMIT, refused=frozenset()):
-    """How many rows the commands may make at most, and how often they may search a whole text, together."""
+    """The maximum number of rows that the commands may make, and of their searches of a whole text, in all."""
     return replies_and_costs(commands, limit, refused)[1]
 
 
 def takers(commands, limit=TEXT_LIMIT):
-    """The places of the commands that may be answered that memory lacks, where no other one is."""
+    """The indices of the commands whose replies may be that they are out of memory, if no other reply is."""
     session, places = Session(limit), set()
     for place, command in enumerate(commands):
         if session.takes_memory(command[0]):
@@ -321,6 +320,6 @@ def takers(commands, limit=TEXT_LIMIT):
 
 
 def answer(data, refused=frozenset()):
-    """All that is written to standard output for an input, and the exit status."""
+    """All output for an input, and the exit status."""
     commands, ending = read_commands(data)
     return b"".join(replies(commands, refused)) + CLOSING[ending], STATUS[ending]

@@ -1,4 +1,4 @@
-"""Patterns at random, as trees, and haystacks in which they may be found."""
+"""Random patterns, as trees, and haystacks that they may match in."""
 from walks import LOOKS, Alternation, Concat, Empty, Group, Look, Program, Repeat, Set, is_digit, is_space, is_word
 from walks import may_be_empty
 
@@ -32,13 +32,13 @@ def character(c):
 
 
 class Maker:
-    """Makes trees at random. What may be empty is repeated only if `repeats_empty`."""
+    """Makes random trees. Repeats what may be empty only if `repeats_empty`."""
 
     def __init__(self, random, repeats_empty=True, most_nodes=60):
         self.random, self.repeats_empty, self.most_nodes, self.groups = random, repeats_empty, most_nodes, 0
 
     def tree(self):
-        """A tree whose program isn't long."""
+        """A tree with a short program."""
         while True:
             self.groups = 0
             tree = self.alternation(3)
@@ -73,7 +73,7 @@ class Maker:
         return Group(self.groups, self.alternation(depth - 1))
 
     def word(self, tree):
-        """A text that the tree may match, looks aside."""
+        """A text that the tree may match, apart from assertions."""
         if isinstance(tree, Set):
             return self.random.choice([c for c in CHARACTERS if tree.has(c)] or [""])
         if isinstance(tree, Repeat):

@@ -1,6 +1,6 @@
-"""Sessions of bin/rope-search at random, beside the models: of all words, with long texts, patterns that are hostile on
-purpose, lines that are no commands, and bytes that are changed anywhere; each given in one of some ways. The session of
-a seed and a number is always the same. One that fails is shortened."""
+"""Random sessions of bin/rope-search, compared with the models: with all commands, long texts, deliberately hostile
+patterns, lines that are no commands, and bytes that are changed anywhere; each passed in one of several ways. A seed
+and a number always give the same session. One that fails is shortened."""
 import random
 from dataclasses import dataclass, field, replace
 
@@ -13,12 +13,12 @@ from test_memory import answered
 from test_runs import Run, outcomes, problems, wrong_with, wrong_with_failed_read, wrong_with_failed_write, wrong_with_room
 from walks import program_of
 
-MOST_NODES, MOST_CHARACTERS = 60, 120  # of a pattern, and of a text in which the model looks for one that is no literal
+MOST_NODES, MOST_CHARACTERS = 60, 120  # of a pattern, and of a text in which the model searches for a non-literal
 LITERALS = ("mark", "a", "ab", "é", "🐸", "\r", "\n", "k\nm", "xyz", "-")
 LINES = ("", "a", "mark", "a mark", "- ab -", "é🐸é", "x" * 70, "mark" * 20, "xyz ab " * 30)
 BREAKS = ("\n", "\n", "\n", "\r\n", "\r")
 SIGNS = r"abé🐸 0-9\.+*?()[]{}|^$,:<>P=!imsU&~wWdDsSbBAzxnr" + "\n\r"
-# What hostile patterns are made of: parts that are repeated in one another, and that stand one after the other.
+# The parts of hostile patterns, which are nested and repeated, and put in sequence.
 NESTED = ("({})*", "({})+", "(?:{})?", "(?:{}){{0,3}}", "({}|)", "(?:{}|a)*", "(?i:{})", "({}){{2}}", "(?:{}|{})")
 PARTS = ("a*", "a?", "(a|a)", ".*", ".*?", r"\w", r"[^\w]", "a{0,200}", "(?:x|)", r"\b", r"\B", "^", "$", "(?m:^)", "|", "()")
 PARTS += ("[a-z]", "(?i)k", "b{65535}", "(a*)*", "x{0,40}", r"[\d\D]", r"[^\s\S]", "(?s:.)", "é", "🐸", r"\z", r"\A")
@@ -26,11 +26,11 @@ TAILS = (b"jump\n", b"print", b"text 3\nab", b"edit 0 0", b"x" * 128, b"x" * 129
 
 
 class Unclear(Exception):
-    """What is due isn't known."""
+    """The expected output isn't known."""
 
 
 def is_light(pattern):
-    """Whether the model finds a pattern in short texts at once."""
+    """Whether the model finds a pattern quickly in short texts."""
     if len(pattern) > 80 or tree_of(pattern) is None or pattern_weight(pattern) > 5_000:
         return False
     return len(program_of(tree_of(pattern)).nodes) <= MOST_NODES
@@ -48,8 +48,8 @@ def may_be_heavy(payload):
 
 
 class Fuzzed(Session):
-    """A session of the model. What it would take too long to find is what the program itself finds under the same
-    pattern, set anew over the same text."""
+    """A session of the model. If the model would take too long, the result is what the program itself finds with the
+    same pattern, set again for the same text."""
 
     def is_for_model(self):
         pattern, text = self.buffer.pattern, self.buffer.text
@@ -73,13 +73,13 @@ def with_payload(word, text):
 
 
 def due(data):
-    """What is written for an input, and the exit status."""
+    """The expected output for an input, and the exit status."""
     commands, ending = read_commands(data)
     session = Fuzzed()
     return b"".join(map(session.reply, commands)) + CLOSING[ending], STATUS[ending]
 
 
-# ---- ways in which a session is given; each tells what is wrong then
+# ---- ways to pass a session; each returns what is wrong
 
 
 @dataclass(frozen=True)
@@ -92,7 +92,7 @@ class File:
 
 @dataclass(frozen=True)
 class Pieces:
-    """By a pipe that gives so many bytes at a time."""
+    """By a pipe that gives this number of bytes at a time."""
 
     size: int
 
@@ -102,7 +102,7 @@ class Pieces:
 
 @dataclass(frozen=True)
 class Refused:
-    """As a file, and a request for memory is refused, alone or with all that follow."""
+    """As a file, with a request for memory refused, alone or with all later ones."""
 
     name: str
     number: int
@@ -114,7 +114,7 @@ class Refused:
 
 @dataclass(frozen=True)
 class Driven:
-    """Over memory, in small reads and writes, with limits, and with calls that fail: its rows are counted too."""
+    """In memory, in small reads and writes, with limits, and with calls that fail; its rows are counted too."""
 
     settings: Run
 
@@ -152,7 +152,7 @@ def some_way(chosen, is_short):
 
 @dataclass(frozen=True)
 class Trial:
-    """A session as its commands, and how it is given."""
+    """A session as its commands, and how it is passed."""
 
     commands: list = field(repr=False)
     way: object
@@ -165,7 +165,7 @@ class Trial:
 
 
 def hostile_pattern(chosen):
-    """A pattern that is nested, repeated, long, or heavy, or one with signs put in and taken out."""
+    """A pattern that is nested, repeated, long, or heavy, or one with characters inserted and removed."""
     roll = chosen.random()
     if roll < 0.25:
         pattern = chosen.choice(PARTS)
@@ -186,7 +186,7 @@ def hostile_pattern(chosen):
 
 
 def write_hostile(chosen, writer):
-    """Some commands under patterns that are hostile, of which the report is listed where it isn't long."""
+    """Some commands with hostile patterns; the report is listed unless it is long."""
     writer.write("text", text=some_text(chosen, 14))
     for _ in range(chosen.randint(1, 3)):
         writer.write("pattern", text=hostile_pattern(chosen))
@@ -212,7 +212,7 @@ def some_position(chosen, text):
 
 
 def write_long(chosen, writer):
-    """Edits and searches in a text of some thousand bytes, which lies in several chunks, under a pattern or two."""
+    """Edits and searches in a text of some thousand bytes, in several chunks, with a pattern or two."""
     lines = (chosen.choice(LINES) + chosen.choice(BREAKS) for _ in range(chosen.choice((20, 100, 300))))
     writer.write("text", text="".join(lines))
     for _ in range(chosen.randint(1, 2)):
@@ -237,7 +237,7 @@ def write_long(chosen, writer):
 
 
 def write_plain(chosen, writer):
-    """Commands of all words."""
+    """All kinds of commands."""
     weights = chosen.choice((OF_ALL_KINDS, BACK_AND_FORWARD, [chosen.choice((1, 1, 4, 12)) for _ in OF_ALL_KINDS]))
     writer.write("text", text=some_text(chosen, 12))
     if chosen.random() < 0.8:
@@ -250,7 +250,8 @@ def write_plain(chosen, writer):
 
 
 def changed(chosen, commands):
-    """The commands with some bytes of one of them changed, one twice, or one left out; and a tail that is none."""
+    """The commands with some bytes of one of them changed, one doubled, or one left out; and a tail that is no
+    command."""
     roll, at = chosen.random(), chosen.randrange(len(commands))
     if roll < 0.4:
         data = bytearray(commands[at])
@@ -279,12 +280,12 @@ def some_trial(seed, number):
     return Trial(commands, some_way(chosen, kind is write_plain))
 
 
-# ---- what is left of a session that fails
+# ---- shortening of a session that fails
 
 
 def without_some(commands, still_fails):
-    """The commands without those that a failure doesn't need: stretches of them are left out, each half as long as the
-    one before, as long as it still fails."""
+    """The commands without those that a failure doesn't need: runs of them are left out, each half as long as the one
+    before, as long as it still fails."""
     size = max(len(commands) // 2, 1)
     while size > 0:
         at = 0
@@ -321,7 +322,7 @@ def with_short_payloads(commands, still_fails):
 
 
 def shortened(trial):
-    """A failing session with as few commands, and as short payloads, as still fail in the same way of giving it."""
+    """A failing session with as few commands, and as short payloads, as still fail when passed in the same way."""
     def still_fails(commands):
         return bool(Trial(commands, trial.way).wrong())
 
@@ -330,15 +331,15 @@ def shortened(trial):
 
 
 def told_of(seed, number, trial):
-    """What is to be said of a session that fails."""
+    """The message for a session that fails."""
     least = shortened(trial)
     lines = [f"session {number} of seed {seed}, {least.way}:", *(f"    {short(command)}" for command in least.commands)]
     return "\n".join([*lines, *(f"    {line}" for line in least.wrong())])
 
 
 def failures(seed, first, count):
-    """What is to be said of those of these sessions of a seed that aren't answered as is due. Those that go over memory
-    go into one run of the driver, of which all are suspect where it breaks off."""
+    """The messages for those of these sessions of a seed whose answers are wrong. Those in memory go into one run of
+    the driver; if that stops early, all of them are suspect."""
     trials = {number: some_trial(seed, number) for number in range(first, first + count)}
     driven = {number: trial for number, trial in trials.items() if isinstance(trial.way, Driven)}
     told = list(outcomes([trial.way.row(b"".join(trial.commands)) for trial in driven.values()]))

@@ -1,14 +1,14 @@
-"""A small model of ropes and their slices, over a `str`: what bin/rope-driver has to answer to what is asked.
+"""A small model of ropes and their slices, over a `str`: the expected answers of bin/rope-driver.
 
-A text is a `str`, and a cut text the tuple of its chunks. Indices count from 0, by bytes of UTF-8, characters,
-UTF-16 code units or lines.
+A text is a `str`, and a text in chunks the tuple of these. Indices count from 0, by bytes of UTF-8, characters, UTF-16
+code units or lines.
 """
 import functools
 import re
 from bisect import bisect_right
 from itertools import accumulate
 
-# The characters that break lines. CR LF is one break. Ropes name this set once, and so does this model.
+# The characters that break lines. CR LF is one break. Ropes define this set once, and so does this model.
 BREAKS = "\r\n"
 
 MOST_BYTES = 984  # of a chunk
@@ -21,12 +21,12 @@ def hexed(text):
 
 
 def ends_break(text, place):
-    """Whether a line break ends behind the character with this index."""
+    """Whether a line break ends after the character with this index."""
     return text[place] in BREAKS and text[place : place + 2] != "\r\n"
 
 
 def order(left, right):
-    """How two texts stand to one another, by their bytes."""
+    """The order of two texts, by their bytes."""
     left, right = left.encode(), right.encode()
     return "Less" if left < right else "Greater" if left > right else "Equal"
 
@@ -54,13 +54,13 @@ def breaks_in(text):
 
 
 def lengths(text):
-    """How many bytes, characters, units and lines a text has."""
+    """The number of bytes, characters, units and lines of a text."""
     units = len(text) + sum(c >= "\U00010000" for c in text)
     return f"{len(text.encode())} {len(text)} {units} {breaks_in(text) + 1}"
 
 
 def range_refusal(name, length, start, end):
-    """Why a range from one index up to another is refused, each None where it is open, if it is."""
+    """Why a range from one index to another is refused, if it is. An index is None if the range is open there."""
     if start is not None and end is not None and end < start:
         return refused(f"{name}RangeInvalid", start, end)
     if max(start or 0, end or 0) > length:
@@ -77,17 +77,18 @@ def byte_range_refusal(data, start, end):
 
 
 def with_plain_places(told):
-    """What the `try_` and `get_` forms answer to an index, and then the plain forms, each where one of those does."""
+    """The results of the `try_` and `get_` methods for an index, and then of the plain methods, each if one of those
+    has a result."""
     return told + "".join(f"{number} " for number in re.findall(r"(?:Ok|Some)\((\d+)\)", told))
 
 
 def with_plain_chunks(told):
-    """The chunks that are shown, or why there are none, and then those that there are once more."""
+    """The chunks that are shown, or why there are none, and then the existing ones once more."""
     return told + "".join(f"{chunk}|" for chunk in told.split("|") if "/" in chunk)
 
 
 class Text:
-    """A text, and the bytes, the units and the lines before each of its characters and at its end."""
+    """A text, and the number of bytes, units and lines before each of its characters and at its end."""
 
     def __init__(self, text):
         self.text, self.chars = text, len(text)
@@ -97,7 +98,7 @@ class Text:
         self.start_bytes = [self.bytes_to[start] for start in self.starts]
         self.bytes, self.units, self.lines = self.bytes_to[-1], self.units_to[-1], len(self.starts)
 
-    # Each of these has an answer to any index up to the length.
+    # Each of these has a result for any index up to the length.
 
     def byte_to_char(self, byte):
         return bisect_right(self.bytes_to, byte) - 1
@@ -120,10 +121,10 @@ class Text:
     def line_texts(self):
         return [self.line(line) for line in range(self.lines)]
 
-    # What the program answers.
+    # The answers of the program.
 
     def places(self, idx):
-        """What an index stands for, as that of a byte, a character, a unit and a line."""
+        """The conversions of an index, as that of a byte, a character, a unit and a line."""
 
         def up_to(length, error, *convert):
             found = [ok(each(idx)) if idx <= length else f"Err({refused(error, idx, length)})" for each in convert]
@@ -140,8 +141,7 @@ class Text:
         return with_plain_places(" ".join(by_byte + by_char + by_unit + by_line + [option(byte), option(char), line]))
 
     def part_of(self, name, start, end):
-        """The part of characters or of bytes from one index up to another, each None where it is open, or why there
-        is none."""
+        """The part of characters or of bytes from one index to another, each None if open, or why there is none."""
         length = self.chars if name == "Char" else self.bytes
         why = range_refusal(name, length, start, end)
         if why:
@@ -155,7 +155,7 @@ class Text:
         return self.text[places[0] : places[1]], None
 
     def parts(self, start, end, tells_why=True):
-        """The parts that the six ranges are, of characters and then of bytes."""
+        """The parts of the six kinds of ranges, of characters and then of bytes."""
         last = min(end + 1, GREATEST)
         ranges = [(start, end), (start, last), (start, None), (None, end), (None, last), (None, None)]
         found = [self.part_of(name, *ends) for name in ("Char", "Byte") for ends in ranges]
@@ -172,7 +172,7 @@ def text_of(text):
 
 
 def clipped(pieces, start, end):
-    """What of the chunks stands from one character up to another."""
+    """The part of the chunks from one character to another."""
     found, at = [], 0
     for piece in pieces:
         inside = piece[max(start - at, 0) : max(end - at, 0)]
@@ -188,15 +188,15 @@ class Cut:
         self.pieces = pieces
         self.char_starts = [0, *accumulate(map(len, pieces))]
         self.byte_starts = [0, *accumulate(len(piece.encode()) for piece in pieces)]
-        self.breaks_by = list(accumulate(map(breaks_in, pieces)))  # no CR LF is cut
+        self.breaks_by = list(accumulate(map(breaks_in, pieces)))  # no CR LF is split
 
     @functools.cached_property
     def whole(self):
         return text_of("".join(self.pieces))
 
     def holding(self, name, idx):
-        """The number of the chunk that holds a byte or a character, or by whose end so many breaks have ended; or of
-        chunks; or None past the length."""
+        """The number of the chunk that contains a byte or a character, or by whose end this number of breaks have
+        ended; or of chunks; or None past the length."""
         whole, count = self.whole, len(self.pieces)
         if idx > {"byte": whole.bytes, "char": whole.chars, "line_break": whole.lines}[name]:
             return None
@@ -223,7 +223,7 @@ class Cut:
         return with_plain_chunks(at_byte + self.shown("char", idx) + self.shown("line_break", idx))
 
     def walk(self, kind, place, script):
-        """What a walk over items of a kind gives, from the place before one of them."""
+        """The items of a walk over items of a kind, from before one of them."""
         if kind.startswith("chunks_at_"):
             number = self.holding(kind[10:], place)
             items = [hexed(piece) for piece in self.pieces]
@@ -248,7 +248,7 @@ def items_of(kind, text):
 
 
 def walk(items, place, script, tells_left=True):
-    """What a walk by a script gives. It stands between two items."""
+    """The items of a walk by a script. It is between two items."""
     found, direction = [], 1
     for letter in script:
         told = ""

@@ -1,11 +1,11 @@
 """Rows for bin/rope-driver, and what is wrong with its answers to them.
 
-A row is a line that is sent, and what is due: a line, or a call that tells what is wrong with one.
+A row is a line that is sent, and what is expected: a line, or a function that returns what is wrong with one.
 """
 from harness import ROPE_PROGRAM, differences, end_of, open_input, start, test
 from rope_model import MOST_BYTES, Cut, byte_range_refusal, compared, hexed, lengths, ok, range_refusal, refused, text_of
 
-BATCH = 20_000  # how many rows go into one run
+BATCH = 20_000  # the number of rows in one run
 
 
 def answers_to(lines, environment=None):
@@ -41,7 +41,7 @@ def short(line, size=150):
 
 
 def difference(line, due, answer):
-    """Where an answer differs first from what is due."""
+    """Where an answer first differs from the expected one."""
     dues, answers = due.split(";"), answer.split(";")
     at = next((k for k, pair in enumerate(zip(dues, answers)) if pair[0] != pair[1]), 0)
     told = answers[at] if at < len(answers) else ""
@@ -55,8 +55,8 @@ def leaves_row(pieces, asks, answers, parts=()):
 
 
 def wrong_chunks(chunks, least=980):
-    """What is wrong with the lengths of chunks, of which each but the last has some bytes at least, and where a text
-    is cut into them. What is removed at the start of a text leaves the first chunk as short as it may be."""
+    """What is wrong with the lengths of chunks, each of which except the last has a minimum number of bytes, and where
+    a text is split into them. After text is removed at the start, the first chunk may be shorter."""
     for number, chunk in enumerate(chunks):
         size, is_last = len(chunk.encode()), number + 1 == len(chunks)
         may_be_short = is_last or (number == 0 and least < 980)
@@ -67,7 +67,7 @@ def wrong_chunks(chunks, least=980):
 
 
 def cut_at(text, sizes):
-    """A text in chunks of so many bytes, or None where a character is cut or the sizes are others together."""
+    """A text in chunks of these numbers of bytes, or None if a character is split or the sizes have another sum."""
     data, at, pieces = text.encode(), 0, []
     for size in sizes:
         pieces.append(data[at : at + size])
@@ -79,8 +79,8 @@ def cut_at(text, sizes):
 
 
 def sent(ask):
-    """An ask as it is sent: a word as it is, and a call with what it is given, where texts are in hexadecimal and nothing
-    stands for a place that isn't told."""
+    """A request as it is sent: a word unchanged, and a call with its arguments; texts are in hexadecimal, and a missing
+    offset is left out."""
     if isinstance(ask, str):
         return ask
     name, *given = ask
@@ -89,9 +89,9 @@ def sent(ask):
 
 
 class RopeRow:
-    """A row on a rope, whose answers are checked one after the other: where a request for memory may be refused, an
-    edit may answer so, and then changes nothing. What is asked is a word, or a call: its name, and what it is given,
-    places and texts. Two of the cuts that are asked for, by their numbers, may have to differ."""
+    """A row on a rope, whose answers are checked one after the other. If a request for memory may be refused, an edit
+    may report that, and then changes nothing. A request is a word, or a call: its name and its arguments, offsets and
+    texts. Two of the requested lists of chunks, by their numbers, may have to differ."""
 
     def __init__(self, maker, parts, asks, may_refuse=False, differ=()):
         self.maker, self.parts, self.asks, self.may_refuse = maker, parts, list(asks), may_refuse
@@ -110,7 +110,7 @@ class RopeRow:
     def wrong(self, line):
         """What is wrong with the answers."""
         self.text, self.kept, self.pieces, self.cuts = "", [], None, []
-        self.least = 980  # the fewest bytes of a chunk but the last, in a rope that is made and not edited
+        self.least = 980  # the minimum bytes of a chunk except the last, in a rope that is built and not edited
         first, *answers = line.split(";")
         end = answers.pop() if answers else ""
         if self.may_refuse and first.endswith("Memory"):
@@ -141,12 +141,12 @@ class RopeRow:
             yield f"{self}: the cuts {self.differ} are alike"
 
     def lose(self, name):
-        """A refused `append` drops what it is given."""
+        """A refused `append` drops its argument."""
         if name == "append" and self.kept:
             self.kept.pop()
 
     def cut(self, answer):
-        """What is wrong with the chunks, of which later answers are about."""
+        """What is wrong with the chunks, to which later answers refer."""
         *sizes, capacity = map(int, answer.split())
         pieces = cut_at(self.text, sizes)
         if pieces is None:
@@ -157,7 +157,7 @@ class RopeRow:
         return wrong + ([] if capacity == MOST_BYTES * len(sizes) else [f"the capacity is {capacity}"])
 
     def due(self, name, arguments):
-        """The answer that is due, of which an edit changes the text."""
+        """The expected answer; an edit changes the text."""
         if name == "lengths":
             return lengths(self.text)
         if name in ("text", "display", "written"):
@@ -214,7 +214,7 @@ class RopeRow:
         return ok("()")
 
     def replaced(self, name, start, end, other):
-        """The text with another one in the place of a range of characters or of bytes."""
+        """The text with a range of characters or of bytes replaced by another text."""
         if "byte" in name:
             data = self.text.encode()
             return (data[: start or 0] + other.encode() + data[len(data) if end is None else end :]).decode()
@@ -232,7 +232,7 @@ class RopeRow:
         if "insert" in name or "split_off" in name:
             at = int(arguments[0])
             return refused("CharIndexOutOfBounds", at, len(self.text)) if at > len(self.text) else None
-        # What the program answers where no rope is kept, or a slice doesn't lie in the text.
+        # The answer of the program if no rope is kept, or a slice isn't inside the text.
         if name in ("append", "swap") and not self.kept:
             return "Size"
         if name in ("slice", "build") and max(map(int, arguments)) > len(self.text):

@@ -1,4 +1,4 @@
-"""Texts that ropes are made of in tests, and the leaves that they are cut into."""
+"""Texts of the ropes in tests, and the leaves into which they are split."""
 import itertools
 import re
 
@@ -15,7 +15,7 @@ def small_texts(letters, length):
 
 
 def cuttings(text):
-    """A text cut in every way into leaves, where no CR LF is cut."""
+    """A text split in every way into leaves, with no CR LF split."""
     places = [place for place in range(1, len(text)) if text[place - 1 : place + 1] != "\r\n"]
     for size in range(len(places) + 1):
         for chosen in itertools.combinations(places, size):
@@ -24,17 +24,17 @@ def cuttings(text):
 
 
 def shortest_leaves(text):
-    """A text in leaves as short as may be."""
+    """A text in leaves as short as possible."""
     return tuple(re.findall("(?s)\r\n|.", text))
 
 
 def pairs(high):
-    """All pairs of places in order, up to `high`."""
+    """All pairs of offsets in order, up to `high`."""
     return itertools.combinations_with_replacement(range(high + 1), 2)
 
 
 def full(unit, size):
-    """A text of so many bytes: some `a`, and then copies of a unit."""
+    """A text with this number of bytes: some `a`, and then copies of a unit."""
     bytes_in_unit = len(unit.encode())
     return "a" * (size % bytes_in_unit) + unit * (size // bytes_in_unit)
 
@@ -44,7 +44,7 @@ def text_at_random(chance, length):
 
 
 def cut_at_random(chance, text, most=MOST_BYTES):
-    """A text in leaves of lengths drawn by lot."""
+    """A text in leaves of random lengths."""
     pieces, at = [], 0
     while at < len(text):
         end = at + chance.randint(1, max(most // 4, 1))

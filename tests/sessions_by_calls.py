@@ -1,5 +1,5 @@
-"""Sessions at random by calls of the library that C links, in one process, beside a plain model of it. The program is in
-Rust, in tests/sessions; it is built with rustc and the static library, and takes what Unicode says from Python."""
+"""Random sessions by calls of the C library, in one process, compared with a plain model of it. The program is in Rust,
+in tests/sessions; it is built with rustc and the static library, and gets Unicode's data from Python."""
 import functools
 import os
 import re
@@ -10,7 +10,7 @@ from harness import LIBRARY_FOLDER, ROOM, TOP
 from pattern_model import folded_alike, letter_class
 
 STATIC_LIBRARY = os.path.join(LIBRARY_FOLDER, "librope_search.a")
-LEAST_RUSTC = 85  # of the 1.x that have the edition of 2024
+LEAST_RUSTC = 85  # the 1.x releases that have the edition of 2024
 BUILD = ["--edition", "2024", "-O", "-C", "panic=abort", "-C", "link-arg=-Wl,--wrap=malloc,--wrap=realloc,--wrap=free"]
 
 
@@ -24,7 +24,7 @@ def missing_compiler():
 
 
 def missing():
-    """What the sessions need and isn't there, or None."""
+    """What the sessions need and isn't available, or None."""
     if not os.access(STATIC_LIBRARY, os.R_OK):
         return f"no {os.path.relpath(STATIC_LIBRARY, TOP)}"
     return missing_compiler()
@@ -32,7 +32,7 @@ def missing():
 
 @functools.lru_cache(maxsize=None)
 def unicode_file():
-    """A file with the ranges of the letter classes, and the characters that have one simple case folding."""
+    """A file with the ranges of the letter classes, and the characters that share a simple case folding."""
     path = os.path.join(ROOM, "unicode.txt")
     with open(path, "w", encoding="utf-8") as out:
         for letter in "dsw":
@@ -44,7 +44,7 @@ def unicode_file():
 
 @functools.lru_cache(maxsize=None)
 def built():
-    """The program, or None if it can't be built, and what rustc says then."""
+    """The program, or None if it can't be built, and then rustc's message."""
     made = os.path.join(ROOM, "sessions")
     words = ["rustc", *BUILD, "-L", f"native={LIBRARY_FOLDER}", "-l", "static=rope_search", "-o", made,
              os.path.join(TOP, "tests", "sessions", "main.rs")]
@@ -53,7 +53,7 @@ def built():
 
 
 def ran(what, seed, first, count):
-    """What the program prints of these sessions of a seed, and its status."""
+    """The output of the program for these sessions of a seed, and its status."""
     words = [built()[0], unicode_file(), what, *map(str, (seed, first, count))]
     settings = {"stdin": subprocess.DEVNULL, "stdout": subprocess.PIPE, "text": True, "errors": "replace"}
     done = subprocess.run(words, check=False, env={**os.environ, "RUST_BACKTRACE": "0"}, **settings)
@@ -61,7 +61,7 @@ def ran(what, seed, first, count):
 
 
 def failures(seed, first, count):
-    """What is to be said of those of these sessions that fail, and the number of those that were compared in part."""
+    """The messages for those of these sessions that fail, and the number of those that were compared in part."""
     said, status = ran("check", seed, first, count)
     *failed, last = said.rstrip("\n").split("\n")
     counts = last.split(" ")
@@ -72,6 +72,6 @@ def failures(seed, first, count):
 
 
 def sessions_told(seed, first, count):
-    """The calls of sessions with what the model answers, as lines for plain_sessions."""
+    """The calls of sessions with the model's answers, as lines for plain_sessions."""
     said, _ = ran("tell", seed, first, count)
     return [[line for line in one.split("\n")[1:] if line] for one in ("\n" + said).split("\nsession ")[1:]]

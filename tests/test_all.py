@@ -1,9 +1,8 @@
-"""What searches for all matches find, of one pattern or of several, on bin/search-driver: of all walks the greatest
-end, then the least start, then the least pattern, in haystacks that lie in pieces, and perhaps in slices and spans,
-anchored, and under settings; and what comes next behind each. The step of all walks, the PikeVM and a `Regex` tell it
-alike.
+"""Searches for all matches, of one pattern or of several, on bin/search-driver: of all walks the greatest end, then the
+least start, then the least pattern, in haystacks in chunks, also in slices and spans, anchored, and with settings; and
+the next match after each. The step of all walks, the PikeVM and a `Regex` must agree.
 
-Its answers are those that stand here, and those of the model of tests/walks.py to cases at random and to all spans of
+The expected answers are listed here, or are those of the model of tests/walks.py for random cases and for all spans of
 short haystacks.
 """
 import itertools
@@ -16,15 +15,15 @@ from random_patterns import Maker, character
 from test_searches import asked_at_random, pairs
 from walks import Alternation, Concat, Empty, Look, Repeat, Search, Set, spelled
 
-SIZES = (0, 1, 2, 3, 5)  # how many bytes a piece has; 0: all are one piece
+SIZES = (0, 1, 2, 3, 5)  # the number of bytes of a chunk; 0: all are one chunk
 RANDOM_CASES = share_of(4_000)
-ANYWHERE, AT_START, FIRST, SECOND = 0, 1, 2, 3  # where matches start: at the span's start alone, of this pattern
+ANYWHERE, AT_START, FIRST, SECOND = 0, 1, 2, 3  # where matches start: only at the span's start, of this pattern
 BY_SEMICOLON = Settings("m", line_end=ord(";"))
 
-# Patterns, haystacks, and what is found, as pattern, start and end; where not all is asked for as it is at first, also
-# the slice, the span and where matches start, whether empty matches inside a character are found, and settings.
+# Patterns, haystacks, and matches, as pattern, start and end; if not everything has its default, also the slice, the
+# span and where matches start, whether empty matches inside a character are found, and settings.
 VECTORS = [
-    # The greatest end, whichever pattern it is of, and wherever it starts.
+    # The greatest end, of any pattern, and with any start.
     (["a", "ab"], "ab", "1 0 2"),
     (["ab", "a"], "ab", "0 0 2"),
     (["b", "abb"], "abab", "0 3 4"),
@@ -37,7 +36,7 @@ VECTORS = [
     (["b", "ab", "a?b"], "ab", "1 0 2"),
     (["a", "a", "aa?"], "a", "0 0 1"),
     (["b*c", "abc|c"], "abc", "1 0 3"),
-    # An empty match may end last, where one may stand.
+    # An empty match may end last, if one may be there.
     (["a*"], "aab", "0 3 3"),
     (["a*", ""], "aa", "0 0 2"),
     (["", "b"], "ab", "1 1 2"),
@@ -63,7 +62,7 @@ VECTORS = [
     (["a*"], "aa", "none", ((0, 9), (3, 9), ANYWHERE)),
     (["a*"], "aa", "none", ((0, 2), (2, 1), ANYWHERE)),
     (["a*"], "aa", "0 1 2", ((0, 9), (1, 9), AT_START)),
-    # Looks see the neighbouring pieces, and of a cut character that it is one.
+    # Assertions see the neighbouring chunks, and that a split character is one.
     (["\\bb", "\\Bb"], "b ab", "1 3 4"),
     (["\\b|\\B"], "aé", "0 1 1", ((0, 2), (0, 2), ANYWHERE)),
     (["^b", "a$"], "a;b", "0 2 3", ((0, 9), (0, 9), ANYWHERE), False, BY_SEMICOLON),
@@ -71,7 +70,7 @@ VECTORS = [
     (["(a)(b)?|b(c)", "[ab]+"], "abc", "0 1 3"),
 ]
 
-# What is found one after the other.
+# Matches in order.
 LISTS = [
     (["a", "ab"], "abab", "1 2 4"),
     (["a|ab"], "abx", "0 0 2"),
@@ -99,7 +98,7 @@ SMALL_TREES = (
 
 
 def about(patterns, haystack, answer, cut=0, asked=None, inside=False, settings=Settings(), earliest=False, again=True):
-    """A case of one search, or of two with one cache. It is asked for a slice, a span, and where matches start."""
+    """A case of one search, or of two with one cache, with a slice, a span, and where matches start."""
     slice_, span, anchored = asked or ((None, None), (None, None), None)
     texts = ".".join(map(written, patterns)) if patterns else "-"
     fields = [texts, *settings.fields(), cut, haystack.hex(), *slice_, *span, anchored, int(inside), int(earliest), int(again)]
@@ -108,7 +107,7 @@ def about(patterns, haystack, answer, cut=0, asked=None, inside=False, settings=
 
 
 def about_list(patterns, haystack, answer, cut=0, asked=None, inside=False, settings=Settings()):
-    """A case of all that is found, one match behind the other."""
+    """A case of all matches, in order."""
     slice_, span, anchored = asked or ((None, None), (None, None), None)
     texts = ".".join(map(written, patterns)) if patterns else "-"
     fields = [texts, *settings.fields(), cut, haystack.hex(), *slice_, *span, anchored, int(inside)]
@@ -117,7 +116,7 @@ def about_list(patterns, haystack, answer, cut=0, asked=None, inside=False, sett
 
 
 def model_of(trees, haystack, asked, inside, line_end):
-    """The model of a search, and the pattern that it is anchored to, if it is to one."""
+    """The model of a search, and the pattern to which it is anchored, if any."""
     slice_, span, anchored = asked
     pattern = anchored - FIRST if anchored >= FIRST else None
     return Search(trees, haystack, slice_, span, anchored != ANYWHERE, inside, line_end), pattern
@@ -129,7 +128,7 @@ def found_by(model, pattern):
 
 
 def case_of(trees, haystack, cut=0, asked=None, inside=False, line_end=b"\n", earliest=False):
-    """A case that the model answers; where any match will do, by what is found up to the first end of one."""
+    """A case with the model's answer; if any match may be returned, by the matches up to the first match end."""
     asked = asked or ((0, len(haystack)), (0, len(haystack)), ANYWHERE)
     slice_, span, anchored = asked
     answer = found_by(*model_of(trees, haystack, asked, inside, line_end))
@@ -188,7 +187,7 @@ def spans():
 
 
 def again_with_one_cache():
-    """A second search with the same cache asks for no memory."""
+    """A second search with the same cache requests no memory."""
     haystack = b"aab" * 500
     patterns = ["a*b", "a+", "ab|ba", "[ab]+?"]
     once, twice = (about(patterns, haystack, "1 0 1500", 7, again=again) for again in (False, True))

@@ -1,10 +1,10 @@
-"""What the engines find, on bin/search-driver: where the first match ends, by the PikeVM, by an automaton whose states
-a cache keeps, of four capacities, and by one all of whose states are made before; and all matches, by a `Regex`, which
-chooses among them, and by one for which some of them are off. Haystacks lie in pieces and in ropes, and perhaps in
-slices and spans, and searches are perhaps anchored.
+"""The results of the engines, on bin/search-driver: where the first match ends, by the PikeVM, by an automaton whose
+states a cache keeps, of four capacities, and by one all of whose states are made in advance; and all matches, by a
+`Regex`, which chooses among them, and by one with some of them off. Haystacks are in chunks and in ropes, also in
+slices and spans, and some searches are anchored.
 
-The answers are those of the table tests/searches.jsonl and those of the model of tests/walks.py. An automaton may also
-quit before the first byte of 128 or more that it sees, where a pattern has `\\b` or `\\B`, and give up where a cache
+The expected answers are those of the table tests/searches.jsonl and those of the model of tests/walks.py. An automaton
+may also quit before the first byte of 128 or more that it sees, if a pattern has `\\b` or `\\B`, and give up if a cache
 is small.
 """
 import itertools
@@ -26,18 +26,18 @@ from walks import Search, spelled
 
 RANDOM_CASES, LITERAL_CASES, IN_ONE_RUN = share_of(24_000), share_of(2_000), 500
 LITTLE_ROOM, ALL_ROOM = (0, 700), 2**64 - 1  # of caches, in bytes
-CAPACITIES = (*LITTLE_ROOM, None, ALL_ROOM)  # none: as it is by default
+CAPACITIES = (*LITTLE_ROOM, None, ALL_ROOM)  # none: the default
 
-# An automaton all of whose states are made before may have so many of these that it takes long to make.
+# An automaton with all states made in advance may have so many that this takes long.
 MANY = re.compile(r"\\[dDsSwW]")
 
-# A content of 100,000 letters, a pattern that matches nothing in it, and one that matches all.
+# A haystack of 100,000 letters, a pattern that matches nothing in it, and one that matches all.
 LETTERS = "abcab" * 20_000
 IN_LETTERS = [("(a|b|ab)*x", "none"), ("(?:[a-c]|\\w)+", "0 100000"), ("(?i)todo|error", "none")]
 
 
 def automaton(word, pattern, haystack, cut=0, asked=None, times=0, capacity=None, answer=None):
-    """A case of a search by an automaton, once it has served so many searches before."""
+    """A case of a search by an automaton, after this number of searches with it."""
     slice_, span, anchored = asked or ((None, None), (None, None), None)
     fields = [written(pattern), *Settings().fields(), cut, haystack.hex(), *slice_, *span]
     fields += ["" if anchored is None else int(anchored), times, capacity]
@@ -53,13 +53,13 @@ def regex(pattern, haystack, cut=0, asked=None):
 
 
 def under(ways, pattern, haystack, cut=0, asked=None):
-    """A case of a search for all matches by a `Regex`, of whose engines some are off."""
+    """A case of a search for all matches by a `Regex`, with some of its engines off."""
     slice_, span, anchored = asked or ((None, None), (None, None), 0)
     return about("under", [pattern], None, ways, haystack, cut, (slice_, span, int(anchored)))
 
 
 class Wanted:
-    """A search, all of whose matches are known, and what each engine may answer."""
+    """A search with known matches, and the answers that each engine may give."""
 
     engines = itertools.cycle(engines())  # each in turn is on and off
 
@@ -70,8 +70,8 @@ class Wanted:
         self.text = text if text.encode() == haystack else None
 
     def cases(self):
-        """By the PikeVM, by a regex, by one of whose engines some are off, by an automaton with caches of each capacity,
-        in a rope, if it is one of text, and by an automaton with all states."""
+        """By the PikeVM, by a regex, by one with some engines off, by an automaton with caches of each capacity, in a
+        rope, if it is one of text, and by an automaton with all states."""
         how = self.pattern, self.haystack, self.cut, self.asked
         yield search(self.pattern, self.haystack, None, self.cut, self.asked, slots=2)
         yield regex(*how)
@@ -84,7 +84,7 @@ class Wanted:
             yield automaton("dense", *how, self.times)
 
     def places(self):
-        """Where the slice starts and ends, and the first and the last place of the search."""
+        """Where the slice starts and ends, and the first and the last offset of the search."""
         length = len(self.haystack)
         slice_, span, _ = self.asked or ((0, length), (0, length), None)
         low, high = max(slice_[0], span[0]), min(slice_[1], span[1], length)
@@ -100,7 +100,7 @@ class Wanted:
         return None
 
     def is_given_up(self, answer):
-        """Whether it is that a search gave up at a place inside."""
+        """Whether the answer is that a search gave up at an offset inside."""
         _, _, low, high = self.places()
         told = re.fullmatch(r"the search gave up at (\d+)", answer)
         return told is not None and low <= int(told[1]) <= high
@@ -124,8 +124,8 @@ class Wanted:
 
 
 def answered(searches, wrong):
-    """Each of the searches, with its cases and the answers to them, which come from runs of so many searches. What is
-    wrong with a run is added to what is wrong."""
+    """Each of the searches, with its cases and the answers to them, which come from runs of a limited number of
+    searches. Faults of a run are added to the problems."""
     while batch := list(itertools.islice(searches, IN_ONE_RUN)):
         cases = [list(wanted.cases()) for wanted in batch]
         told, with_run = answers(list(itertools.chain.from_iterable(cases)))
@@ -136,7 +136,7 @@ def answered(searches, wrong):
 
 
 def compared(searches):
-    """What is wrong with the answers to searches, and how they were answered, which has to be in each way."""
+    """What is wrong with the answers to searches, and the kinds of answers, each of which must occur."""
     counts, wrong = {"with a match": 0, "that quit": 0, "that gave up": 0}, []
     for wanted, about, here in answered(iter(searches), wrong):
         for number in wanted.wrong(here):
@@ -149,7 +149,7 @@ def compared(searches):
 
 
 def table():
-    """All rows, in pieces of sizes in turn."""
+    """All rows, in chunks of sizes in turn."""
     with open(os.path.join(TOP, "tests", "searches.jsonl"), encoding="utf-8") as file:
         rows = [json.loads(line) for line in file]
     for row, size in zip(rows, itertools.cycle(SIZES)):
@@ -158,8 +158,7 @@ def table():
 
 
 def vectors():
-    """Those of VECTORS and EXTREMES that say where matches lie, under the settings as they are at first, in pieces of each
-    size."""
+    """Those of VECTORS and EXTREMES that list matches, with default settings, in chunks of each size."""
     for (pattern, haystack, answer, *asked), size in itertools.product(VECTORS + EXTREMES, SIZES):
         if len(asked) <= 1 and re.fullmatch(r"[-0-9, ]*", answer):
             groups = ([told.split("-") for told in match.split(",")] for match in answer.split())
@@ -168,8 +167,8 @@ def vectors():
 
 
 def at_random(count=RANDOM_CASES):
-    """Searches at random, four for a pattern, of which one is by an automaton with all states; some of them with caches
-    that served before."""
+    """Random searches, four for a pattern, one of them by an automaton with all states; some with caches that were used
+    before."""
     chance = random.Random(21)
     maker = Maker(chance)
     for number in range(count):
@@ -186,8 +185,8 @@ def at_random(count=RANDOM_CASES):
 
 
 def literal_matches(literal, haystack, slice_, span, anchored):
-    """Where a literal lies in a slice and a span, one match after the other; each begins where the search for it does, if
-    that is anchored."""
+    """Where a literal occurs in a slice and a span, in order; each begins where the search for it does, if that is
+    anchored."""
     high, place = min(slice_[1], span[1], len(haystack)), span[0]
     while True:
         found = haystack.find(literal, max(place, slice_[0]), high) if place <= high else -1
@@ -199,7 +198,7 @@ def literal_matches(literal, haystack, slice_, span, anchored):
 
 def literals(count=LITERAL_CASES):
     """Searches for patterns that are one literal, or nearly so, in haystacks that it nearly fills, with characters that
-    are cut: a regex answers them by the literal alone."""
+    are split: a regex finds them by the literal only."""
     chance = random.Random(38)
     parts = [b"a", b"b", "é".encode(), b"\xc3", "🐸".encode()]
     for _ in range(count):
@@ -216,24 +215,25 @@ def literals(count=LITERAL_CASES):
         yield Wanted(pattern, haystack, matches, chance.choice((0, 1, 2, 3, 5)), asked, chance.choice((0, 2)))
 
 
-# Engines, and patterns whose search in `aaaa` leads to all states to which one in more of these letters does; of the
-# first all states are made with a `Regex`, of the others they aren't.
+# Engines, and patterns whose search in `aaaa` reaches all states that one in more of these letters does; for the first
+# all states are made with a `Regex`, for the others they aren't.
 ENGINES = "pikevm", "hybrid", "dfa", "meta"
 FULL_OF_A = "a" * 100_000
 IN_FULL_OF_A = ["a*b", "(?:a|b|cc?|dd?d?|ee?e?e?|ff?f?f?f?|gg?g?g?)*x", "(?:a|[é-ü]{1,9})*x"]
 
-# Patterns, haystacks and what is answered with a cache that has room for two states: each letter leads to another one,
-# and so does the end, and when they would be taken out for the fourth time it gives up.
+# Patterns, haystacks and the answer with a cache that has room for two states: each letter leads to another one, and so
+# does the end, and when they would be cleared for the fourth time it gives up.
 IN_LITTLE_ROOM = [
     ("a", b"bbbb", "none"),
     ("abcdef", b"abcdef", "0 6"),
     ("abcdefg", b"abcdefg", "the search gave up at 7"),
     ("abcdefgh", b"abcdefgh", "the search gave up at 7"),
 ]
-# With one that has room for all states that there can be none gives up.
+# One with room for all possible states never gives up.
 IN_ALL_ROOM = [*IN_LITTLE_ROOM[:2], ("abcdefg", b"abcdefg", "0 7"), ("[ab]*a[ab]{5}", b"abbab" * 40 + b"c", "0 199")]
 
-# Each has its requests for memory refused in turn. After each that comes in a search with a cache there is one more.
+# Each has its requests for memory refused in turn. After each request of a search with a cache there is one more
+# search.
 IN_NEED = [
     automaton("lazy", "(a)|b", b"ab", 1, answer="0 1"),
     automaton("lazy", "(?:([a-é]+?)|$){2}x?", "aé 🐸".encode(), 2, answer="0 3"),
@@ -243,8 +243,7 @@ IN_NEED_OF_ALL = [automaton("dense", "a*b", b"xaab", 1, answer="0 4")]
 
 
 def check_warm(few, many):
-    """A program that searches more often in a long content, with what it has searched with before, asks for no more
-    memory."""
+    """A program that searches more often in a long haystack, with the same cache as before, requests no more memory."""
     wrong, told = [], []
     for case in (few, many):
         ended, count, _, total = tallied(lambda environment, line=case.line: answer_to(line, environment))
@@ -256,7 +255,7 @@ def check_warm(few, many):
 
 
 def check_first(pattern):
-    """An engine that has searched in `aaaa` asks for no memory in a long content that it hasn't seen."""
+    """An engine that has searched in `aaaa` requests no memory in a long haystack that it hasn't seen."""
     for engine in ENGINES:
         wrong, told = [], []
         for length in (8, len(FULL_OF_A)):
@@ -270,7 +269,7 @@ def check_first(pattern):
 
 
 def in_long_contents():
-    """Pairs of cases that differ in how often is searched before."""
+    """Pairs of cases that differ in the number of searches before."""
     for pattern, answer in IN_LETTERS:
         for word in ("lazy", "dense"):
             if word == "lazy" or not MANY.search(pattern):

@@ -1,10 +1,10 @@
-"""What searches backwards find, of one pattern or of several, on bin/search-driver: of the matches that end at the end
-of the span the least start, then the least pattern, in haystacks that lie in pieces, and perhaps in slices and spans
-and under settings. Both engines over automata must answer so too, and the automaton of the program turned round, by
-caches of four capacities: it may also quit before a byte of 128 or more, where a pattern has `\\b` or `\\B`, and give
-up where its cache is small.
+"""The results of backward searches, of one pattern or of several, on bin/search-driver: of the matches that end at the
+end of the span the least start, then the least pattern, in haystacks in chunks, also in slices and spans and with
+settings. Both automaton engines must agree, and so must the automaton of the reversed program, with caches of four
+capacities: it may also quit before a byte of 128 or more, if a pattern has `\\b` or `\\B`, and give up if its cache is
+small.
 
-Its answers are those that stand here, and those of the model of tests/walks.py to cases at random and to all spans of
+The expected answers are listed here, or are those of the model of tests/walks.py for random cases and for all spans of
 short haystacks.
 """
 import itertools
@@ -19,13 +19,13 @@ from test_searches import asked_at_random, pairs
 from walks import spelled
 
 LITTLE_ROOM, ALL_ROOM = (0, 700), 2**64 - 1  # of caches, in bytes
-CAPACITIES = (*LITTLE_ROOM, None, ALL_ROOM)  # none: as it is by default
+CAPACITIES = (*LITTLE_ROOM, None, ALL_ROOM)  # none: the default
 RANDOM_CASES, TABLE_CASES, IN_ONE_RUN = share_of(4_000), share_of(10_000), 500
-NO_END = 2**64 - 1  # as of a span of a content of which it isn't told how long it is
+NO_END = 2**64 - 1  # like a span of a haystack whose length isn't known
 UNSUPPORTED = "the search doesn't support this anchoring"
 
-# Patterns, haystacks, and what is found, as pattern and start; where not all is asked for, also the slice, the span and
-# where matches start, and whether an empty match inside a character is found.
+# Patterns, haystacks, and matches, as pattern and start; if not everything has its default, also the slice, the span
+# and where matches start, and whether an empty match inside a character is found.
 VECTORS = [
     (["b", "ab"], "ab", "1 0"),
     (["ab", "a"], "ab", "0 0"),
@@ -34,10 +34,10 @@ VECTORS = [
     (["b+?"], "abb", "0 1"),
     (["aa?", "a"], "aa", "0 0"),
     (["a", "a"], "a", "0 0"),
-    # The least start, and not the nearest one.
+    # The least start, not the nearest one.
     (["b|ab|b"], "ab", "0 0"),
     (["a.*c|c"], "abcac", "0 0"),
-    # No walk leaves the slice, or begins before the span; a slice's start is told as it is.
+    # No walk leaves the slice, or begins before the span; a match may begin at a slice's start.
     (["a*"], "aaaa", "0 2", ((2, 4), (0, 4), AT_START)),
     (["a*"], "aaaa", "0 2", ((0, 4), (2, 4), AT_START)),
     (["foo$"], "xfoox", "0 1", ((1, 4), (1, 4), AT_START)),
@@ -49,7 +49,7 @@ VECTORS = [
     (["o\\b"], "ox", "none", ((0, 2), (0, 1), AT_START)),
     (["o\\b"], "ox", "0 0", ((0, 1), (0, 1), AT_START)),
     (["o\\b"], "oé", "none", ((0, 3), (0, 1), AT_START)),
-    # An empty match only where it may stand.
+    # An empty match only if it may be there.
     (["x*"], "せ", "0 3"),
     (["x*"], "せ", "none", ((0, 3), (0, 2), AT_START)),
     (["x*"], "せ", "0 2", ((0, 3), (0, 2), AT_START), True),
@@ -59,7 +59,7 @@ VECTORS = [
     (["b", "ab"], "ab", "0 1", ((0, 2), (0, 2), FIRST)),
     (["b", "ab"], "ab", "1 0", ((0, 2), (0, 2), SECOND)),
     (["b", "ab"], "ab", "none", ((0, 2), (0, 2), SECOND + 1)),
-    # An end past the content is as its end, and a slice's too.
+    # An end past the haystack's means the haystack's end, also of a slice.
     (["a*"], "aa", "0 0", ((0, 9), (0, 9), AT_START)),
     (["a*"], "aa", "0 0", ((0, 2), (0, 3), AT_START)),
     (["a*"], "aa", "0 0", ((0, 3), (0, 2), AT_START)),
@@ -70,7 +70,7 @@ VECTORS = [
     (["b", "ab"], "ab", "1 0", ((0, 9), (0, 9), SECOND)),
     (["a"], "", "none", ((0, 9), (0, 9), AT_START)),
     ([""], "", "0 0", ((0, 9), (0, 9), AT_START)),
-    # Not where span or slice don't lie so, and not unless it is anchored.
+    # An error unless span and slice are in order, and unless it is anchored.
     (["a*"], "aa", "none", ((0, 1), (0, 9), AT_START)),
     (["a*"], "aa", "none", ((0, 1), (0, 2), AT_START)),
     (["a*"], "aa", "none", ((1, 2), (0, 0), AT_START)),
@@ -82,7 +82,7 @@ VECTORS = [
     (["a"], "a", UNSUPPORTED, ((0, 9), (0, 9), ANYWHERE)),
 ]
 
-# By an automaton that has looks of words: before which byte it quits, if one is met before the search is over.
+# By an automaton with word assertions: the byte before which it quits, if it meets one before the search is over.
 QUITS = [
     (["o\\b"], "oé", "the search met the byte 195 at 1, and can't go on", ((0, 3), (0, 1), AT_START)),
     (["o\\b"], "oé", "0 0", ((0, 1), (0, 1), AT_START)),
@@ -95,8 +95,8 @@ QUITS = [
     (["\\bo"], "éo", "the search met the byte 169 at 1, and can't go on", ((0, 9), (2, 9), AT_START)),
 ]
 
-# With a cache that has room for two states: each letter leads to another one, and so does the first place, and when
-# they would be taken out for the fourth time it gives up.
+# With a cache that has room for two states: each letter leads to another one, and so does the first offset, and when
+# they would be cleared for the fourth time it gives up.
 IN_TWO_STATES = [
     (["abcdef"], "abcdef", "0 0"),
     (["abcdefg"], "abcdefg", "the search gave up at 0"),
@@ -110,8 +110,8 @@ IN_ALL_ROOM = [(["abcdefgh"], "abcdefgh", "0 0"), (["[ab]{5}a[ab]*"], "b" * 99 +
 def about(
     patterns, haystack, answer, cut=0, asked=None, inside=False, settings=Settings(), times=1, room=None, by="backwards"
 ):
-    """A case of one search with a cache of this capacity that served so often before. It is asked for a slice, a span,
-    and where matches start."""
+    """A case of one search with a cache of this capacity that was used this often before, with a slice, a span, and
+    where matches start."""
     slice_, span, anchored = asked or ((0, len(haystack)), (0, len(haystack)), AT_START)
     texts = ".".join(map(written, patterns)) if patterns else "-"
     fields = [texts, *settings.fields(), cut, haystack.hex(), *slice_, *span, anchored, int(inside), times, room]
@@ -120,7 +120,7 @@ def about(
 
 
 class ByTable:
-    """Searches by the automaton of a program turned round, of which is known what is found."""
+    """Searches by the automaton of a reversed program, with a known result."""
 
     def __init__(self, patterns, haystack, answer, cut, asked, inside, settings, times):
         self.answer, self.haystack = answer, haystack
@@ -130,7 +130,7 @@ class ByTable:
         self.cases = [about(*how, room, "by_table") for room in CAPACITIES]
 
     def places(self):
-        """The places of the search, from the span's end back."""
+        """The offsets of the search, backward from the span's end."""
         slice_, span, _ = self.asked
         return range(min(span[1], len(self.haystack)), max(slice_[0], span[0]) - 1, -1)
 
@@ -144,7 +144,7 @@ class ByTable:
         return None
 
     def is_given_up(self, answer):
-        """Whether it is that a search gave up at a place inside."""
+        """Whether the answer is that a search gave up at an offset inside."""
         told = re.fullmatch(r"the search gave up at (\d+)", answer)
         return told is not None and int(told[1]) in self.places()
 
@@ -157,7 +157,7 @@ class ByTable:
 
 
 def by_tables(searches):
-    """What is wrong with the answers to such searches, and how they were answered, which has to be in each way."""
+    """What is wrong with the answers to such searches, and the kinds of answers, each of which must occur."""
     counts, wrong = {"with a match": 0, "that quit": 0, "that gave up": 0}, []
     searches = iter(searches)
     while batch := list(itertools.islice(searches, IN_ONE_RUN)):
@@ -174,27 +174,27 @@ def by_tables(searches):
 
 
 def found_by_model(trees, haystack, asked, inside, line_end):
-    """What the model finds."""
+    """The model's result."""
     model, pattern = model_of(trees, haystack, asked, inside, line_end)
     found = model.find_backwards(pattern)
     return UNSUPPORTED if asked[2] == ANYWHERE else "none" if found is None else " ".join(map(str, found))
 
 
 def told_of(trees, haystack, cut, asked, inside=False, line_end=b"\n"):
-    """A search of which the model tells what is found."""
+    """A search with the model's result."""
     answer = found_by_model(trees, haystack, asked, inside, line_end)
     settings = Settings() if line_end == b"\n" else Settings(line_end=line_end[0])
     return list(map(spelled, trees)), haystack, answer, cut, asked, inside, settings
 
 
 def cases_of(searches):
-    """Cases of such searches, with caches that served once, of each capacity in turn."""
+    """Cases of such searches, with caches that were used once, of each capacity in turn."""
     for told, room in zip(itertools.starmap(told_of, searches), itertools.cycle(CAPACITIES)):
         yield about(*told, room=room)
 
 
 def by_table_of(searches):
-    """Such searches by the automaton of the program turned round, with caches that served up to twice."""
+    """Such searches by the automaton of the reversed program, with caches that were used up to twice."""
     for told, times in zip(itertools.starmap(told_of, searches), itertools.cycle(range(3))):
         yield ByTable(*told, times)
 
@@ -206,13 +206,13 @@ def vectors():
 
 
 def told_by_tables(rows, times, room):
-    """Rows whose answer an automaton gives with a cache of this capacity that served so often."""
+    """Rows with the answer of an automaton with a cache of this capacity that was used this often."""
     for size, (patterns, haystack, answer, *asked) in itertools.product(SIZES, rows):
         yield about(patterns, haystack.encode(), answer, size, *asked, times=times, room=room, by="by_table")
 
 
 def drawn(count, seed):
-    """Patterns, haystacks, how these are cut, what is asked for, and settings."""
+    """Patterns, haystacks, their chunks, the search, and settings."""
     chance = random.Random(seed)
     maker = Maker(chance, most_nodes=30)
     for _ in range(count):
@@ -225,8 +225,8 @@ def drawn(count, seed):
 
 
 def tables():
-    """Searches at random, in short haystacks, in contents that are no UTF-8, and each that stands here, by the
-    automaton of the program turned round."""
+    """Random searches, in short haystacks, in haystacks that are no UTF-8, and each that is listed here, by the
+    automaton of the reversed program."""
     yield from by_table_of(itertools.chain(drawn(TABLE_CASES, 57), in_spans(), past_contents(), in_cut_characters()))
     for size, (patterns, haystack, answer, *told) in itertools.product(SIZES, VECTORS):
         asked, inside = (*told, None, False)[:2]
@@ -244,7 +244,7 @@ def in_spans():
 
 
 def past_contents():
-    """Spans and slices that end inside a content, at its end and past it."""
+    """Spans and slices that end inside a haystack, at its end and past it."""
     sizes = itertools.cycle(SIZES)
     for text, trees in itertools.product(SMALL_HAYSTACKS, SMALL_TREES):
         haystack = text.encode()
@@ -255,7 +255,7 @@ def past_contents():
 
 
 def in_cut_characters():
-    """Contents that are no UTF-8."""
+    """Haystacks that are no UTF-8."""
     sizes = itertools.cycle(SIZES)
     for haystack, trees in itertools.product((b"\xe3\x81a\x80", b"a\xc3", b"\x80\x80b", b"\xc3\xa9\xa9"), SMALL_TREES):
         for span, inside in itertools.product(pairs(0, len(haystack)), (False, True)):
@@ -265,7 +265,7 @@ def in_cut_characters():
 def test_all():
     check_memory(about(["a|ab", "(b)+"], b"abb", "1 1", 1), [WANT])
     check_memory(about(["\\b(a|é)+b"], "aéb".encode(), "0 0", 1), [WANT])
-    # With no room at all a search after a refused one may give up: so in all the room that it likes.
+    # Without any room a search after a refused one may give up: so these have as much room as they need.
     case = about(["(a)|b", "[a-é]+b"], "xéab".encode(), "1 0", 2, times=0, room=None, by="by_table")
     check_memory(case, [WANT, b"again"], f"{case.answer}\n".encode())
     test("searches backwards answer as they should", problems(vectors()))

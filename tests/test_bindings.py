@@ -1,7 +1,7 @@
-"""The bindings for Rust and for Node, by their own tests, in a copy. Each is left out, by name, where its tool is missing.
+"""The bindings for Rust and for Node, by their own tests, in a copy. Each is left out, by name, if its tool is missing.
 
-The package for Rust links the library; it is found by ROPE_SEARCH_LIB_DIR, by pkg-config, and beside the package. The
-module for Node runs the program.
+The package for Rust links the library, which is found by ROPE_SEARCH_LIB_DIR, by pkg-config, and next to the package.
+The module for Node runs the program.
 """
 import glob
 import os
@@ -36,7 +36,7 @@ def read(*names):
 
 
 def copied(name):
-    """A copy of a binding, with the pages that its tests read beside it, as in this repository; its folder."""
+    """A copy of a binding, with the pages that its tests read next to it, as in this repository; its folder."""
     top = os.path.join(ROOM, f"bindings-{name}")
     built = shutil.ignore_patterns("target", "node_modules", "Cargo.lock")
     shutil.copytree(os.path.join(TOP, "bindings", name), os.path.join(top, "bindings", name), ignore=built)
@@ -45,7 +45,7 @@ def copied(name):
 
 
 def ran(words, folder, **environment):
-    """Runs a program in a folder, and gives its status and all that it wrote."""
+    """Runs a program in a folder, and returns its status and all its output."""
     settings = {"stdin": subprocess.DEVNULL, "stdout": subprocess.PIPE, "stderr": subprocess.STDOUT, "text": True}
     unset = ("ROPE_SEARCH_LIB_DIR", "ROPE_SEARCH_DYNAMIC", "PKG_CONFIG_PATH", "RUSTFLAGS", "CARGO_TARGET_DIR")
     kept = {name: value for name, value in os.environ.items() if name not in unset}
@@ -57,7 +57,7 @@ def ran(words, folder, **environment):
 
 
 def wrong_end(words, folder, due=(), **environment):
-    """What is wrong with a run that must end well and tell lines of these forms."""
+    """What is wrong with a run that must succeed and print lines of these forms."""
     status, said = ran(words, folder, **environment)
     if status != 0:
         return [f"ended with {status}", *said.splitlines()[-40:]]
@@ -65,7 +65,7 @@ def wrong_end(words, folder, due=(), **environment):
 
 
 def shown(name, language):
-    """The code that a page shows first, and what it says that this prints."""
+    """The code that a page shows first, and its output according to the page."""
     found = re.search(rf"(?s)```{language}\n(.*?)```.*?It prints\n\n```text\n(.*?)```", read("bindings", name, "README.md"))
     return found.groups() if found else ("", None)
 
@@ -81,7 +81,7 @@ def wrong_prints(words, folder, due, **environment):
 
 
 def wrong_in_rust(package, target, **environment):
-    """The code of the page must print what it says, as a program of its own that takes the package along."""
+    """The code of the page must print what the page says, in a program of its own that depends on the package."""
     code, due = shown("rust", "rust")
     folder = tempfile.mkdtemp(dir=ROOM)
     os.mkdir(os.path.join(folder, "src"))
@@ -93,7 +93,7 @@ def wrong_in_rust(package, target, **environment):
 
 
 def wrong_in_node(node, package, **environment):
-    """The same of the page for Node, in a folder where the package is installed."""
+    """The same for Node's page, in a folder where the package is installed."""
     code, due = shown("node", "js")
     folder = tempfile.mkdtemp(dir=ROOM)
     os.mkdir(os.path.join(folder, "node_modules"))
@@ -104,8 +104,9 @@ def wrong_in_node(node, package, **environment):
 
 
 def inputs_of_commands():
-    """Inputs for a program that carries out commands by calls of a binding, each with what is due: the worked inputs, more,
-    and sessions at random, as the model replies them. Where an input ends early the program's last line is left out."""
+    """Inputs for a program that executes commands by calls of a binding, each with the expected output: the worked
+    inputs, more, and random sessions, with the model's replies. If an input ends early the program's last line is left
+    out."""
     inputs = [(data, re.sub(rb"error (command|end)\n$", b"", out) if status else out)
               for data, out, status in [*examples_of_page(), *MORE_EXAMPLES]]
     for kind, weights in (("of all kinds", OF_ALL_KINDS), ("back and forward", BACK_AND_FORWARD)):
@@ -126,7 +127,7 @@ def wrong_commands(words, **environment):
 # ---- Rust
 
 
-# Types of the header as Rust names them.
+# The types of the header in Rust.
 IN_RUST = {
     "uint32_t": "u32", "uint64_t": "u64", "size_t": "usize", "bool": "bool", "const uint8_t*": "*const u8",
     "uint8_t*": "*mut u8", "rope_search*": "*mut RawSession", "size_t*": "*mut usize",
@@ -166,7 +167,7 @@ def wrong_declarations():
 
 
 def wrong_words():
-    """The reasons and refusals that Rust and Node name must be those of the header."""
+    """The reasons and refusals in Rust and Node must be those of the header."""
     header, rust = read("include", "rope_search.h"), read("bindings", "rust", "src", "error.rs")
     numbers, reasons, _ = reasons_declared(header, read("bindings", "lua", "rope_search.lua"))
     due = dict(zip(map(str, numbers[1:]), reasons))
@@ -181,7 +182,7 @@ def wrong_words():
 
 
 def wrong_ways(folder, target):
-    """The library must be found by pkg-config and beside the package, as a shared one where that is asked for; and where
+    """The library must be found by pkg-config and next to the package, as a shared one if that is requested; and if
     there is none, the build must say what to do."""
     check = ["cargo", "test", "--offline", "--quiet", "--target-dir", target, "--test", "session", "texts"]
     passed = [r"^test result: ok\. [1-9]"]
@@ -249,7 +250,7 @@ def wrong_version():
 
 
 def newest_enough():
-    """Node, if it is of version 18 or later; else None."""
+    """Node, if its version is at least 18, otherwise None."""
     node = shutil.which("node")
     if node:
         said = subprocess.run([node, "--version"], stdout=subprocess.PIPE, text=True).stdout

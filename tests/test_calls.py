@@ -1,6 +1,5 @@
-"""What the calls of ropes do where memory is refused, on bin/rope-driver: ropes that are made, edited, copied and
-shrunk, with each request refused in turn, alone and with all that follow it; and that a rope is parted at its ends
-without any."""
+"""Calls of ropes with memory refused, on bin/rope-driver: ropes that are built, edited, copied and shrunk, with each
+request refused in turn, alone and with all later ones; and that a rope is split at its ends without any request."""
 from harness import differences, test
 from memory import counted, library
 from rope_model import hexed
@@ -16,7 +15,7 @@ PARTS = [
 NO_MEMORY = b"no memory\n"
 ASKED = ["cut", "text"]
 EDITS = {"try_byte_replace", "try_insert", "try_remove", "try_split_off", "try_replace", "build"}
-KEPT = ["swap", *ASKED, "swap"]  # looks at the clone that is kept, which no edit changes
+KEPT = ["swap", *ASKED, "swap"]  # reads the clone that is kept, which no edit changes
 
 
 def runs_of(line):
@@ -28,15 +27,15 @@ def refusals(runs, count):
     for number in range(1, count + 1):
         for name in ("at", "from"):
             ended = counted(runs, **{name: number})[0]
-            # Where the program lacks memory for its input, it says nothing.
+            # If the program lacks memory for its input, it writes nothing.
             if ended.status != 1 or ended.out:
                 yield f"{name} request {number}", name, ended
 
 
 def wrong_refusals(row, count, needed, free):
-    """What is wrong with a rope where memory is refused: each call that answers so leaves what it was called on as it
-    was, some request is refused in each of the calls that are needed, and none in those that take no memory, once the
-    program has room for what it keeps."""
+    """What is wrong with a rope with memory refused: a call that reports it leaves its rope unchanged, some request is
+    refused in each of the calls that need memory, and none in those that don't, once the program has room for what it
+    keeps."""
     seen = set()
     for place, name, ended in refusals(runs_of(row.line()), count):
         row.refusals = set()
@@ -62,7 +61,7 @@ def check_row(name, row, needed, free=frozenset()):
 
 
 def check_copy(pieces):
-    """A slice behind the first character, whose text is copied."""
+    """A slice after the first character, whose text is copied."""
     rest = "".join(pieces)[1:]
     line, due = leaves_row(pieces, ["to_text", "display"], [hexed(rest)] * 2, [f"slice,1,{len(rest) + 1}"])
     whole = due.encode() + b"\n"
@@ -93,12 +92,12 @@ def edits_of(text):
 
 
 def parted_at_ends(text):
-    """A rope is parted at its start, and what comes off, which is all of it, at its end."""
+    """A rope is split at its start, which splits off all of it, and at its end."""
     return ["clone", "try_split_off,0", *KEPT, "swap", *ASKED, f"try_split_off,{len(text)}", *KEPT, *ASKED]
 
 
 def joined(text):
-    """A clone of a rope is parted and joined again, more of it each time, until joining takes memory."""
+    """A clone of a rope is split and joined again, more of it each time, until joining requests memory."""
     asks = ["clone"]
     for part in (2, 3, 5, 7):
         asks += [f"try_split_off,{len(text) // part}", "append", *ASKED]

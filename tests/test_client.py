@@ -1,5 +1,5 @@
-"""The client of examples/client.py: whole replies, in time in proportion to their length, and what it tells of a child
-that ends, doesn't answer, or would wait for more."""
+"""The client of examples/client.py: whole replies, in time linear in their length, and its errors if a child ends,
+doesn't answer, or would wait for more."""
 import io
 import os
 import random
@@ -26,7 +26,7 @@ class TooMany(Exception):
 
 
 class Counted(bytes):
-    """Bytes that count how often they are added to others, which isn't done for ever."""
+    """Bytes that count how often they are added to others, up to a limit."""
 
     additions = 0
 
@@ -52,7 +52,7 @@ def listed(count):
 
 
 def program(name, lines):
-    """A program that is a shell's script."""
+    """A program that is a shell script."""
     path = os.path.join(ROOM, name)
     with open(path, "w", encoding="utf-8") as file:
         file.write(f"#!/bin/sh\n{lines}\n")
@@ -70,7 +70,7 @@ def ended_of(do):
 
 
 def wrong_ending(do, status, words, reply=b""):
-    """What is wrong with how `do` ends, which must be told with a status and in such words."""
+    """What is wrong with how `do` fails, which must include a status and these words."""
     ended = ended_of(do)
     if ended is None:
         return ["it isn't told that the program ended"]
@@ -122,7 +122,7 @@ def test_commands():
 
 
 class Killing:
-    """Replies, of which the child is killed in the middle."""
+    """Replies, in the middle of which the child is killed."""
 
     def __init__(self, search):
         self.search, self.replies = search, search.replies
@@ -169,7 +169,7 @@ def test_endings():
 
 
 def wrong_sessions(seed):
-    """What is answered otherwise by the client than by a run over all commands."""
+    """Answers by the client that differ from a run over all commands."""
     chance, search, sent, told = random.Random(seed), Client(PROGRAM), [], []
     for _ in range(300):
         position = b"%d %d" % (chance.randint(0, 3), chance.randint(0, 3))

@@ -1,5 +1,5 @@
-"""What bin/rope-search does where a read or a write fails: its message, its exit status, and what it had
-written by then; and as a child of a program that does without waiting, without a reader, or without any stream."""
+"""bin/rope-search with a failing read or write: its message, its exit status, and its output until then; and as a child
+of a program with non-blocking streams, without a reader, or without any stream."""
 import fcntl
 import os
 import pty
@@ -24,8 +24,8 @@ def test_failing_reads():
     test("standard input is closed", differences(ended, b"", 1, told(b"read failed")))
 
     def hung_up(data):
-        """A terminal's controlling side as input: after the bytes written there, and once its other
-        side is closed, a read from it fails."""
+        """A terminal's controlling side as input: after the bytes written there, and once its other side is closed, a
+        read from it fails."""
         control, terminal = pty.openpty()
         tty.setraw(terminal)
         os.write(terminal, data)
@@ -35,7 +35,7 @@ def test_failing_reads():
         return end_of(process)
 
     for length in range(len(FIRST) + 1):
-        # The replies to the commands that were read whole, without a line for the ending.
+        # The replies to the commands that were read completely, without a line for the ending.
         out = b"".join(replies(read_commands(FIRST[:length])[0]))
         wrong = differences(hung_up(FIRST[:length]), out, 1, told(b"read failed"))
         if wrong:
@@ -58,7 +58,7 @@ def test_failing_writes():
     test("nobody reads standard output", differences(end_of(process), b"", 1, told(b"write failed")))
 
     def rooms(data):
-        """Standard output is a file that can't grow past so many bytes."""
+        """Standard output is a file that can't grow past this number of bytes."""
         out, status = answer(data)
         for room in range(len(out) + 1):
 
@@ -86,7 +86,7 @@ def test_failing_writes():
 
 
 def in_pieces(data, **settings):
-    """A run with the library that cuts reads and writes and can fail one of them."""
+    """A run with the library that splits reads and writes and can make one of them fail."""
     environment = {f"FAIL_IO_{name.upper()}": str(value) for name, value in settings.items()}
     return run(data, environment=dict(environment, LD_PRELOAD=library("fail_io", "fails reads and writes")))
 
@@ -99,8 +99,8 @@ def short_writes(data):
 
 
 def each_read(data):
-    """Each read of a byte, or of the end, fails, and the next one would go on. Where the bytes before it
-    end the run, it isn't made."""
+    """Each read of a byte, or of the end, fails, and the next one would succeed. It isn't tried if the bytes before end
+    the run."""
     for at in range(1, len(data) + 2):
         commands, ending = read_commands(data[: at - 1])
         is_over = ending == "command"
@@ -110,7 +110,7 @@ def each_read(data):
 
 
 def each_write(data):
-    """Each write of a byte fails, and the next one would go on."""
+    """Each write of a byte fails, and the next one would succeed."""
     out, _ = answer(data)
     for at in range(1, len(out) + 1):
         ended = in_pieces(data, write_most=1, write_at=at)
@@ -129,12 +129,12 @@ def test_each_call():
 
 
 def without_waiting(end):
-    """Makes an end of a pipe one at which no read and no write waits."""
+    """Makes an end of a pipe non-blocking."""
     fcntl.fcntl(end, fcntl.F_SETFL, fcntl.fcntl(end, fcntl.F_GETFL) | os.O_NONBLOCK)
 
 
 def input_without_waiting(data):
-    """The input is a pipe at which no read waits, with these bytes and then nothing more, while it stays open."""
+    """The input is a non-blocking pipe with these bytes and then nothing more, which stays open."""
     read_end, write_end = os.pipe()
     without_waiting(read_end)
     os.write(write_end, data)
@@ -152,13 +152,13 @@ def wrong_inputs_without_waiting():
             yield f"after {length} bytes: {wrong}"
 
 
-# A reply that is longer than a pipe holds.
+# A reply longer than the capacity of a pipe.
 LONG_REPLY = spelled("text", (200_000,), b"a" * 200_000) + b"print\n"
 
 
 def wrong_output_without_waiting():
-    """The output is a pipe at which no write waits, of which nobody reads until the program has ended: it takes a front
-    of what is written, which then ends."""
+    """The output is a non-blocking pipe that nobody reads until the program has ended: it gets a prefix of the
+    output."""
     read_end, write_end = os.pipe()
     without_waiting(write_end)
     process = start(stdin=open_input(LONG_REPLY), stdout=write_end)
@@ -173,7 +173,7 @@ def wrong_output_without_waiting():
 
 
 def wrong_pipes_without_waiting():
-    """Where there is always a byte to read and room to write, such pipes are like others."""
+    """If there is always a byte to read and room to write, such pipes are like others."""
     read_end, write_end = os.pipe()
     without_waiting(read_end)
     os.write(write_end, FIRST)
@@ -184,7 +184,8 @@ def wrong_pipes_without_waiting():
 
 
 def reader_that_leaves(action):
-    """The program is given commands one by one by who reads a reply and then leaves, with SIGPIPE treated so."""
+    """The program gets commands one by one from a client that reads a reply and then exits, with SIGPIPE handled like
+    this."""
     process = start(stdin=subprocess.PIPE, bufsize=0, preexec_fn=lambda: signal.signal(signal.SIGPIPE, action))
     process.stdin.write(b"print\n")
     heard = process.stdout.read(len(b"text 0\n\n"))
@@ -197,7 +198,7 @@ def reader_that_leaves(action):
 
 
 def closed_before(*ends):
-    """Closes standard streams of the program before it begins."""
+    """Closes standard streams of the program before it starts."""
     def close():
         for end in ends:
             os.close(end)
@@ -205,8 +206,8 @@ def closed_before(*ends):
 
 
 def wrong_without_streams():
-    """With standard error closed, or full, the status alone tells; with the input closed too nothing is read, with the
-    output nothing heard."""
+    """With standard error closed, or full, only the status reports the error; with the input closed too nothing is
+    read, and with the output nothing is written."""
     for ends, given, status in (
         ((2,), FIRST, 0), ((0, 2), b"", 1), ((1, 2), FIRST, 1), ((0, 1), FIRST, 1), ((0, 1, 2), FIRST, 1),
     ):
@@ -217,7 +218,7 @@ def wrong_without_streams():
     with open("/dev/full", "wb") as full:
         ended = end_of(start(stdin=open_input(FIRST), stdout=full, stderr=full))
     yield from (f"with a full standard error: {line}" for line in differences(ended, b"", 1))
-    # Streams that are open the wrong way round.
+    # Streams that are open for the wrong direction.
     with open(os.path.join(ROOM, "written"), "wb") as written:
         ended = end_of(start(stdin=written))
     yield from (f"with an input for writing alone: {line}" for line in differences(ended, b"", 1, told(b"read failed")))
@@ -227,8 +228,8 @@ def wrong_without_streams():
 
 
 def wrong_past_file_limit():
-    """Where a file may not grow further, the signal that tells so ends the program, if nobody has it ignored: what
-    found room is written, and nothing is told."""
+    """If a file must not grow further, the signal for that ends the program, unless it is ignored: what found room is
+    written, and there is no message."""
     out = answer(FIRST)[0]
     for room in (0, 1, len(out) - 1, len(out)):
         def limit():
@@ -245,7 +246,7 @@ def wrong_past_file_limit():
 
 
 def wrong_stopped():
-    """A program that is stopped and goes on loses nothing."""
+    """A program that is stopped and continued loses nothing."""
     process = start(stdin=subprocess.PIPE, bufsize=0)
     process.stdin.write(FIRST[:30])
     os.kill(process.pid, signal.SIGSTOP)
@@ -255,7 +256,7 @@ def wrong_stopped():
 
 
 def wrong_at_terminal():
-    """A terminal's end of input ends the run, though more could be read behind it."""
+    """A terminal's end of input ends the run, though more could be read after it."""
     control, terminal = pty.openpty()
     process = start(stdin=terminal)
     os.write(control, b"print\n\x04text 1\n")
@@ -269,8 +270,8 @@ def given(word, payload):
     return b"%s %d\n" % (word, len(payload)) + payload
 
 
-# Patterns that stand deep in one another, as deep as they may and deeper, others that are large, texts whose ropes are
-# high, and replies of many parts.
+# Patterns that are nested as deeply as allowed and deeper, others that are large, texts with high ropes, and replies of
+# many parts.
 DEEP = [
     *(b"text 3\naxb" + given(b"pattern", pattern.encode()) + b"list\nnext 0 1\n" for pattern, _ in LARGE),
     b"text 9\naaabbbccc" + given(b"pattern", b"(" * 250 + b"a" + b")" * 250) + b"list\n" + given(b"replace", b"$9$0"),
@@ -287,7 +288,7 @@ DEEP = [
 
 
 def wrong_with_small_stack():
-    """No command's depth in calls grows with what it is given, so 128 kB of stack are enough for all."""
+    """No command's call depth grows with its input, so 128 kB of stack suffice for all."""
     def limit():
         resource.setrlimit(resource.RLIMIT_STACK, (131_072, 131_072))
         resource.setrlimit(resource.RLIMIT_CORE, (0, 0))
@@ -299,8 +300,8 @@ def wrong_with_small_stack():
 
 
 def wrong_in_small_space():
-    """Where the address space ends, a text of 20 MB is refused and what follows is answered by the text before; or it
-    is taken whole."""
+    """If the address space is limited, a text of 20 MB is refused and the following answers are for the text before; or
+    it is accepted."""
     text = b"0123456789abcde\n" * 1_250_000
     data = given(b"text", b"abc") + given(b"text", text) + b"edit 0 0 0 1 1\nxprint\n"
     answers = {b"ok\nerror memory\nok\ntext 3\nxbc\n": "refused", b"ok\nok\nok\n" + given(b"text", b"x" + text[1:]) + b"\n": "taken"}

@@ -1,5 +1,5 @@
-"""Edits, replacements and their history: what bin/rope-search answers to sessions at random, to every edit of every
-small text, and to every replacement in it, beside the model."""
+"""Edits, replacements and their history: the answers of bin/rope-search to random sessions, to every edit of every
+small text, and to every replacement in it, compared with the model."""
 import itertools
 import random
 
@@ -11,7 +11,7 @@ from walks import spelled as spelled_tree
 
 CHARACTERS = "aab\r\r\n\n\u2028🐸éA "
 SESSIONS, SESSIONS_IN_RUN = max(500, share_of(20_000)), 500
-# How often a session at random has each command: one of all kinds, and one that goes back and forward.
+# The frequency of each command in a random session: one with all kinds, and one with many undos and redos.
 WORDS = ("edit", "undo", "redo", "list", "print", "pattern", "text", "fork", "use", "off", "next", "replace")
 OF_ALL_KINDS = (34, 14, 5, 20, 4, 7, 2, 3, 4, 1, 8, 8)
 BACK_AND_FORWARD = (14, 28, 16, 24, 2, 5, 1, 1, 1, 2, 0, 16)
@@ -22,26 +22,26 @@ PATTERNS = r"""
     a$ ^ $ ^$ \b \B \ba a\b. (?m)^a (?m)a$ (?m)^$ \Aa|\z
 """.split() + ["", "|b", "a\n", "a\r\n?"]
 REFUSED_PATTERNS = r"a( * a|* (?x)a [b-a] a{2,1} \q [[a] (?<n>a)(?<n>b) (?=a) \w{1000}{1000} a{65535}{65535}".split()
-# Of these templates at random are made.
+# Random templates consist of these.
 PIECES = ("$0", "$0", "$1", "$2", "$9", "$$", "$", "$a", "\r", "\n", "\n\r", "a", "b", "é🐸", "")
-# Under these all small texts are edited, their matches are replaced, and in them what is next is found from each
-# position by some more.
+# With these all small texts are edited, their matches are replaced, and the next match is searched for from each
+# position, with some more of them.
 SMALL_PATTERNS = ("a", "x*", "a$", "^", r"\b", "(a|b)+")
 REPLACED_PATTERNS = ("\r", "\n", "\r\n", "a", "x*")
 TURNED_PATTERNS = ("a", "x*", "(?m)a$")
 NEXT_PATTERNS = (*SMALL_PATTERNS, r"\r", r"\n", r"\r\n", "(?m)^a", "(?m)a$", "[^a]", r"\B", "(?s)a.*?$")
 
-# The heaviest that a pattern may be; and the lines of a text, and the edits of it, under that.
+# The heaviest possible pattern; and the lines of a text, and the number of edits of it, with that pattern.
 HEAVIEST, LINES, EDITS = "mark|^x{0,65535}y{32763}", 10_000, 1_000
 
 class Writer:
-    """Commands, and what the model replies to them."""
+    """Commands with the model's replies."""
 
     def __init__(self, session=None):
         self.session, self.commands, self.replies = session or Session(), [], []
 
     def write(self, word, *numbers, text=None):
-        """A command, with the payload that its text spells."""
+        """Writes a command, with the payload that its text spells."""
         payload = b"" if text is None else text.encode("utf-8", "surrogatepass")
         command = (word, numbers if text is None else (*numbers, len(payload)), payload)
         self.commands.append(command)
@@ -49,7 +49,7 @@ class Writer:
         return self.replies[-1]
 
     def problems(self):
-        """What is wrong with the program's replies: the first command that is answered otherwise."""
+        """What is wrong with the program's replies: the first command with a different answer."""
         ended = run(b"".join(spelled(*command) for command in self.commands))
         wrong = differences(ended, b"".join(self.replies), 0)
         if not wrong:
@@ -75,8 +75,8 @@ def ends_of_lines(text):
 
 
 def some_edit(chosen, writer):
-    """An edit between two positions of the current text: of any text, or between ends of lines of one by
-    which a CR and an LF may meet. Now and then its positions are anywhere."""
+    """An edit between two positions of the current text: of any text, or between ends of lines of one at which a CR and
+    an LF may meet. Sometimes its positions are anywhere."""
     text = writer.session.buffer.text
     positions = positions_of(text)
     payload = "\ud800" if chosen.random() < 0.02 else some_text(chosen, chosen.choice((0, 1, 2, 2, 6)))
@@ -91,7 +91,7 @@ def some_edit(chosen, writer):
 
 
 def some_template(chosen, text):
-    """A template, which in a long text stands for little more than it takes away."""
+    """A template, which in a long text expands to little more than it replaces."""
     if chosen.random() < 0.02:
         return "\ud800"
     most = 1 if len(text) > 30 else chosen.choice((0, 1, 1, 2, 2, 4))
@@ -99,7 +99,7 @@ def some_template(chosen, text):
 
 
 def some_pattern(chosen):
-    """A pattern of those above, one at random, or one that is refused."""
+    """A pattern of those above, a random one, or one that is refused."""
     roll = chosen.random()
     if roll < 0.15:
         return spelled_tree(Maker(chosen, most_nodes=30).tree())
@@ -129,7 +129,7 @@ def some_command(chosen, writer, weights):
 
 
 def some_sessions(seed, count, weights):
-    """Sessions one after the other. Each begins in a buffer without a pattern and with a new text."""
+    """Sessions in order. Each begins in a buffer without a pattern and with a new text."""
     chosen, writer = random.Random(seed), Writer()
     for _ in range(count):
         writer.write("use", chosen.randrange(len(writer.session.buffers)))
@@ -151,15 +151,15 @@ def texts_of(most, characters=SMALL):
 
 
 def small_texts():
-    """All texts of at most 4 characters, by their length, and what they are called."""
+    """All texts of at most 4 characters, by their length, and their names."""
     for length in range(5):
         texts = [text for text in texts_of(length) if len(text) == length]
         yield f"the {len(texts)} texts of {length} characters over CR, LF, VT and a", texts
 
 
 def edits_of(text, pattern):
-    """The text under a pattern with each edit of it: what is listed is what the pattern, set anew, lists, also after
-    `undo` and `redo`, and what was listed before is listed after `undo`."""
+    """The text with a pattern and with each edit of it: the list is that of the pattern set again, also after `undo`
+    and `redo`, and the list from before is listed after `undo`."""
     writer = Writer()
     writer.write("text", text=text)
     writer.write("pattern", text=pattern)
@@ -176,8 +176,8 @@ def edits_of(text, pattern):
 
 
 def turned_under(text, patterns):
-    """The text with each edit of it, undone and done again under one pattern after the other, each set while another
-    text was current, and under none."""
+    """The text with each edit of it, undone and redone with one pattern after the other, each set while another text
+    was current, and without one."""
     writer = Writer()
     writer.write("text", text=text)
     for first, last in itertools.combinations_with_replacement(positions_of(text), 2):
@@ -196,8 +196,8 @@ def turned_under(text, patterns):
 
 
 def replacements_in(text, pattern):
-    """The text with all matches of a pattern replaced, by each of some templates: what is listed is what the pattern,
-    set anew, lists, also after `undo` and `redo`, and what was listed before is listed after `undo`."""
+    """The text with all matches of a pattern replaced, by each of some templates: the list is that of the pattern set
+    again, also after `undo` and `redo`, and the list from before is listed after `undo`."""
     writer = Writer()
     writer.write("text", text=text)
     writer.write("pattern", text=pattern)
@@ -213,7 +213,7 @@ def replacements_in(text, pattern):
 
 
 def nexts_of(text):
-    """What is found from each position of a text, by each of some patterns."""
+    """The next matches from each position of a text, for each of some patterns."""
     writer = Writer()
     writer.write("text", text=text)
     for pattern in NEXT_PATTERNS:
@@ -237,7 +237,7 @@ def positions_around(text):
 
 
 def edited_under_heaviest():
-    """Edits all over a text of many lines, which add marks and take them away, with undos and redos between them."""
+    """Edits all over a text with many lines, which add matches and remove them, with undos and redos between them."""
     chosen, writer = random.Random(4), Writer()
     writer.write("text", text="".join(f"line {number} marks\n" for number in range(LINES)))
     assert writer.write("pattern", text=HEAVIEST) == b"ok\n"
@@ -255,8 +255,8 @@ def edited_under_heaviest():
 
 
 def replaced_in_lines(count, *patterns):
-    """Matches among so many lines, replaced by more lines, by fewer and by as many; each replacement is undone and done
-    again."""
+    """Matches in this number of lines, replaced by more lines, by fewer and by equally many; each replacement is undone
+    and redone."""
     writer = Writer()
     writer.write("text", text="".join(f"line {number}\n" for number in range(count)))
     for pattern in patterns:

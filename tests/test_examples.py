@@ -1,4 +1,4 @@
-"""What the pages show: the session of `make demo`, by hand too, and code."""
+"""The examples of the pages: the session of `make demo`, by hand too, and code."""
 import glob
 import os
 import re
@@ -42,7 +42,7 @@ def test_by_hand():
 
 
 def names_of(tree, front=""):
-    """The paths that a tree of `use` names."""
+    """The paths in a tree of `use`."""
     first, brace, inside = re.sub(r"\s", "", tree).partition("{")
     if not brace:
         return {front + first.replace("::self", "")} - {front}
@@ -54,12 +54,12 @@ def names_of(tree, front=""):
 
 
 def used_in(code):
-    """The paths that the lines `use` of code name."""
+    """The paths in the `use` lines of code."""
     return {name for tree in re.findall(r"^use ([^;]*);", code, re.MULTILINE) for name in names_of(tree)}
 
 
 def test_code():
-    """Each block of code of a page stands in a test that the gate runs, which takes the same names into use."""
+    """Each code block of a page is in a test that the gate runs, which uses the same paths."""
 
     def bare(text):
         return "\n".join(line.strip() for line in text.splitlines())
@@ -86,7 +86,7 @@ def test_code():
 
 
 def naming(pattern):
-    """The files of the crates from reports up that name something of regexes, not in ghost imports."""
+    """The files of the crates from reports up that name something of regexes, except in ghost imports."""
     named, found = re.compile(rf"^(?!ghost use ).*\b{pattern}\b", re.MULTILINE), set()
     for path in glob.glob(os.path.join(TOP, "crates", "rope_search*", "src", "**", "*.rt"), recursive=True):
         with open(path, encoding="utf-8") as file:
@@ -96,12 +96,12 @@ def naming(pattern):
 
 
 def test_one_regex():
-    """What reports are made of builds and searches its regex in one file, where each search is counted."""
+    """The crate of reports builds its regex and searches with it in only one file, which counts each search."""
     home = os.path.join("rows", "counted.rt")
     found = naming("regex_cursor::engines")
     test("one file has the regex of a report", [] if found == {home} else [f"it is in {sorted(found)}"])
     found = naming("regex_cursor")
-    due = {home, "explaining.rt"}  # the other one hands on why a text is no pattern
+    due = {home, "explaining.rt"}  # the other one reexports why a text is no pattern
     test("and names what it is made of", [] if found == due else [f"others name it: {sorted(found ^ due)}"])
 
 

@@ -1,6 +1,6 @@
-"""Where and why patterns are refused, on bin/search-driver: the rows of docs/patterns.md and more of them, and the places
-that the model of tests/pattern_model.py gives, of all short texts over some alphabets and of texts at random: reading
-stops at the first character with which no ending that is tried completes the text to a pattern.
+"""Where and why patterns are refused, on bin/search-driver: the rows of docs/patterns.md and more of them, and the
+offsets given by the model of tests/pattern_model.py, for all short texts over some alphabets and for random texts:
+parsing stops at the first character with which none of the endings that are tried completes the text to a pattern.
 """
 import random
 import re
@@ -22,7 +22,7 @@ ESCAPE_ENDS += [digit * count + "}" for digit in "0F" for count in range(6)]
 CLASS_ENDS = ["]", "a]"]
 HEAD_ENDS = [":)", "<other>)", "other>)", ">)", ")"] + [flag + ")" for flag in "imsU"]
 
-# Fronts, and the characters of which so many are put behind them in each way.
+# Prefixes, and the characters of which all sequences of this length are appended to them.
 ALPHABETS = [
     ("", "a()[]{}|*+?\\-^,1:<P>i.", 3),
     ("", "a()[]{*?\\-1<P", 4),
@@ -40,10 +40,10 @@ ALPHABETS = [
     ("\\u{11", "0F}8", 7),
     ("[\\u{D7FF}-\\u", "{}D8F", 5),
 ]
-NESTED = "a(*?:<b>i)"  # what texts are made of that are nested too deeply
+NESTED = "a(*?:<b>i)"  # the parts of texts that are nested too deeply
 NEST_LIMITS = (0, 1, 2)
 
-# Settings, the place and the reason of texts that are long, deep, or read under settings.
+# Settings, the offset and the reason for texts that are long, deep, or parsed with settings.
 EXPLAINED = [
     ("a" * 65_537, Settings(), "65536 TooLong"),
     ("é" * 32_769, Settings(), "65536 TooLong"),
@@ -65,7 +65,7 @@ EXPLAINED = [
     ("é*" * 21_000 + "\\q", Settings(), "63001 Escape"),
 ]
 
-# More rows as the page has them: patterns with their places, by their reasons.
+# More rows like those of the page: patterns with their offsets, by their reasons.
 MORE_EXPLAINED = {
     "a group isn't closed": [("(a|(b)", 6), ("é(", 3)],
     "a parenthesis closes no group": [("(a))+", 3)],
@@ -99,7 +99,8 @@ def is_pattern(text):
 
 
 def count_ends(front):
-    """What completes a count in braces, where the text ends in one: each greatest number that begins so is tried."""
+    """The completions of a count in braces, if the text ends in one: each greatest number that begins like this is
+    tried."""
     begun = re.search(r"\{([0-9]+),([0-9]+)$", front)
     if begun is None:
         return ["}", "0}"]
@@ -110,7 +111,7 @@ def count_ends(front):
 
 
 def endings(front):
-    """Texts of which one completes a front of a pattern."""
+    """Texts one of which completes a prefix of a pattern."""
     ends = [""]
     if "\\" in front:
         ends += ESCAPE_ENDS
@@ -130,8 +131,8 @@ def is_front(text):
 
 
 def texts_over(front, alphabet, length):
-    """All texts of at most so many characters behind a front, but for those of which less than all but the last character
-    is the front of no pattern: each with the answer that is due, but for the reason."""
+    """All texts of at most this number of characters after a prefix, except extensions of those that, without their
+    last character, are the prefix of no pattern: each with the expected answer, without the reason."""
     fronts = [front]
     for _ in range(length):
         texts = [begun + character for begun in fronts for character in alphabet]
@@ -145,7 +146,7 @@ def texts_over(front, alphabet, length):
 
 
 def wrong_places(rows, settings=Settings()):
-    """What is wrong with the places of texts."""
+    """What is wrong with the offsets of texts."""
     told, wrong = answers([about("explain", text, settings=settings) for text, _ in rows])
     for (text, due), answer in zip(rows, told):
         if answer != due and answer.split(" ")[0] != str(due):
@@ -154,8 +155,8 @@ def wrong_places(rows, settings=Settings()):
 
 
 def wrong_at_random(texts):
-    """What is wrong with the places of these texts: the text before is the front of a pattern, and with one character
-    more it is none."""
+    """What is wrong with the offsets of these texts: the text before is the prefix of a pattern, and with one more
+    character it isn't."""
     told, wrong = answers([about("explain", text) for text in texts])
     for text, answer in zip(texts, told):
         if (answer == PATTERN) != is_pattern(text):
@@ -170,8 +171,8 @@ def wrong_at_random(texts):
 
 
 def deep_texts(limit):
-    """Texts that are patterns, but not where groups and repetitions stand in one another so deep at most, and the place
-    of the first character with which no pattern of that depth goes on."""
+    """Texts that are patterns, except with this limit on nesting, and the offset of the first character with which no
+    pattern within the limit continues."""
     texts = [text for text, due in texts_over("", NESTED, 4 + (limit > 0)) if due == PATTERN]
     with_limit, pattern_model.NEST_LIMIT = pattern_model.NEST_LIMIT, limit
     try:
@@ -182,14 +183,14 @@ def deep_texts(limit):
 
 
 def explained():
-    """The rows of the page, and more of them: patterns with their places and reasons."""
+    """The rows of the page, and more of them: patterns with their offsets and reasons."""
     rows = example_rows("patterns.md", r"\| `(.+)` \| ([0-9]+) \| (.+) \|", "Where and why")
     more = [(text, f"{place} {reason}") for reason, texts in MORE_EXPLAINED.items() for text, place in texts]
     return [(row[1].replace("\\|", "|"), f"{row[2]} {row[3]}") for row in rows] + more
 
 
 def wrong_reasons(rows):
-    """What is wrong with the places and sentences that the page tells."""
+    """What is wrong with the offsets and sentences of the page."""
     told, wrong = answers([about("explain", pattern) for pattern, _ in rows])
     for (pattern, due), answer in zip(rows, told):
         place, _, sentence = (answer.split(" ", 2) + ["", ""])[:3]
@@ -199,7 +200,7 @@ def wrong_reasons(rows):
 
 
 def wrong_under_settings():
-    """What is wrong with the places and the names of reasons of long, deep and other texts."""
+    """What is wrong with the offsets and the names of reasons of long, deep and other texts."""
     told, wrong = answers([about("explain", pattern, settings=settings) for pattern, settings, _ in EXPLAINED])
     for (pattern, settings, due), answer in zip(EXPLAINED, told):
         if " ".join(answer.split(" ")[:2]) != due:

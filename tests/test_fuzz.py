@@ -1,5 +1,5 @@
-"""The first sessions at random of tests/fuzz, of the program and of the library, and that one that fails is shortened to
-what is wrong in it; and the model of the library's sessions, which is in Rust, beside Python's models."""
+"""The first random sessions of tests/fuzz, of the program and of the library, and that one that fails is shortened to
+the commands that matter; and the model of the library's sessions, which is in Rust, compared with Python's models."""
 from dataclasses import dataclass
 
 import plain_sessions
@@ -14,7 +14,7 @@ BY_CALLS, BESIDE_PYTHON = max(2_000, share_of(10_000)), max(100, share_of(500))
 
 @dataclass(frozen=True)
 class Planted:
-    """Finds a fault where an undo follows a pattern with a bar."""
+    """Finds a fault if an undo follows a pattern with a bar."""
 
     def wrong(self, data):
         words = [(word, payload) for word, _, payload in read_commands(data)[0]]
@@ -37,7 +37,7 @@ def wrong_shortening_by_calls():
 
 
 def wrong_beside_python():
-    """What is wrong with the model in Rust; at least two thirds of the sessions must be compared whole."""
+    """What is wrong with the model in Rust; at least two thirds of the sessions must be compared completely."""
     told = [plain_sessions.wrong_session(lines) for lines in sessions_by_calls.sessions_told(SEED, 0, BESIDE_PYTHON)]
     yield from (one for wrong, _ in told for one in wrong)
     whole = sum(is_whole for _, is_whole in told)

@@ -1,7 +1,7 @@
-"""That all matches take time in proportion to the text, under patterns whose searches read on behind what they find: in
-the lines of a report and in a whole text, by bin/rope-search, and in one content, in lists and one after the other, by a
-`Regex` and by the PikeVM, on bin/search-driver. No clock is asked: where there is valgrind, its callgrind counts instructions, which are the same in
-each run. Where there is none, that is told, and nothing is tested.
+"""All matches take time linear in the text, with patterns whose searches read past their match: in the lines of a
+report and in a whole text, by bin/rope-search, and in one haystack, in lists and in order, by a `Regex` and by the
+PikeVM, on bin/search-driver. No clock is read: if valgrind is installed, its callgrind counts instructions, which are
+the same in each run. Otherwise a message says so, and nothing is tested.
 """
 import re
 import shutil
@@ -12,15 +12,16 @@ from harness import PROGRAM, SEARCH_PROGRAM, open_input, test
 from protocol import spelled
 from test_lists import about
 
-# Patterns of which each letter is a match, and each search reads on for some letters or to the line's end; and of what,
-# and of how many, the shorter text is.
+# Patterns that match each letter, and whose searches read some letters further or to the line's end; and the contents
+# and the length of the shorter text.
 LINE = b"a" * 99 + b"\n"
 GROWING = [("(?:a{0,50}b)|a", b"a", 500), (".*x|.", LINE, 5)]
-# Such of which each search reads to the end, so that finds, one after the other, read the square of the text.
+# Patterns whose searches all read to the end, so that finds, one after the other, would read a quadratic number of
+# bytes.
 SQUARES = [("a*b|a", b"a", 1_000), ("(?s:.*x)|a", LINE, 10)]
 
-# So many times as long is the longer text, and so many times the instructions are too many. Those of no text are taken
-# off both.
+# How many times as long the longer text is, and how many times the instructions are too many. Those for the empty text
+# are subtracted from both.
 LONGER, TOO_MANY = 4, 6
 
 
@@ -36,12 +37,12 @@ def reported(pattern, text):
 
 
 def replaced(pattern, text):
-    """All of the whole text, each replaced."""
+    """All matches of the whole text, each replaced."""
     return PROGRAM, session(pattern, text, ("replace", b"$0")), b"ok %d\n" % text.count(b"a")
 
 
 def by_regex(pattern, text):
-    """All in a content that lies in pieces, by the iterators of a `Regex`."""
+    """All matches in a haystack in chunks, by the iterators of a `Regex`."""
     program, line, end = by_pikevm(pattern, text)
     return program, line.replace(b"search", b"regex", 1), end
 
@@ -63,7 +64,7 @@ WAYS = {**LISTS, "by a Regex": by_regex, "by the PikeVM": by_pikevm}
 
 
 def instructions(program, data, end):
-    """How many instructions a program takes over its input, and what is wrong with the run."""
+    """The number of instructions of a program over its input, and what is wrong with the run."""
     words = ["valgrind", "--tool=callgrind", "--callgrind-out-file=/dev/null", program]
     with open_input(data) as given:
         ran = subprocess.run(words, stdin=given, stdout=subprocess.PIPE, stderr=subprocess.PIPE, check=False)
@@ -73,7 +74,7 @@ def instructions(program, data, end):
 
 
 def growth(way, pattern, part, count):
-    """What is wrong with how the instructions grow with the text."""
+    """What is wrong with the growth of the number of instructions with the text."""
     texts = (part * size for size in (0, count, LONGER * count))
     (none, *wrong), (once, *second), (grown, *third) = (instructions(*way(pattern, text)) for text in texts)
     once, grown = once - none, grown - none

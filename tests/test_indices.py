@@ -1,7 +1,7 @@
-"""What the calls of `str_indices` answer, their kernels at both types of chunks with each number of leading bytes among
-them, and those of `ropey::str_utils`, on bin/rope-driver.
+"""The results of the calls of `str_indices`, of their kernels at both types of chunks with each number of leading
+bytes, and of `ropey::str_utils`, on bin/rope-driver.
 
-What is due is told by plain loops over the characters, and where an answer is known from outside, it stands here.
+The expected results come from plain loops over the characters; results that are known from elsewhere are listed here.
 """
 import functools
 import itertools
@@ -11,7 +11,7 @@ import rope_model
 from rope_model import hexed
 from rope_rows import check
 
-# The characters that break lines, by module. CR LF is one break where both are among them.
+# The characters that break lines, by module. CR LF is one break if both are among them.
 LINES = {"lines": "\n\v\f\r\x85\u2028\u2029", "lines_crlf": "\r\n", "lines_lf": "\n"}
 
 LETTERS = ["\r", "\n", "\v", "a", "\x85", "\u2028", "é", "せ", "🐸"]
@@ -19,7 +19,7 @@ FROGS = "Hel🐸lo world! こん🐸にち🐸🐸は!"
 HERE = "Here\r\nare\r\nsome\r\nwords"
 MIXED = "a\r\n\u2028\r"
 
-# The answers that are known from outside, by their places in an answer: a text, what it counts, an index, and answers.
+# The results that are known from elsewhere, by their position in an answer: a text, its counts, an index, and results.
 COUNTS = ["chars", "units", "surrogate pairs", "lines", "lines_crlf", "lines_lf", "break", "break_crlf", "break_lf"]
 PLACES = ["chars_from", "chars_to", "units_from", "units_to", "lines_from", "lines_to", "crlf_from", "crlf_to", "lf_from", "lf_to"]
 PLACES += ["byte_to_char", "byte_to_line", "char_to_byte", "char_to_line", "line_to_byte", "line_to_char"]
@@ -99,7 +99,7 @@ class Plain:
         return [self.ends[k + 1] for k in found]
 
     def first_break(self, breaks):
-        """The bytes of the first break: with the CR where CR breaks lines."""
+        """The bytes of the first break: with the CR if CR breaks lines."""
         for place, c in enumerate(self.text):
             if c in breaks:
                 size = 2 if self.text[place : place + 2] == "\r\n" else 1
@@ -112,11 +112,11 @@ class Plain:
         return "".join(f"{count} " for count in counts)
 
     def byte_of(self, ends, idx):
-        """Where what has an index starts, by the ends of all that."""
+        """Where the item with an index starts, given the ends of all items."""
         return 0 if idx == 0 else ends[idx - 1] if idx <= len(ends) else self.bytes
 
     def answers(self, idx):
-        """What is answered for an index, with any number of leading bytes."""
+        """The answer for an index, with any number of leading bytes."""
         char_ends = self.ends[1:]
         unit_start = self.unit_starts[idx] if idx < len(self.unit_starts) else self.bytes
         by_char = [bisect_right(char_ends, idx), self.byte_of(char_ends, idx)]
@@ -129,7 +129,7 @@ class Plain:
         return "".join(f"{number} " for number in places + 2 * kernels)
 
     def in_ropes(self, idx):
-        """The same by the breaks of ropes."""
+        """The same with the breaks of ropes."""
         char_ends, ends = self.ends[1:], self.rope_breaks
         start, line_start = self.byte_of(char_ends, idx), self.byte_of(ends, idx)
         by_byte = [bisect_right(char_ends, idx), bisect_right(ends, idx)]
@@ -137,7 +137,7 @@ class Plain:
 
 
 def row(text, indices, leadings):
-    """A row that asks for each index with each number of leading bytes."""
+    """A row that requests each index with each number of leading bytes."""
     plain = Plain(text)
     answers = "".join(f"{plain.answers(idx)};" * len(leadings) for idx in indices)
     asks = " ".join(f"{idx},{leading}" for idx in indices for leading in leadings)
@@ -153,7 +153,7 @@ def every_short_text():
 
 
 def breaks_at_each_place():
-    """A break, or a long character, at each place of texts of a few chunks."""
+    """A break, or a long character, at each offset of texts of a few chunks."""
     for length in range(15, 50):
         for place, part in itertools.product(range(length), ("\n", "\r\n", "\r", "\x85", "\u2029", "🐸")):
             text = "a" * place + part + "é" * ((length - place) // 2)

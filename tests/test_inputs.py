@@ -1,17 +1,18 @@
-"""Contents that lie in pieces, on bin/search-driver: the pieces that a cursor shows, going on and back, over slices and
-over parts of ropes; what is seen at each place, which looks hold there among it, against the model of tests/walks.py;
-and where positions move."""
+"""Haystacks in chunks, on bin/search-driver: the chunks that a cursor shows, forward and backward, over slices and over
+parts of ropes; what is seen at each offset, including the assertions that hold there, compared with the model of
+tests/walks.py; and where positions move."""
 import itertools
 
 from driver import Case, answers, line_of, problems
 from harness import short, test
 from walks import CONTINUE, LOOKS
 
-# The signs of looks, in the order in which they are told.
+# The signs of assertions, in the order of an answer.
 SIGNS = [("A", "\\A"), ("z", "\\z"), ("^", "(?m:^)"), ("$", "(?m:$)"), ("b", "\\b"), ("B", "\\B")]
-SIDE = 4  # how many bytes on each side looks see
+SIDE = 4  # the number of bytes on each side that assertions see
 
-# Haystacks, how they are cut, and the pieces that are shown. Pieces may cut a character, and empty ones aren't shown.
+# Haystacks, how they are split, and the chunks that are shown. Chunks may split a character, and empty ones aren't
+# shown.
 SHOWN = [
     (b"a\xe3\x81", "0", [b"a\xe3\x81"]),
     ("aせ".encode(), "0", ["aせ".encode()]),
@@ -24,17 +25,17 @@ SHOWN = [
     (b"one two", "4.0", [b"one ", b"two"]),
 ]
 
-# Leaves of ropes over parts of which cursors go.
+# Leaves of ropes over parts of which cursors move.
 LEAVES = [[], ["aせ"], ["a", "せ", "🐸b"], ["ab", "\r\n", "c"], ["é\r", "a\n", "x", "yz"], ["ab"] * 40]
 
 WHOLE = "aせb🐸".encode()
-CUTS = ["0", "1", "2.0.5.1.1", "3"]  # how it is cut
+CUTS = ["0", "1", "2.0.5.1.1", "3"]  # how it is split
 
-# Haystacks of which it is told what is seen at each place of each slice.
+# Haystacks for which everything at each offset of each slice is compared.
 SEEN = [WHOLE, b"", b"a b c", "a é\nb".encode(), b"a\r\nb\n", b"a.\xf0\x9f\x90 b", b"a\xc3\xc3\xa9b", b"a\x90\xb8a"]
 SEEN += [b"\0a\0"]
 
-# The looks between bytes before a place and bytes behind it, where a line feed ends a line.
+# The assertions between bytes before an offset and bytes after it, if a line feed ends a line.
 LOOKS_BETWEEN = [
     (b"", b"", "Az^$B"),
     (b"", b"a", "A^b"),
@@ -54,7 +55,7 @@ LOOKS_BETWEEN = [
 
 
 def walk_over(pieces, first=0):
-    """What a walk tells that goes over pieces from one of them on to the last and back to the first."""
+    """The answer for a walk over chunks from one of them to the last and back to the first."""
     starts = itertools.accumulate(map(len, pieces), initial=0)
     told = [f"{start}:{piece.hex()}" for start, piece in zip(starts, pieces)]
     return " ".join([f"Some({sum(map(len, pieces))})", *told[first:], "|", *reversed(told), "|", told[0]])
@@ -67,21 +68,21 @@ def shown():
 
 
 def of_part(leaves, start, end):
-    """The pieces that a part of a rope of these leaves lies in: one empty piece where it has no byte."""
+    """The chunks of a part of a rope with these leaves: one empty chunk if it has no byte."""
     starts = itertools.accumulate(map(len, leaves), initial=0)
     parts = [leaf[max(start - at, 0) : max(end - at, 0)] for at, leaf in zip(starts, leaves)]
     return list(filter(None, parts)) or [b""]
 
 
 def holding(pieces, at):
-    """The index of the piece that holds the byte at a place, and of the last one where there is none."""
+    """The index of the chunk that contains the byte at an offset, or of the last one if there is none."""
     ends = itertools.accumulate(map(len, pieces))
     return next((index for index, end in enumerate(ends) if at < end), len(pieces) - 1)
 
 
 def chunks_shown():
-    """What cursors over parts of ropes show, made at the start and at each place. A part may begin inside a CR LF,
-    but no leaf and no part cuts a character."""
+    """The chunks of cursors over parts of ropes, created at the start and at each offset. A part may begin inside a CR
+    LF, but no leaf and no part splits a character."""
     for leaves in LEAVES:
         text = "".join(leaves)
         bounds = [len(text[:index].encode()) for index in range(len(text) + 1)]
@@ -101,7 +102,7 @@ def signs_at(haystack, slice_, at, line_end):
 
 
 def place(haystack, slice_, end, at, line_end):
-    """What is seen at a place of a slice, in a span that ends there."""
+    """What is seen at an offset of a slice, in a span that ends there."""
     before = haystack[max(slice_[0], at - SIDE) : at].hex()
     after = haystack[at : min(slice_[1], at + SIDE)].hex()
     is_boundary = haystack[at : at + 1] not in CONTINUE
@@ -130,7 +131,7 @@ def seen():
 
 
 def wrong_looks():
-    """Where the model doesn't say what is told of looks between bytes."""
+    """Where the model disagrees with the list of assertions between bytes."""
     for before, after, due in LOOKS_BETWEEN:
         found = signs_at(before + after, (0, len(before + after)), len(before), b"\n")
         if found != due:
@@ -138,14 +139,14 @@ def wrong_looks():
 
 
 def looks_between():
-    """What is seen between the bytes that are told, whose looks the model has."""
+    """What is seen between the given bytes; the assertions are the model's."""
     for (before, after, _), cut in itertools.product(LOOKS_BETWEEN, CUTS):
         both = before + after
         yield seen_in(both, cut, (0, len(both)), (0, len(both)))
 
 
 def moved_to(at, start, end, length):
-    """Where a position is once the span is set, from the whole content to this one."""
+    """Where the position is once the span is set, from the whole haystack to this one."""
     return min(start, length) if at < start else min(end, length) if end < at else at
 
 
@@ -159,7 +160,7 @@ def moves():
 
 
 def wrong_moves():
-    """What is wrong with positions, and with the pieces that are shown there."""
+    """What is wrong with positions, and with the chunks that are shown there."""
     cases = list(moves())
     told, wrong = answers(cases)
     for case, answer in zip(cases, told):

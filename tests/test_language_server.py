@@ -1,5 +1,5 @@
-"""The language server of examples/: a client over pipes beside a plain model of documents, after edits at random in each
-encoding; worked positions, replacements and wrong messages; and Neovim's own client, where Neovim is at hand."""
+"""The language server of examples/: a client over pipes compared with a plain model of documents, after random edits in
+each encoding; worked positions, replacements and wrong messages; and Neovim's own client, if Neovim is installed."""
 import glob
 import json
 import os
@@ -44,7 +44,7 @@ def frames(stream):
 
 
 class Client:
-    """A server, and what it has said. A thread reads that, so that neither waits for the other."""
+    """A server, and its output. A thread reads that, so that neither waits for the other."""
 
     def __init__(self, command=tuple(COMMAND), environment=None):
         pipes = {"stdin": subprocess.PIPE, "stdout": subprocess.PIPE, "stderr": subprocess.DEVNULL}
@@ -65,7 +65,7 @@ class Client:
         self.send(frame({"jsonrpc": "2.0", "method": method, "params": params}))
 
     def ask(self, method, **params):
-        """The answer to a request. Notifications before it are kept in `told`, and so are answers to nobody."""
+        """The answer to a request. Notifications before it are kept in `told`, and so are answers without a request."""
         self.count += 1
         self.send(frame({"jsonrpc": "2.0", "id": self.count, "method": method, "params": params}))
         return self.answer(self.count)
@@ -90,18 +90,18 @@ class Client:
             {"text": change[-1], **({"range": range_of(*change[:2])} if len(change) == 3 else {})} for change in changes])
 
     def since(self):
-        """What the server said since this was last called, once it has read all that was sent."""
+        """The output of the server since the last call, once it has read everything that was sent."""
         self.ask("no/such/method")
         told, self.told = self.told, []
         return told
 
     def published(self):
-        """The diagnostics that were published since, as pairs of a document and what is listed in it."""
+        """The diagnostics that were published since, as pairs of a document and its list."""
         return [(told["params"]["uri"], [listed(one) for one in told["params"]["diagnostics"]])
                 for told in self.since() if told.get("method") == "textDocument/publishDiagnostics"]
 
     def end(self):
-        """The status with which the server ends as its input does."""
+        """The status with which the server ends when its input does."""
         self.server.stdin.close()
         try:
             return self.server.wait(SECONDS)
@@ -116,7 +116,7 @@ def range_of(start, end):
 
 
 def span(value):
-    """The line and columns of a range that lies in one line, and else the whole range."""
+    """The line and columns of a range in one line, otherwise the whole range."""
     start, end = value["start"], value["end"]
     return (start["line"], start["character"], end["character"]) if start["line"] == end["line"] else value
 
@@ -126,7 +126,7 @@ def listed(diagnostic):
 
 
 def highlights(answer):
-    """The places that are highlighted, or the whole answer if it has no result."""
+    """The ranges that are highlighted, or the whole answer if it has no result."""
     return [span(one["range"]) for one in answer["result"]] if answer and "result" in answer else answer
 
 
@@ -143,7 +143,7 @@ def width(encoding, text):
 
 
 def place(encoding, text, line, column):
-    """The character of a text at which a position is, clamped as the protocol asks."""
+    """The character of a text at a position, clamped as the protocol requires."""
     lines = lines_of(text)
     if line >= len(lines):
         return len(text)
@@ -190,7 +190,7 @@ def edited(encoding, text, start, end, new):
     return text[:low] + new + text[high:]
 
 
-# ---- edits at random
+# ---- random edits
 
 PIECES = ("TODO", "FIXME", "TO", "DO", "FIX", "ME", " ", "\n", "\r", "\r\n", "é", "🐸", "a", "x1", "_", "\u2028", "e\u0301", "ß\n\n",
           "日本", "\x0b", "", "🐸🐸\rTODO\n", "a TODO é FIXME 🐸\r\n")
@@ -223,7 +223,7 @@ def some_changes(chance, encoding, text):
 
 
 def wrong_walk(encoding, pattern, seed):
-    """What is wrong with what a server publishes of two documents that are changed at random."""
+    """What is wrong with a server's diagnostics of two documents that are changed randomly."""
     chance = random.Random(repr((encoding, pattern, seed)))
     client, texts, version = Client(), {}, 1
     client.begin([encoding], {"pattern": pattern})
@@ -306,7 +306,7 @@ def wrong_positions():
         client.end()
 
 
-# A text, a pattern and a template; and the text once all that is listed has been replaced.
+# A text, a pattern and a template; and the text once all listed matches were replaced.
 REPLACED = [
     ("TODO a\nFIXME TODO", DEFAULT, "done", "done a\ndone done"),
     ("TODO a\r\nTODO\rTODO", DEFAULT, "<$0>", "<TODO> a\r\n<TODO>\r<TODO>"),
@@ -320,7 +320,7 @@ REPLACED = [
 
 
 def applied(encoding, text, edits):
-    """A text with edits of the protocol made, all in terms of that text."""
+    """A text with edits of the protocol made, whose positions are all in the text before."""
     for edit in reversed(edits):
         start, end = edit["range"]["start"], edit["range"]["end"]
         text = edited(encoding, text, (start["line"], start["character"]), (end["line"], end["character"]), edit["newText"])
@@ -346,7 +346,7 @@ def wrong_replacements():
 
 
 def wrong_offers():
-    """An action is offered where a match is in the lines of the range, with the version if the editor wants it."""
+    """An action is offered if a match is in the lines of the range, with the version if the editor wants it."""
     client = Client()
     client.begin(options={"replacement": "x"}, workspace={"workspaceEdit": {"documentChanges": True}})
     client.open("a", "none\nTODO\nnone\nFIXME", 3)
@@ -387,7 +387,7 @@ def wrong_encodings():
 
 
 def wrong_documents():
-    """Several documents: what is published of them, as they are opened, changed, searched for another pattern and closed."""
+    """Several documents: their diagnostics, when they are opened, changed, searched for another pattern and closed."""
     client = Client()
     client.begin()
     todo, fixme, one = (0, 0, 4, "TODO"), (0, 0, 5, "FIXME"), (0, 5, 8, "one")
@@ -426,7 +426,7 @@ def wrong_documents():
 
 
 def wrong_long():
-    """A document of many lines, in which all matches move, and one of a long line."""
+    """A document with many lines, in which all matches move, and one with a long line."""
     client, text = Client(), "a TODO é\n" * 3_000
     client.begin(["utf-8"])
     client.open("a", text)
@@ -443,7 +443,8 @@ def wrong_long():
 
 
 def wrong_large():
-    """A document that grows above the limit of sessions, here of 20 bytes, is closed: it can't be followed any more."""
+    """A document that grows above the limit of sessions, here 20 bytes, is closed, because it can't be followed any
+    more."""
     code = f"""import runpy, sys
 sys.path.insert(0, {os.path.join(TOP, "bindings", "python")!r})
 import rope_search
@@ -480,7 +481,7 @@ def highlight(position, uri="a"):
     return request(HIGHLIGHT, {"textDocument": {"uri": uri}, "position": position})
 
 
-# What is sent, and the errors that are answered, each with the number of its request; then the server goes on.
+# What is sent, and the error answers, each with the number of its request; then the server continues.
 WRONG = [
     (b"{", [(None, PARSE)]),
     (b"", [(None, PARSE)]),
@@ -563,7 +564,7 @@ REFUSED = [
     notification("textDocument/didChange", textDocument={"uri": "a", "version": 9}, contentChanges=WHOLE),
     {"jsonrpc": "2.0", "method": "textDocument/didChange", "params": [WHOLE]},
 ]
-# Settings that are refused, and what the editor shows of the reason.
+# Settings that are refused, and what the editor shows as the reason.
 SETTINGS = [
     ({"pattern": "one|(two"}, "a group isn't closed, at byte 8"),
     ({"pattern": "*"}, "there is nothing to repeat, at byte 0"),
@@ -573,7 +574,7 @@ SETTINGS = [
     ({"pattern": r"\w{1000}"}, "weighs too much"),
     ({"pattern": "\ud800"}, "UTF-8"),
 ]
-# Bytes that are no frames, and the errors that are answered; then a frame is read.
+# Bytes that are no frames, and the error answers; then a frame is read.
 BROKEN = [
     (b"\r\n\r\n", []),
     (b"\n", []),
@@ -591,7 +592,7 @@ BROKEN = [
     (b"x" * 200_000, [(None, PARSE)]),
     (b"\xff\x00\n", [(None, PARSE)]),
 ]
-# Frames that are right.
+# Correct frames.
 ODD = [
     b"content-length: %d\r\n\r\n%b", b"Content-Length:%d\n\n%b", b"Content-Type: x; charset=utf-8\r\nContent-Length: %d\r\n\r\n%b",
     b"Content-Length:  %d \r\nContent-Type: x\r\n\r\n%b", b"\r\nContent-Length: %d\r\n\r\n%b\r\n",
@@ -599,7 +600,7 @@ ODD = [
 
 
 def running():
-    """A client of a server that has a document with one match, and one that was closed."""
+    """A client of a server with a document with one match, and with one that was closed."""
     client = Client()
     client.begin(options={"replacement": "x"})
     client.open("closed", "TODO")
@@ -610,12 +611,12 @@ def running():
 
 
 def goes_on(client):
-    """Whether the document is still what it was, and searched."""
+    """Whether the document is unchanged, and searched."""
     return highlights(client.ask(HIGHLIGHT, textDocument={"uri": "a"}, position={"line": 0, "character": 5})) == [(0, 4, 8)]
 
 
 def wrong_answers(client, data, due, name):
-    """What is wrong with the errors that bytes are answered, and with the server after them."""
+    """What is wrong with the error answers to bytes, and with the server after them."""
     client.send(data)
     if not goes_on(client):
         yield f"{name}: the server doesn't go on"
@@ -727,7 +728,7 @@ def wrong_start():
 
 
 def test_length():
-    """The server can be read at one sitting."""
+    """The server is short enough to be read in one sitting."""
     count = 0
     for path in glob.glob(os.path.join(SERVER, "*.py")):
         with open(path, encoding="utf-8") as file:

@@ -1,9 +1,9 @@
-"""All matches of patterns, listed by two passes, on bin/search-driver: in haystacks that lie in pieces, with the places
-in all slots, perhaps in slices and spans, anchored, and by pattern; and of patterns whose finds read far behind what they
-answer. A `Regex` must list the same, and its iterator give them in short haystacks.
+"""All matches of patterns, listed by two passes, on bin/search-driver: in haystacks in chunks, with the offsets in all
+slots, also in slices and spans, anchored, and by pattern; and of patterns whose finds read far past their match. A
+`Regex` must list the same, and its iterator yield them in short haystacks.
 
-Its answers are those that stand here, those of the model of tests/walks.py to cases at random, and in haystacks that are
-longer than the blocks of places whose nodes are kept, those of finds of Python's re, one after the other.
+The expected answers are listed here, or are those of the model of tests/walks.py for random cases, and, in haystacks
+that are longer than the blocks of offsets whose nodes are stored, those of finds of Python's re, in order.
 """
 import random
 import re
@@ -17,10 +17,10 @@ from walks import Search, spelled
 
 RANDOM_CASES = share_of(20_000)
 
-# Patterns, haystacks, and all matches, as pattern, end and slots; where not all is asked for, also the slice, the span
-# and where matches start, and whether empty matches inside a character are found.
+# Patterns, haystacks, and all matches, as pattern, end and slots; if not everything has its default, also the slice,
+# the span and where matches start, and whether empty matches inside a character are found.
 VECTORS = [
-    # A branch that comes only to what was entered already is given up, with what it noted.
+    # A branch that reaches only entered nodes is given up, with its notes.
     (["(?:a|())*"], "a", "0 1 0 1 - -"),
     (["(a|(b))*"], "ab", "0 2 0 2 1 2 1 2"),
     # Empty matches, none of them inside a character or where one ended.
@@ -28,7 +28,7 @@ VECTORS = [
     (["x*"], "せ", "0 0 0 0,0 1 1 1,0 2 2 2,0 3 3 3", None, True),
     (["b*"], "ab", "0 0 0 0,0 2 1 2"),
     (["a?"], "aa", "0 1 0 1,0 2 1 2"),
-    # Finds that read on to the end and answer less.
+    # Finds that read to the end and match less.
     (["a*b|a"], "aaa", "0 1 0 1,0 2 1 2,0 3 2 3"),
     (["a*b|a"], "aab", "0 3 0 3"),
     ([".*?x|a"], "aay", "0 1 0 1,0 2 1 2"),
@@ -46,7 +46,7 @@ VECTORS = [
     (["a"], "aa", "", ((0, 9), (3, 9), ANYWHERE)),
     (["a"], "aa", "", ((0, 9), (1, 0), ANYWHERE)),
     (["\\bé", "e\\b"], "é e", "0 2 0 2 - -,1 4 - - 3 4"),
-    # One literal: no match begins inside the one before, in each slice and span, and across pieces.
+    # One literal: no match begins inside the one before, in each slice and span, and across chunks.
     (["aa"], "aaaaa", "0 2 0 2,0 4 2 4"),
     (["a"], "banana", "0 2 1 2,0 4 3 4,0 6 5 6"),
     (["é"], "éxé", "0 2 0 2,0 5 3 5"),
@@ -59,15 +59,15 @@ VECTORS = [
     (["ab"], "xab", "", ((0, 9), (0, 9), AT_START)),
 ]
 
-# Of these letters each is a match, and each find but the last ones reads to the end.
+# Each of these letters is a match, and each find but the last ones reads to the end.
 HOSTILE = ["a*b|a", ".*?x|a", ".*x|.", "(a|b)*c|a", "(?:a{0,200})*b|a"]
 LETTERS = 20_000
 
-# The least number of places of a block. Blocks end at the haystack's end and at each such distance before it.
+# The least number of offsets of a block. Blocks end at the haystack's end and at each such distance before it.
 BLOCK = 4_096
 LONG_CASES = 150
 
-# Patterns that Python's re takes for the same, and the letters of their haystacks.
+# Patterns that are the same for Python's re, and the letters of their haystacks.
 ALIKE = [
     ("a", "ab"), ("ab", "ab"), ("b*", "ab"), ("(a)|(b+)", "ab"), ("a*b|a", "ab"), (".*?b|a", "ab"), ("(a|b)*c|a", "abc"),
     ("a+?b", "ab"), ("(?:a|(b)){2,5}", "ab"), ("x*", "ab"), (".*", "ab\n"), (".+", "ab"), ("[^c]+", "abc"), ("\\b", "ab "),
@@ -76,7 +76,7 @@ ALIKE = [
 
 
 def answer_of(trees, haystack, asked, inside):
-    """The matches that the model finds, as the program writes them."""
+    """The model's matches, as the program writes them."""
     slice_, span, anchored = asked
     pattern = anchored - FIRST if anchored >= FIRST else None
     search = Search(trees, haystack, slice_, span, anchored != ANYWHERE, inside, pattern=pattern)
@@ -115,10 +115,10 @@ def hostile():
 
 
 def found_by_re(pattern, haystack, slice_, span, is_tied):
-    """The matches that finds of Python's re tell, one after the other, each with its slots."""
+    """The matches of finds of Python's re, in order, each with its slots."""
     compiled = re.compile(pattern.encode())
     low, high = slice_
-    cut = haystack[low:high]  # looks see no further
+    cut = haystack[low:high]  # assertions see no further
     find = compiled.match if is_tied else compiled.search
     at, end, last = max(span[0] - low, 0), min(span[1] - low, len(cut)), None
     told = []
@@ -144,7 +144,7 @@ def long_cases(count=LONG_CASES):
         haystack = "".join(chance.choices(letters, weights, k=size)).encode()
         low = chance.choice((0, 0, 1, chance.randint(0, size)))
         slice_ = low, chance.choice((size, chance.randint(low, size)))
-        # Python's re looks no further than where it searches, so a span ends where the slice does.
+        # Python's re sees no further than where it searches, so a span ends where the slice does.
         span = chance.choice((low, chance.randint(low, slice_[1]))), slice_[1]
         is_tied = chance.random() < 0.2
         slots, answer = found_by_re(pattern, haystack, slice_, span, is_tied)
@@ -153,7 +153,7 @@ def long_cases(count=LONG_CASES):
 
 
 def at_edges():
-    """Matches at, before and behind the places where blocks end, also empty ones, and inside characters."""
+    """Matches at, before and after the offsets where blocks end, also empty ones, and inside characters."""
     size = 2 * BLOCK + 5
     for place in (0, 1, 4, 5, 6, BLOCK + 4, BLOCK + 5, BLOCK + 6, size - 1):
         haystack = b"a" * place + b"b" + b"a" * (size - place - 1)

@@ -1,5 +1,4 @@
-"""What bin/rope-search does where memory is refused: each request of several sessions in turn, alone and
-with all that follow it."""
+"""bin/rope-search with memory refused: each request of several sessions in turn, alone and with all later ones."""
 import functools
 import os
 import random
@@ -14,7 +13,7 @@ def given(word, payload):
     return spelled(word, (len(payload),), payload)
 
 
-# Without a pattern `undo` and `redo` take no memory, and an edit that changes nothing drops what could be
+# Without a pattern `undo` and `redo` take no memory, and an edit that changes nothing drops the texts that could be
 # redone.
 HISTORY = b"text 1\naedit 0 1 0 1 1\nbundo\nredo\nprint\nundo\nedit 0 0 0 0 0\nredo\n"
 FIRST_EDIT_REFUSED = b"ok\nerror memory\nerror none\nerror none\ntext 1\na\nerror none\nok\nerror none\n"
@@ -22,7 +21,7 @@ UNDER_PATTERN = (
     b"pattern 1\nbtext 13\nab\nb\ncb\nbb\nabedit 1 0 2 1 5\nb\r\nxblist\nundo\nlist\nredo\nlist\n"
     b"edit 0 1 4 0 0\nlist\nedit 0 0 0 0 12\nb\nb\nb\nb\nb\nb\nlist\nundo\nundo\nundo\nlist\nprint\n"
 )
-# Regular expressions, one of them outside the grammar and one too heavy, and what they find next.
+# Regular expressions, one of them outside the grammar and one too heavy, and the next matches.
 UNDER_REGEX = (
     given("text", b"Todo a\nan error\r\nno todo\n\n") + given("pattern", rb"(?i)\btodo\b|e\w+r$")
     + b"list\nnext 0 1\nnext 2 4\nedit 1 3 1 8 4\nTODOlist\nnext 0 5\nundo\nnext 1 3\nredo\nlist\n"
@@ -30,7 +29,7 @@ UNDER_REGEX = (
     + given("pattern", rb"(\r\n|o$)+|^$") + b"next 0 4\nlist\noff\nnext 0 0\nuse 1\nnext 0 0\n"
 )
 
-# All matches replaced: some, none, one by what is as long as the text, breaks that are parted, and refused templates.
+# All matches replaced: some, none, one by a text as long as the whole, breaks that are split, and refused templates.
 REPLACED = (
     given("text", b"ab\r\ncab\nb\r\nxabc") + given("pattern", rb"(a)?b|\r") + b"list\n" + given("replace", b"$1\n$0")
     + b"list\nundo\nlist\nredo\n" + given("replace", b"$2") + b"redo\nlist\nprint\n" + given("replace", b"\xff")
@@ -44,13 +43,13 @@ REPLACED_IN_LONG = (
     + b"list\nundo\n" + given("pattern", b"-") + given("replace", b"+") + given("pattern", rb"\++\n?") + b"list\n"
     + given("replace", b"x") + b"list\nundo\nundo\nprint\n"
 )
-# Edits and replacements without a pattern, under one, and under another one, undone and done again.
+# Edits and replacements without a pattern, with one, and with another one, undone and redone.
 BACK_AND_FORWARD = (
     given("text", b"ab\r\nab\n\nab\n") + b"edit 0 1 1 1 1\nb" + given("pattern", b"b|\n") + given("replace", b"\n$0")
     + b"undo\nlist\nundo\nlist\nredo\nredo\nlist\n" + given("pattern", b"a") + given("replace", b"") + b"undo\nundo\nlist\n"
     + b"edit 0 0 1 0 2\n\r\nlist\nredo\noff\nundo\nredo\n" + given("pattern", b"(?m)b$") + b"undo\nundo\nundo\nlist\nprint\n"
 )
-# Searches that read on to the line's end, or the text's, and answer one letter each.
+# Searches that read to the line's end, or the text's, and match one letter each.
 FAR_READING = (
     given("text", b"a" * 70 + b"\n" + b"a" * 40) + given("pattern", b"(a*b)|a") + b"list\nedit 0 1 1 1 1\naundo\nlist\n"
     + given("replace", b"$0$1-") + b"list\nundo\nredo\nlist\nprint\n"
@@ -58,23 +57,23 @@ FAR_READING = (
 
 # A text of a megabyte, and how many of its lines are edited, each in a fork of its own and all in one buffer.
 LINES, LINE, EDITED = 20_000, b"a line of fifty bytes, which holds one mark: here\n", 50
-# What a fork with an edit may take, or an edit with its rows, whatever the text: a path of nodes and a few lists.
+# The limit for a fork with an edit, or an edit with its rows, whatever the text: a path of nodes and a few lists.
 MOST_FOR_AN_EDIT = 8_192
-MOST_FOR_A_FORK = 12_288  # one with an edit: beside that it is a buffer of its own
-# Buffers with a pattern each, and what one may hold under which pattern: with a letter class most of it is the program.
+MOST_FOR_A_FORK = 12_288  # one with an edit: in addition it is a buffer of its own
+# Buffers with a pattern each, and the limit for one by pattern: with a letter class most of it is the program.
 BUFFERS, MOST_FOR_A_BUFFER = 2_000, ((b"mark", 16_000), (rb"(?i)todo|error", 16_000), (rb"\w+", 60_000))
-# Patterns that say a class again and again, and the most that one takes.
+# Patterns that repeat a class, and the limit for one.
 SAID_AGAIN, MOST_FOR_A_PATTERN = ((rb"[\wa]", 13_107), (rb"[^\w]", 13_107), (rb"[^a]", 16_384)), 10_000_000
-# Such that are refused by their weight, and the most that each byte of one takes.
+# Patterns that are refused because of their weight, and the limit for each byte of one.
 TOO_HEAVY, MOST_FOR_A_BYTE = (rb"[\wa]", rb"[^\w]"), 64
-# How many breaks are replaced, the most that this takes, and the most that each takes where it is undone, as a match, a
-# line and a change.
+# The number of breaks that are replaced, the limit for this, and for each if it is undone, as a match, a line and a
+# change.
 BREAKS, MOST_FOR_BREAKS, MOST_FOR_A_BREAK = 1_000_000, 100_000_000, 120
-# A text, how often it is edited, and how much an edit may leave behind in the history.
+# A text, how often it is edited, and how much an edit may leave in the history.
 LONG_TEXT, MANY_EDITS, MOST_KEPT = 20_000_000, 10_000, 5_000
 
-# Inputs on which memory is refused. The payload of the second is as long as several reads and
-# spells commands, which must not be carried out where it is lost.
+# Inputs on which memory is refused. The payload of the second is as long as several reads and spells commands, which
+# must not be executed if it is lost.
 MEMORY_INPUTS = [
     FIRST,
     b"text 9000\n" + b"print\n" * 1500 + b"fork\nprint\nuse 1\ntext 6000\n" + b"use 0\n" * 1000 + b"print\nuse 0\nprint\n",
@@ -98,8 +97,8 @@ MEMORY_INPUTS = [
 
 
 def growths(length):
-    """How often a list grows that takes the characters of so many bytes: it asks for room for a quarter of them, or for
-    four, and then for twice as much each time."""
+    """How often a list grows that takes the characters of this number of bytes: it requests room for a quarter of them,
+    or for four, and then for twice as much each time."""
     room, count = max(4, (length + 3) // 4), 1
     while room < length:
         room, count = 2 * room, count + 1
@@ -107,7 +106,7 @@ def growths(length):
 
 
 def session(data, **settings):
-    """A run with requests refused as told, how many there were, and how many bytes of its input were read by then."""
+    """A run with these requests refused, how many there were, and how many bytes of its input were read by then."""
     with open_input(data) as given:
         ended, count, _ = counted(lambda environment: end_of(start((), environment, stdin=given)), **settings)
         ended.read = os.lseek(given.fileno(), 0, os.SEEK_CUR)
@@ -119,15 +118,15 @@ def respelled(commands):
 
 
 def under_way(commands, data):
-    """Of each request for memory the place of the command that makes it, or None where it is made before the first.
-    Behind the last one a payload that is cut short makes some."""
+    """For each request for memory the index of the command that makes it, or None if it is made before the first. After
+    the last one an incomplete payload makes some."""
     counts = [session(respelled(commands[:place]))[1] for place in range(len(commands) + 1)]
     ends = zip([*counts, session(data)[1]], [None, *range(len(commands) + 1)])
     return [place for before, (end, place) in zip([0, *counts], ends) for _ in range(before, end)]
 
 
 def follow(commands, out):
-    """The places of the commands that are answered that memory lacks, by an output, where others answer as the model."""
+    """The indices of the commands that are out of memory in an output, if the others have the model's answers."""
     model, at, lacking = Session(), 0, set()
     for place, command in enumerate(commands):
         if model.takes_memory(command[0]) and out.startswith(b"error memory\n", at):
@@ -138,20 +137,20 @@ def follow(commands, out):
 
 @functools.lru_cache(maxsize=200)
 def answer_without(data, lacking):
-    """The answer to an input where memory is refused to the commands at these places."""
+    """The answer to an input with memory refused to the commands at these indices."""
     return answer(data, lacking)
 
 
 @functools.lru_cache(maxsize=4)
 def known_answers(data):
-    """What was written for an input where memory was refused, each with the commands that it was refused to: to be
-    added to, since working that out takes as long as the commands."""
+    """The outputs for an input with memory refused, each with the commands to which it was refused. They are stored,
+    because computing one takes as long as the commands."""
     return {}
 
 
 def answered(data, ended):
-    """What is wrong with a run to which requests were refused, and the places of the commands that are answered so:
-    there is no session at all, or some of the commands that take memory are answered so and change nothing."""
+    """What is wrong with a run with refused requests, and the indices of the commands that are out of memory: there is
+    no session at all, or some of the commands that take memory are, and change nothing."""
     if ended.status == 1:
         return differences(ended, b"", 1, told(b"out of memory")), frozenset()
     known = known_answers(data)
@@ -162,14 +161,14 @@ def answered(data, ended):
 
 
 def may_go_untold(commands):
-    """How many requests may be refused with nothing told: the list of a pattern's characters asks for more room than it
-    needs at once, and where that is refused for the room of one after the other."""
+    """How many requests may be refused without effect: the list of a pattern's characters requests more room than it
+    needs at once, and if that is refused it requests room for one after the other."""
     return sum(growths(len(payload)) for word, _, payload in commands if word == "pattern")
 
 
 def one_refused(data, places):
-    """Each request refused alone: before the first command nothing is read, and later on the command that was under way
-    is the one that is answered so. But of each pattern some requests may be refused with nothing told."""
+    """Each request refused alone: before the first command nothing is read, and afterwards the command that made the
+    request is the one that is out of memory. But for each pattern some requests may be refused without effect."""
     commands, _ = read_commands(data)
     untold, seen, whole = may_go_untold(commands), set(), answer(data)
     for number, place in enumerate(places, 1):
@@ -201,8 +200,8 @@ def whole_refusal(commands, place):
 
 
 def all_refused_from(data, places):
-    """Each request and all after it refused: what was told is right for the commands that tell want of memory, and none
-    before the one that was under way does."""
+    """Each request and all later ones refused: the answers are right for the commands that are out of memory, and none
+    before the one that made the request is."""
     for number, place in enumerate(places, 1):
         ended, _ = session(data, **{"from": number})
         wrong, lacking = answered(data, ended)
@@ -214,7 +213,7 @@ def all_refused_from(data, places):
 
 
 def sent_again(data, places):
-    """A command to which one request was refused is carried out where it is sent again at once."""
+    """A command one of whose requests was refused is executed if it is sent again at once."""
     commands, _ = read_commands(data)
     untold = may_go_untold(commands)
     for number, place in enumerate(places, 1):
@@ -228,7 +227,7 @@ def sent_again(data, places):
 
 
 def asks_for_none(data):
-    """Fifty more of each command that needs no memory ask for none, in the session that the commands lead to."""
+    """Fifty more of each command that needs no memory request none, in the session that the commands lead to."""
     commands, _ = read_commands(data)
     model = Session()
     for command in commands:
@@ -242,7 +241,7 @@ def asks_for_none(data):
 
 
 def check_refusals(data, most=None):
-    """Tests an input with each of its requests refused, where there are no more than so many."""
+    """Tests an input with each of its requests refused, if there are at most this number."""
     name = short(data[:40]) + (f".. ({len(data)} bytes)" if len(data) > 40 else "")
     ended, count = session(data)
     test(f"{name} under the library, nothing refused", differences(ended, *answer(data)))
@@ -264,7 +263,7 @@ def test_all():
     test("after an edit that lacked memory there is nothing to undo", [] if is_as_told else ["the model has"])
 
     def claims():
-        """No memory is asked for by the number that a line claims, but by what was read."""
+        """Memory is requested for what was read, not for the number in a line."""
         for number in (100_000_000, TEXT_LIMIT, TEXT_LIMIT + 1, NUMBER_LIMIT):
             for command in [(word, (*[0] * (WORDS[word.encode()] - 1), number), b"ab") for word in HAS_PAYLOAD]:
                 data = spelled(*command)
@@ -276,7 +275,7 @@ def test_all():
     test("a line that claims many bytes takes no memory for them", claims())
 
     def rooms():
-        """No room is asked for that is longer than the payload."""
+        """No room is requested that is longer than the payload."""
         for size in (5_000, 100_000, 5_000_000):
             data = given("text", b"x" * size)
             ended, _, largest = counted(lambda environment, given=data: run(given, environment=environment))
@@ -287,12 +286,13 @@ def test_all():
     test("a payload's room is no longer than the payload", rooms())
 
     def edited_lines(before):
-        """Commands that put a letter in lines all over the text, each after what `before` gives for it."""
+        """Commands that insert a letter in lines all over the text, each after the commands that `before` returns for
+        it."""
         step = LINES // EDITED
         return b"".join(before(k) + spelled("edit", (k * step, 0, k * step, 0, 1), b"x") for k in range(EDITED))
 
     def taken_for_edits(first, edits, most=MOST_FOR_AN_EDIT):
-        """What an edit takes after these first commands, where there is too much of it, in bytes."""
+        """The memory that an edit takes after these first commands, if it is too much, in bytes."""
         text = given("text", LINE * LINES) + first
         _, _, _, alone = tallied(lambda environment: run(text, environment=environment))
         ended, _, _, total = tallied(lambda environment: run(text + edits, environment=environment))
@@ -318,14 +318,14 @@ def test_all():
 
 
 def peak_of(data):
-    """The most memory that the program holds at a time over an input of which no command is refused."""
+    """The maximum memory that the program holds at a time for an input whose commands are all accepted."""
     ended, peak = most_held(lambda environment: run(data, environment=environment))
     assert b"error" not in ended.out[-1_000_000:] and ended.status == 0, short(ended.out)
     return peak
 
 
 def test_bounds():
-    """What many buffers with a pattern each hold, and long patterns: by the most that is held at a time."""
+    """The memory of many buffers with a pattern each, and of long patterns: by the maximum that is held at a time."""
     for pattern, most in MOST_FOR_A_BUFFER:
         def buffers(count, setting=given("pattern", pattern)):
             return b"".join(b"fork\nuse %d\n" % (number + 1) + setting for number in range(count))
@@ -348,7 +348,7 @@ def test_bounds():
 
 
 def test_histories():
-    """What edits, replacements and new texts leave behind, likewise."""
+    """The memory that edits, replacements and new texts leave, likewise."""
     def broken(count):
         return given("text", b"\r" * count) + given("pattern", b"\r") + given("replace", b"x")
     held = peak_of(broken(BREAKS))
@@ -362,7 +362,7 @@ def test_histories():
     test("a history is let go of by a new text", wrong)
     text = given("text", LINE * (LONG_TEXT // len(LINE)))
     for name, edits in (("letters at random lines", letters_at_random), ("a typist", letters_in_a_row)):
-        # What a text takes while it is read is more than what stays of it, so edits are held against fewer edits.
+        # A text takes more memory while it is read than afterwards, so edits are compared with fewer edits.
         each = (peak_of(text + edits(2 * MANY_EDITS)) - peak_of(text + edits(MANY_EDITS))) // MANY_EDITS
         wrong = [] if 0 < each <= MOST_KEPT else [f"an edit keeps {each} bytes"]
         test(f"{name}: {MANY_EDITS} edits of {LONG_TEXT} bytes keep at most {MOST_KEPT} bytes each", wrong)

@@ -1,4 +1,5 @@
-"""The search pane of examples/: its parts beside the model and the program, and all of it in a terminal of its own."""
+"""The search pane of examples/: its parts compared with the model and the program, and all of it in a terminal of its
+own."""
 import fcntl
 import os
 import pty
@@ -25,7 +26,7 @@ PANE = os.path.join(TOP, "examples", "pane.py")
 ROWS, COLUMNS = 12, 80
 TEXT = "A frog 🐸 and a toad.\nNo toad here is green.\r\n" + "\n" * 40 + "the end\n"
 
-# What terminals send for keys, as xterm, the Linux console, rxvt, screen and PuTTY do, and their names.
+# The bytes that terminals send for keys, as xterm, the Linux console, rxvt, screen and PuTTY do, and their names.
 SENT = [
     *((sent, "up") for sent in ("\x1b[A", "\x1bOA", "\x1b[1;2A", "\x1b\x1b[A")),
     ("\x1b[1;5B", "down"), ("\x1b[1;2C", "right"), ("\x1b[1;3D", "left"), ("\x1b[5~", "page up"),
@@ -42,7 +43,7 @@ SENT = [
 
 
 def keys_of(pieces):
-    """The keys that are read where these bytes come one after the other, each by its name or what it types."""
+    """The keys that are read when these bytes come one after the other, each by its name or the text that it types."""
     out, given = os.pipe()
     keys, found = Keys(out), []
     for piece in pieces:
@@ -73,7 +74,7 @@ def test_keys():
     test("pasted text is one, wherever it is cut", wrong)
 
 
-# Lines, from which cell on and in how many cells they are seen, and what is seen of them.
+# Lines, the first visible cell and the number of visible cells, and what is visible of them.
 SHOWN = [
     ("ab漢字c", 0, 4, "ab漢"), ("ab漢字c", 0, 3, "ab "), ("ab漢字c", 3, 3, " 字"), ("ab漢字c", 3, 4, " 字c"),
     ("ab漢字c", 2, 9, "漢字c"), ("a\tb", 0, 20, "a       b"), ("a\tb", 3, 4, "    "), ("a\tb", 3, 9, "     b"),
@@ -98,7 +99,7 @@ def text_at_random(chance, most=6):
 
 
 def wrong_changes(seed):
-    """What a text is after an edit otherwise than by the model, or where its lines are cut."""
+    """A text after an edit that differs from the model's, or is split into other lines."""
     chance = random.Random(seed)
     text = Text(text_at_random(chance, 12))
     for _ in range(30):
@@ -149,7 +150,7 @@ def change_at_random(chance, document):
 
 
 def wrong_documents(seed):
-    """What a document has otherwise than the program, after edits, replacements, undos and redos at random."""
+    """Differences between a document and the program, after random edits, replacements, undos and redos."""
     chance = random.Random(seed)
     with Client(PROGRAM) as client:
         document = Document(client, text_at_random(chance, 30))
@@ -165,7 +166,7 @@ def wrong_documents(seed):
 
 
 class Pane:
-    """The pane in a terminal: what it wrote to that, and its exit status."""
+    """The pane in a terminal: its output, and its exit status."""
 
     def __init__(self, text, program=PROGRAM):
         self.path = os.path.join(ROOM, "shown")
@@ -183,7 +184,7 @@ class Pane:
         fcntl.ioctl(self.terminal, termios.TIOCSWINSZ, struct.pack("HHHH", rows, columns, 0, 0))
 
     def shows(self, wanted, since=0):
-        """Waits until the terminal was given these bytes, and tells whether it was."""
+        """Waits until the terminal got these bytes, and returns whether it did."""
         end = time.monotonic() + SECONDS
         while wanted not in self.out[since:] and time.monotonic() < end:
             if select.select([self.control], [], [], 0.1)[0]:
@@ -193,13 +194,13 @@ class Pane:
         return wanted in self.out[since:]
 
     def type(self, keys):
-        """Types keys, and answers how much had been written before."""
+        """Types keys, and returns how much had been written before."""
         before = len(self.out)
         os.write(self.control, keys.encode())
         return before
 
     def asked(self, keys, *wanted):
-        """What isn't shown once keys are typed."""
+        """What isn't shown after keys are typed."""
         before = self.type(keys)
         return [f"after {keys!r} it doesn't show {text!r}" for text in wanted if not self.shows(text.encode(), before)]
 
@@ -208,7 +209,7 @@ class Pane:
             return [int(number) for number in file.read().split()]
 
     def end(self, status=0):
-        """What is wrong with how the pane left the terminal, once it has been told to end."""
+        """What is wrong with how the pane left the terminal, after it was told to end."""
         if not self.shows(b"\x1b[?1049l"):
             yield f"it leaves the terminal as {short(self.out[-200:])}"
         try:
@@ -226,7 +227,7 @@ class Pane:
 
 
 def test_typing(asked):
-    """Keys that edit the text from the first match on, under the pattern `t\\w+d`; `\x1b7` stands at the cursor."""
+    """Keys that edit the text from the first match on, with the pattern `t\\w+d`; `\\x1b7` is at the cursor."""
     front, toad = "     1  A frog 🐸 and a ", "\x1b[7mtoad\x1b[27m."
     at_match = asked("\t", f"{front}\x1b7\x1b[4m\x1b[7mtoad\x1b[27m\x1b[24m.")
     test("Tab goes to the text, where the match is", at_match)
@@ -311,7 +312,7 @@ def test_pane():
 
 
 def test_choices():
-    """Whatever the case, whole words, matches over lines, and long lines."""
+    """Ignored case, whole words, matches over lines, and long lines."""
     pane = Pane(("Toad toads\n" + "x" * 200 + "toad\nab\nend\n").encode())
     asked = pane.asked
     pane.shows(b"     4  end")
@@ -378,7 +379,7 @@ def test_saving():
 
 
 def test_ended():
-    """The program ends under the pane."""
+    """The program ends while the pane runs."""
     pane = Pane(b"a frog\n")
     asked = pane.asked
     pane.shows(b"     1  a frog")
@@ -402,7 +403,7 @@ def test_ended():
 
 
 def test_refusals():
-    """What the pane says where it can't begin, and no traceback."""
+    """The pane's message if it can't start, without a traceback."""
     pane = Pane(b"a\r\nb\rc\n \xff")
     told = pane.shows(b"not UTF-8: byte ff at 8, in line 4")
     pane.process.wait()

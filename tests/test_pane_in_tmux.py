@@ -1,5 +1,5 @@
-"""The search pane in tmux, a terminal that draws: what is on the screen after each key, over a text of 100,000 lines,
-and how much the program was asked for it. Where there is no tmux, that is told, and nothing is tested."""
+"""The search pane in tmux, a terminal that draws: the screen after each key, for a text of 100,000 lines, and the
+number of commands to the program. If there is no tmux, a message says so, and nothing is tested."""
 import os
 import shutil
 import subprocess
@@ -11,8 +11,8 @@ from protocol import read_commands
 
 LINES = 100_000
 COLUMNS, ROWS = 59, 16  # so 51 cells for a line
-MARKED, FOUND = "\x1b[7mfrog\x1b[0m", "\x1b[4;7mfrog\x1b[0m"  # as tmux tells a match, and the one gone to
-# What a key is answered by at most, but for those that ask for all matches: a pattern, a replacement and its undo.
+MARKED, FOUND = "\x1b[7mfrog\x1b[0m", "\x1b[4;7mfrog\x1b[0m"  # how tmux shows a match, and the current one
+# The limit for each key, except those that request all matches: a pattern, a replacement and its undo.
 MOST_COMMANDS, MOST_BYTES = 6, 2_000
 
 
@@ -21,7 +21,7 @@ def line(number):
 
 
 class Tmux:
-    """The pane in a window of tmux, over a program whose commands and replies are kept in files."""
+    """The pane in a window of tmux, with a program whose commands and replies are stored in files."""
 
     def __init__(self, text):
         self.socket, self.path = os.path.join(ROOM, "tmux"), os.path.join(ROOM, "large")
@@ -43,11 +43,11 @@ class Tmux:
         return subprocess.run(words, env=environment, **files).stdout.decode()
 
     def rows(self):
-        """What is on the screen; `\\x1b[7m` and `\\x1b[4m` stand before what is in reverse video and underlined."""
+        """The text on the screen; `\\x1b[7m` and `\\x1b[4m` start reverse video and underlining."""
         return self.ask("capture-pane", "-p", "-e").split("\n")
 
     def lacks(self, wanted):
-        """What of the wanted texts, each by the number of its row, isn't on the screen, though it is waited for."""
+        """Which of the wanted texts, each by the number of its row, isn't on the screen after waiting for it."""
         end, rows = time.monotonic() + SECONDS, []
         while time.monotonic() < end:
             rows = self.rows() + [""] * ROWS
@@ -57,7 +57,7 @@ class Tmux:
         return [f"row {row} is {rows[row]!r}, without {text!r}" for row, text in wanted if text not in rows[row]]
 
     def asked(self, keys, *wanted):
-        """What isn't on the screen once keys are typed, or pasted."""
+        """What isn't on the screen after keys are typed, or pasted."""
         if isinstance(keys, str):
             self.ask("set-buffer", keys)
             self.ask("paste-buffer", "-p")
@@ -66,7 +66,7 @@ class Tmux:
         return [f"after {keys}: {wrong}" for wrong in self.lacks(wanted)]
 
     def sizes(self):
-        """How many commands were sent, and how many bytes were told."""
+        """The number of commands that were sent, and of bytes that were received."""
         with open(self.sent, "rb") as file:
             return len(read_commands(file.read())[0]), os.path.getsize(self.told)
 
@@ -74,7 +74,7 @@ class Tmux:
         return tuple(map(int, self.ask("display-message", "-p", "#{cursor_x} #{cursor_y}").split()))
 
     def ended(self):
-        """What tmux says once its one window has been closed, which it waits for."""
+        """The message of tmux once its only window is closed, after waiting for it."""
         end = time.monotonic() + SECONDS
         while time.monotonic() < end and not self.ask("has-session"):
             time.sleep(0.02)
@@ -90,7 +90,7 @@ def wrong_file(path, text):
 
 
 def wrong_answers(tmux, steps):
-    """What isn't shown after keys, or took more commands or bytes than it may."""
+    """What isn't shown after keys, or took more commands or bytes than allowed."""
     for keys, *wanted in steps:
         commands, told = tmux.sizes()
         yield from tmux.asked(keys, *wanted)

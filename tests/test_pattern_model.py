@@ -1,6 +1,6 @@
-"""The model's reader of patterns, tests/pattern_model.py, held against all that is told of patterns elsewhere, against
-its own spelling of the trees that it reads, and against bin/search-driver, over texts at random of which about half are
-patterns: the tree, the weight, and what is found.
+"""The model's parser of patterns, tests/pattern_model.py, compared with everything listed elsewhere about patterns,
+with its own spelling of the trees that it parses, and with bin/search-driver, over random texts about half of which are
+patterns: the tree, the weight, and the matches.
 """
 import itertools
 import random
@@ -18,13 +18,13 @@ from test_searches import VECTORS, listed
 from walks import Empty, Group, Look, Repeat, Search, Set, below, spelled
 
 MANGLED, FOUND_IN_MANGLED = 4_000, 1_000
-# What a text is mangled with: all that has a meaning in some pattern, and what has none.
+# The characters for mangling a text: all that have a meaning in some pattern, and some without one.
 MARKS = [
     *"\\.+*?()|[]{}^$-&~,:<>=!#/ \n\r", *"imsUxPpdDsSwWbBAzqnrtaku019_é🐸ſ",
     "(?", "(?:", "(?i)", "(?-i)", "(?m:", "(?sU-i:", "(?P<a>", "(?<b>", "\\x", "\\x{", "\\u{e9}", "\\x41", "\\u212a", "\\d",
     "[^", "[]", "[^]", "[-", "-]", "&&", "--", "~~", "a-z", "{2}", "{1,}", "{0,2}", "{3,1}", "{,2}", "{65535}", "*?", "+?",
 ]
-# What has so many ranges as the version of Unicode says.
+# The number of its ranges depends on the version of Unicode.
 LETTER_CLASS = re.compile(r"\\[dwDW]")
 LOOKS_OF_PAGE = {"\\A": "Start", "^": "Start", "\\z": "End", "$": "End", "(?m:^)": "StartLine", "(?m:$)": "EndLine"}
 LOOKS_OF_PAGE.update({"\\b": "WordUnicode", "\\B": "WordUnicodeNegate"})
@@ -48,13 +48,13 @@ def written(tree):
 
 
 def spelling(pattern):
-    """What the model says that a pattern spells."""
+    """The model's result for a pattern."""
     tree = tree_of(pattern)
     return tree and written(tree)
 
 
 def wrong_rows():
-    """What the model reads otherwise than is told."""
+    """Rows that the model parses differently."""
     for pattern, settings, due in examples() + [(pattern, Settings(), tree) for pattern, tree in TREES]:
         found = spelling(pattern)
         if settings == Settings() and found != (None if due == "outside" else due):
@@ -72,7 +72,7 @@ def wrong_rows():
 
 
 def wrong_reasons():
-    """What the model refuses otherwise, where patterns are long, deep or heavy."""
+    """Patterns that are long, deep or heavy, and that the model refuses differently."""
     for pattern, settings, due in LARGE:
         refused = b"limit" if due == TOO_LONG else b"pattern" if due in (TOO_DEEP, OUTSIDE) else None
         found = refused_pattern(pattern)
@@ -85,7 +85,7 @@ def wrong_reasons():
 
 
 def wrong_searches():
-    """What is found otherwise than is told, here and by Python's `re`, of patterns that the model reads."""
+    """Patterns whose matches by the model differ from those listed here and from those of Python's `re`."""
     table = [(row["pattern"], row["haystack"], listed(row["matches"])) for row in rows()]
     for pattern, haystack, due, *how in VECTORS + table:
         is_known = how[1:] in ([], [False]) and not (how and isinstance(how[0][2], int) and how[0][2] > 1)
@@ -96,7 +96,7 @@ def wrong_searches():
 
 
 def mangled(chance, maker):
-    """A text that may be a pattern: one that is, with some of it lost, doubled or put in."""
+    """A text that may be a pattern: a pattern with some of it removed, doubled or inserted."""
     pick = chance.random()
     text = spelled(maker.tree()) if pick < 0.4 else chance.choice(PATTERNS + REFUSED_PATTERNS) if pick < 0.7 else ""
     if not text:
@@ -110,7 +110,8 @@ def mangled(chance, maker):
 
 
 def wrong_trees(texts):
-    """Where the program reads a text otherwise than the model, or weighs it otherwise, though it has no letter class."""
+    """Texts for which the program has another tree than the model, or another weight, though there is no letter
+    class."""
     told, wrong = answers([about("parse", text) for text in texts])
     weighed, more_wrong = answers([about("weigh", text) for text in texts])
     for text, answer, weight in zip(texts, told, weighed):
@@ -124,7 +125,7 @@ def wrong_trees(texts):
 
 
 def searches_for(chance, maker, texts):
-    """Searches for texts that are patterns of no great weight."""
+    """Searches for texts that are patterns of small weight."""
     for text in texts:
         tree = tree_of(text)
         if tree and pattern_weight(text) < 3_000:

@@ -1,5 +1,5 @@
-"""What patterns spell, on bin/search-driver: the examples of docs/patterns.md and more of them, what patterns weigh,
-which are refused and why, and that each refused request for memory is told."""
+"""The trees of patterns, on bin/search-driver: the examples of docs/patterns.md and more of them, the weights of
+patterns, which are refused and why, and that each refused request for memory is reported."""
 import re
 
 from driver import OUTSIDE, PATTERN_WANT, TOO_DEEP, TOO_LONG, Settings, about, answers, check_memory, problems, search
@@ -13,7 +13,7 @@ NODE = re.compile(
 )
 PART = re.compile(r"Properties \{ extent: (\d+), weight: (\d+), size: (\d+), may_be_empty: (\w+), static_groups: [^}]+ \}")
 
-# What patterns spell, known from the grammar of `regex-syntax` with Unicode on, as docs/patterns.md writes it.
+# The trees of patterns, known from the grammar of `regex-syntax` with Unicode on, in the notation of docs/patterns.md.
 TREES = [
     ("a", "Set(a)"),
     ("a|", "Alternation(Set(a), Empty)"),
@@ -69,7 +69,7 @@ TREES = [
     ("\\u212a", "Set(U+212A)"),
     ("\\u{10FFFF}", "Set(U+10FFFF)"),
 ]
-# The same under settings.
+# The same with settings.
 TREES_UNDER = [
     (".", Settings("i", no_dot=ord("k")), "Set(U+0000-j, l-U+10FFFF)"),
     ("(?s).", Settings(no_dot=0x80), "Set(U+0000-U+10FFFF)"),
@@ -89,7 +89,7 @@ REFUSED += [
     "\\U00000041", "\\u{D800}", "[a-\\d]", "(?<name>a)(?<name>b)", "\\x{110000}",
 ]
 
-# How many nodes a tree has, or why there is none, where it is deep or long.
+# The number of nodes of a tree, or why there is none, for deep and long patterns.
 LARGE = [
     ("(" * 250 + "a" + ")" * 250, Settings(), 251),
     ("(" * 251 + "a" + ")" * 251, Settings(), TOO_DEEP),
@@ -107,8 +107,8 @@ LARGE = [
     ("(?P<a>(?i)[a-z]+|\\w{2,3}?)(b)", Settings(), 9),
 ]
 
-MOST = 2**64 - 1  # what weighs or has more is told as this
-# What patterns weigh, or None where the version of Unicode tells it, and how many nodes their programs have.
+MOST = 2**64 - 1  # the answer for a greater weight or size
+# The weights of patterns, or None if that depends on the version of Unicode, and the number of nodes of their programs.
 WEIGHTS = [
     ("", 4, 1),
     ("a", 5, 1),
@@ -146,7 +146,7 @@ WEIGHTS = [
     ("(?:a{65535}{65535}{65535}{65535}){0}", 4, 1),
 ]
 
-# What is known of each part of a tree: its extent, weight and size, and whether it may be empty.
+# The properties of each part of a tree: its extent, weight and size, and whether it may be empty.
 PARTS = [
     ("a*", [(1, 2, 1, False), (2, 3, 2, True)]),
     (
@@ -177,8 +177,8 @@ IN_NEED = [
 ]
 
 
-LITERAL = "".join(map(chr, range(0x80))) + "é🐸"  # a text with every sign that means something in patterns
-# What patterns to write find in a text, as what is tried means in other dialects.
+LITERAL = "".join(map(chr, range(0x80))) + "é🐸"  # a text with every character that has a meaning in patterns
+# The matches in a text of the suggested patterns, as the tried ones mean in other dialects.
 MEANT = [
     (r"[^\W\d_]", "aé1_ 漢", "0-1 1-3 6-9"),
     (r"[ \t]", "a \t\n", "1-2 2-3"),
@@ -204,7 +204,7 @@ MEANT = [
 
 
 def set_of(ranges):
-    """A set as the page writes it, of ranges of scalar values, which are numbered without surrogates."""
+    """A set in the notation of the page, from ranges of scalar values, which are numbered without surrogates."""
 
     def character(number):
         code = int(number) + (0x800 if int(number) >= 0xD800 else 0)
@@ -218,7 +218,7 @@ def set_of(ranges):
 
 
 def tree_of(out):
-    """A tree as the page writes it, from the nodes that bin/search-driver writes, each after those below it."""
+    """A tree in the notation of the page, from the nodes that bin/search-driver writes, each after those below it."""
     trees = []
     for node in NODE.finditer(out):
         below = int(node["count"] or (1 if node["number"] or node["min"] else 0))
@@ -238,14 +238,14 @@ def tree_of(out):
 
 
 def examples():
-    """The rows of the page, each as a pattern and its tree, or None where it is outside the grammar."""
+    """The rows of the page, each as a pattern and its tree, or None if it is outside the grammar."""
     rows = example_rows("patterns.md", r"\| (?:`(.+)`|nothing) \| (?:`(.+)`|outside) \|")
     return [((row[1] or "").replace("\\|", "|"), Settings(), row[2]) for row in rows]
 
 
 def tried():
-    """The rows of the page on other dialects: the patterns that are tried, what they spell here, None for what is
-    refused, and the patterns to write in their place."""
+    """The rows of the page on other dialects: the patterns that are tried, their trees here, None for what is refused,
+    and the suggested patterns."""
     found = []
     for row in example_rows("patterns.md", r"\| (`.+`) \| (refused|`.+`) \| (.+) \|", "What other dialects have"):
         cells = [re.findall("`(.+?)`", cell.replace("\\|", "|")) for cell in row.groups()]
@@ -254,8 +254,8 @@ def tried():
 
 
 def wrong_advice():
-    """What is wrong with the patterns to write: each has to be one, and those of MEANT find what the tried ones mean
-    elsewhere."""
+    """What is wrong with the suggested patterns: each has to be a pattern, and the matches of those in MEANT are those
+    of the tried ones in other dialects."""
     advised = [pattern for _, _, instead in tried() for pattern in instead]
     told, wrong = answers([about("parse", pattern) for pattern in advised])
     wrong += [f"{pattern!r} is refused" for pattern, answer in zip(advised, told) if answer == OUTSIDE]
@@ -267,7 +267,7 @@ def wrong_advice():
 
 
 def wrong_trees(rows):
-    """What is wrong with the trees of patterns, of which each row has the settings and the tree, or None."""
+    """What is wrong with the trees of patterns; each row has the settings and the tree, or None."""
     told, wrong = answers([about("parse", pattern, settings=settings) for pattern, settings, _ in rows])
     for (pattern, settings, tree), answer in zip(rows, told):
         found = tree_of(answer) if answer != OUTSIDE else None
@@ -277,7 +277,7 @@ def wrong_trees(rows):
 
 
 def wrong_parts():
-    """What is wrong with what is known of the parts of trees."""
+    """What is wrong with the properties of the parts of trees."""
     rows = PARTS + EMPTY_PARTS
     told, wrong = answers([about("parse", pattern) for pattern, _ in rows])
     for (pattern, parts), answer in zip(rows, told):
@@ -292,7 +292,7 @@ def wrong_parts():
 
 
 def wrong_sizes():
-    """What is wrong with how many nodes trees have, or why there is none."""
+    """What is wrong with the numbers of nodes of trees, or with why there is none."""
     told, wrong = answers([about("weigh", pattern, settings=settings) for pattern, settings, _ in LARGE])
     for (pattern, settings, due), answer in zip(LARGE, told):
         if answer != due and answer.split(" ")[0] != str(due):

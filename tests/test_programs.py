@@ -1,13 +1,13 @@
-"""The programs of patterns, on bin/search-driver: their states, the limits that they are above, and that each refused
-request for memory is told."""
+"""The programs of patterns, on bin/search-driver: their states, the limits that they exceed, and that each refused
+request for memory is reported."""
 import re
 
 from driver import OUTSIDE, PROGRAM_WANT, TOO_DEEP, Settings, about, answers, check_memory
 from harness import short, test
 from memory import library
 
-# The states of patterns, by the table of programs: notes of slots (@), sets with the number of their ranges, forks (|),
-# looks, the end, and `-` for a state that does nothing; each with the numbers of the states that it leads to.
+# The states of patterns, in the program's table: notes of slots (@), sets with the number of their ranges, forks (|),
+# assertions, the end, and `-` for a state that does nothing; each with the numbers of its next states.
 STATES = [
     ("", "@0 1, - 2, @1 3, end 0"),
     ("[ac]", "@0 1, set2 2, @1 3, end 0"),
@@ -28,7 +28,7 @@ STATES = [
     ("(?:ab|c)+", "@0 1, | 2 4, set1 3, set1 5, set1 5, | 1 6, @1 7, end 0"),
 ]
 
-# The least limits under which patterns are compiled, and how many states they then have.
+# The least limits with which patterns are compiled, and their numbers of states.
 LEAST_LIMITS = [
     ("", 160, 4),
     ("a", 200, 4),
@@ -39,12 +39,12 @@ LEAST_LIMITS = [
     ("a{65535}{65535}{0}", 160, 4),
     ("^a{65535}a{65535}", 10_485_760, 131_074),
 ]
-HIGHEST = 85_899_345_840  # the limit where none is told: what weighs 2,147,483,646
-# Patterns, limits (None: no limit is told), and how many states there are, or the limit that the pattern is above.
+HIGHEST = 85_899_345_840  # the limit if none is given: a weight of 2,147,483,646
+# Patterns, limits (None: no limit is given), and the number of states, or the limit that the pattern exceeds.
 LIMITS = [
     ("a{65535}{65535}", None, f"above {HIGHEST}"),
     ("a{65535}", None, "65538"),
-    # As large as can be: the weight is far above any limit, and is held.
+    # The greatest possible weight: it is far above any limit, and saturates.
     ("a" + "{65535}" * 200, 0, "above 0"),
     ("a" + "{65535}" * 200, 2**64 - 1, f"above {2**64 - 1}"),
     ("a" + "{65535}" * 200, None, f"above {HIGHEST}"),
@@ -53,7 +53,7 @@ LIMITS = [
     ("(" * 251 + ")" * 251, None, TOO_DEEP),
 ]
 
-# Patterns whose states share an automaton exactly where they read characters of one set.
+# Patterns whose states share an automaton exactly if they read characters of one set.
 SHARING = "cabz[a-c]\\wbZ\\W[c]a[a-b]za.\\w[a-c]"
 MANY_LETTERS = "(?:\\w{1,50} ){1,20}"
 
@@ -72,7 +72,7 @@ def wrong_states():
 
 
 def limits():
-    """Each least limit, one that is one less, and the limits that are told; of programs, how many states they have."""
+    """Each least limit, one that is one less, and the limits listed here; for programs, the number of states."""
     for pattern, limit, count in LEAST_LIMITS:
         yield about("compile", pattern, str(count), Settings(), limit)
         yield about("compile", pattern, f"above {limit - 1}", Settings(), limit - 1)
@@ -81,7 +81,7 @@ def limits():
 
 
 def wrong_limits(cases):
-    """What is wrong with the answers to these cases, where the states of a program are counted."""
+    """What is wrong with the answers to these cases, in which the states of a program are counted."""
     told, wrong = answers(cases)
     for case, answer in zip(cases, told):
         found = str(len(answer.split(", "))) if answer.startswith("@") else answer
@@ -91,7 +91,7 @@ def wrong_limits(cases):
 
 
 def wrong_sharing():
-    """What is wrong with which states share an automaton, in a row of sets, and where each set stands often."""
+    """What is wrong with which states share an automaton, in a sequence of sets with each set several times."""
     cases = [about("parse", SHARING), about("compile", SHARING), about("compile", MANY_LETTERS)]
     (tree, states, many), wrong = answers(cases)
     sets = re.findall(r"Set\(CharacterSet \{ ranges: \[(.*?)\] \}\)", tree)

@@ -1,10 +1,10 @@
-"""Memory refused to bin/rope-search in every worked input: each of its requests, alone and with all that follow it. A part
-of its own, since it takes as long as all else of test_memory.py, which says what has to hold."""
+"""Memory refused to bin/rope-search in every worked input: each of its requests, alone and with all later ones. A
+separate part, because it takes as long as the rest of test_memory.py, which defines what has to hold."""
 from memory import library
 from test_memory import check_refusals
 from test_replies import MORE_EXAMPLES, examples_of_page
 
-# An input that asks for memory more often, or has more bytes, is run with nothing refused.
+# An input with more requests for memory, or more bytes, is run with nothing refused.
 MOST, MOST_BYTES = 320, 3_100
 
 

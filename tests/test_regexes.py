@@ -1,9 +1,9 @@
-"""What a `Regex` and its iterators tell, on bin/search-driver, over haystacks in pieces and over parts of ropes whose
-leaves are given: all matches with their groups, where each call must tell the same, also with one cache and with
-clones; what `count` tells after some calls of `next`; and the parts between matches.
+"""A `Regex` and its iterators, on bin/search-driver, over haystacks in chunks and over parts of ropes with given
+leaves: all matches with their groups, for which all calls must agree, also with one cache and with clones; the result
+of `count` after some calls of `next`; and the parts between matches.
 
-The answers are those of test_searches: of the table tests/searches.jsonl, told ones, and those of the model of
-tests/walks.py. How a rope is cut and where in it a part lies changes none of them.
+The expected answers are those of test_searches: of the table tests/searches.jsonl, listed ones, and those of the model
+of tests/walks.py. How a rope is split and where in it a part is changes none of them.
 """
 import itertools
 import json
@@ -20,15 +20,15 @@ from walks import Alternation, Concat, Look, Search, spelled
 
 RANDOM_CASES, TIMES = 700, 3_000
 
-# What stands before and behind a part of a rope. Parts may begin and end inside a CR LF.
+# The text before and after a part of a rope. Parts may begin and end inside a CR LF.
 AROUND = [("", ""), ("ab", ""), ("", "🐸x"), ("b\r", "\nb"), ("せ\n", "a"), ("aaaaaaa", "aaaaaaa")]
 
-# Weights of 262,144 and 262,145, of which the first is the most that a regex may have. An engine has no such limit.
+# Weights of 262,144 and 262,145; the first is the maximum of a regex. An engine has no such limit.
 HEAVY, TOO_HEAVY = "^a{65535}a{65535}", "^^a{65535}a{65535}"
 
 
 def leaves(text, counts):
-    """A cut of a text into leaves of so many characters, in turn; a CR LF counts as one."""
+    """A split of a text into leaves with these numbers of characters, in turn; a CR LF counts as one."""
     units, sizes = iter(re.findall("\r\n|.", text, re.DOTALL)), []
     for count in itertools.cycle(counts):
         leaf = "".join(itertools.islice(units, count))
@@ -38,8 +38,8 @@ def leaves(text, counts):
 
 
 def in_rope(word, pattern, text, answer, counts=(1,), asked=None, around=("", ""), at=None, count=None):
-    """A case about a part of a rope, and what stands around it, of a pattern or of a list of them. It may be about a
-    cursor that is made at a place, and has a number."""
+    """A case about a part of a rope, with the text around it, for a pattern or for a list of them. It may be about a
+    cursor that is created at an offset, and has a number."""
     whole, start = around[0] + text + around[1], len(around[0].encode())
     slice_, span, anchored = asked or ((None, None), (None, None), None)
     patterns = [pattern] if isinstance(pattern, str) else pattern
@@ -54,7 +54,7 @@ def in_rope(word, pattern, text, answer, counts=(1,), asked=None, around=("", ""
 
 
 def in_pieces(pattern, haystack, answer, cut, asked=None):
-    """A case about a haystack in pieces."""
+    """A case about a haystack in chunks."""
     case = search(pattern, haystack, answer, cut, asked)
     return Case(f"regex {case.name}", "regex" + case.line[len("search") :], answer)
 
@@ -65,7 +65,7 @@ def rows():
 
 
 def each_way(pattern, text, answer, asked=None, around=AROUND[0]):
-    """A search in pieces of one byte, in leaves of one character, and in a part of a rope of longer leaves."""
+    """A search in chunks of one byte, in leaves of one character, and in a part of a rope with longer leaves."""
     yield in_pieces(pattern, text.encode(), answer, 1, asked)
     yield in_rope("rope", pattern, text, answer, (1,), asked)
     yield in_rope("rope", pattern, text, answer, (2, 1, 3), asked, around)
@@ -77,7 +77,7 @@ def table():
 
 
 def vectors():
-    """The searches with told answers, under default settings, and how heavy a pattern may be."""
+    """The searches with listed answers, with default settings, and a pattern within the limit on weight."""
     for (pattern, haystack, answer, *how), around in zip(VECTORS + EXTREMES, itertools.cycle(AROUND)):
         if how[1:] in ([], [False]):
             yield from each_way(pattern, haystack, answer, *how[:1], around=around)
@@ -112,8 +112,8 @@ def at_random(count=RANDOM_CASES):
 
 
 def from_places(count=120):
-    """Searches with a cursor that is made at a place: those that ask for the whole content, and those that ask for
-    nothing, which begin where the piece does that holds the place."""
+    """Searches with a cursor that is created at an offset: those of the whole haystack, and those without a span, which
+    begin at the start of the chunk that contains the offset."""
     chance = random.Random(16)
     for tree, text in texts_at_random(chance, count):
         length = len(text.encode())
@@ -127,14 +127,14 @@ def from_places(count=120):
 
 
 def often():
-    """One cache serves search after search."""
+    """One cache is used for search after search."""
     for row in rows()[::40]:
         yield in_rope("rope", row["pattern"], row["haystack"], listed(row["matches"]), (2,), count=TIMES)
 
 
 def at_the_end(count=250):
-    """Patterns of which all matches end at the slice's end, or nearly all: one cache serves so many searches that they
-    are looked for back from there, and where groups are told, between where a match starts and where it ends."""
+    """Patterns whose matches all end at the slice's end, or nearly all: one cache is used for so many searches that
+    they search backward from there, and if groups are requested, between where a match starts and where it ends."""
     chance = random.Random(18)
     for tree, text in texts_at_random(chance, count):
         last = Look(chance.choice(("$", "$", "\\z", "(?m:$)")))
@@ -149,7 +149,8 @@ def at_the_end(count=250):
 
 
 def counted():
-    """So many calls of `next`, and then `count`, of both iterators. What is over gives no more."""
+    """This number of calls of `next`, and then `count`, of both iterators. An iterator that has ended yields no
+    more."""
     for row in rows()[::4]:
         total = len(row["matches"])
         for calls in sorted({0, 1, total // 2, total, total + 2}):
@@ -158,7 +159,7 @@ def counted():
 
 
 def parts(matches, end, limit=None):
-    """The parts between matches, up to this end: at most so many, of which the last one goes there."""
+    """The parts between matches, up to this end: at most this number, the last of which goes to the end."""
     starts, ends = [0], []
     for match in matches if limit is None else matches[: max(limit - 1, 0)]:
         ends.append(match[0][0])
@@ -189,7 +190,8 @@ def split():
         yield in_rope("split", spelled(tree), text, answer, (1, 2), asked, chance.choice(AROUND), None, limit)
 
 
-# Each has its requests for memory refused in turn. After each that comes in a search with a cache there is one more.
+# Each has its requests for memory refused in turn. After each request of a search with a cache there is one more
+# search.
 SEARCHED_AGAIN = [
     in_pieces("(a)|b", b"ab", "0-1,0-1 1-2,-", 1),
     in_rope("rope", "(?:([a-é]+?)|\\b){2}x?", "aé 🐸", "0-3,1-3", (1,), None, ("b", "c")),

@@ -1,4 +1,5 @@
-"""What make install and make release put down, from programs that were built, and the manual of the program beside docs/protocol.md."""
+"""The files that make install and make release write, from programs that were built, and the program's manual page
+compared with docs/protocol.md."""
 import glob
 import os
 import re
@@ -38,13 +39,13 @@ def read(*parts):
 
 
 def manual():
-    """What the manual says, without its macros."""
+    """The text of the manual, without its macros."""
     text = re.sub(r"(?m)^\\.\\\".*\n", "", read("docs", "rope-search.1"))
     return re.sub(r"(?m)^\.[A-Z]+ ?", "", text).replace('"', "").replace("\\-", "-")
 
 
 def wrong_manual():
-    """Each command, word of a refusal, status and message of the page must stand in the manual."""
+    """Each command, word of a refusal, status and message of the page must be in the manual."""
     page, told = read("docs", "protocol.md").partition("## Examples")[0], manual()
     words = set(re.findall(r"`error ([a-z0-9]+)`", page)) - {"command", "end"}
     words |= {word for row in re.findall(r"(?m)^\| (`[a-z][^|]*) \|", page) for word in re.findall(r"`([a-z]+)", row)}
@@ -53,7 +54,7 @@ def wrong_manual():
 
 
 def wrong_example():
-    """The line for a shell that the manual shows must be answered so."""
+    """The shell line in the manual must have the answer that it shows."""
     shown = re.search(r"(?s)\.EX\n(.*?)\.EE", read("docs", "rope-search.1"))[1].replace("\\e", "\\")
     line, *answers = shown.splitlines(True)
     told = subprocess.run(["sh", "-c", line.replace("| rope-search", f"| '{PROGRAM}'")], capture_output=True).stdout.decode()
@@ -61,7 +62,7 @@ def wrong_example():
 
 
 def laid_out_wrong():
-    """What groff has to say of the manual, where it is."""
+    """The messages of groff about the manual, if groff is installed."""
     if not shutil.which("groff"):
         return []
     done = subprocess.run(["groff", "-man", "-Tascii", "-ww", os.path.join(TOP, "docs", "rope-search.1")], capture_output=True)
@@ -69,7 +70,7 @@ def laid_out_wrong():
 
 
 def made(*words):
-    """What make says of a target that takes what was built, which nothing builds anew."""
+    """The output of make for a target that uses what was built, without building anything."""
     old = [word for name in BUILT for word in ("-o", f"bin/{name}")]
     return subprocess.run(["make", "--no-print-directory", *old, "-C", TOP, *words], capture_output=True, text=True)
 
@@ -84,15 +85,15 @@ def wrong_server(top):
 
 
 def wrong_session(modules):
-    """The module for Python must find the library from the folder that it lies in."""
+    """The module for Python must find the library from its own folder."""
     ended = subprocess.run([sys.executable, "-B", "-c", SESSION], cwd=modules, capture_output=True, text=True,
                            env={"PATH": os.environ["PATH"]})
     return [] if ended.stdout == "2\n" else [ended.stdout + ended.stderr]
 
 
 def wrong_packages(folder):
-    """The package for Rust must find the library from the folder that it lies in, the module for Node the program, and that
-    for the web its module of WebAssembly."""
+    """The package for Rust must find the library from its own folder, the module for Node the program, and that for the
+    web its module of WebAssembly."""
     wrong, node = [], newest_enough()
     if shutil.which("cargo"):
         wrong += wrong_in_rust(os.path.join(folder, "rust"), os.path.join(ROOM, "released-target"), PKG_CONFIG="/nowhere/it")
@@ -111,8 +112,8 @@ def wrong_packages(folder):
 
 
 def wrong_release():
-    """The archive, unpacked: its program answers, its modules find the library, its links lead, its demo and its language
-    server run."""
+    """The archive, unpacked: its program runs, its modules find the library, its links are right, its demo and its
+    language server run."""
     folder = os.path.join(ROOM, "released")
     os.mkdir(folder)
     done = made("release", f"RELEASES={folder}")

@@ -1,5 +1,5 @@
-"""What bin/rope-search answers: the examples of docs/protocol.md and longer ones, from a file, from a pipe
-in pieces, cut short, and command by command."""
+"""The replies of bin/rope-search: the examples of docs/protocol.md and longer ones, from a file, from a pipe in pieces,
+truncated, and command by command."""
 import os
 import random
 import re
@@ -12,7 +12,7 @@ from protocol import TEXT_LIMIT, answer, read_commands, replies, spelled
 
 
 def bytes_of(spelling):
-    """The bytes that a spelling of the page stands for: \\n, \\r and \\xHH are escapes."""
+    """The bytes of a spelling of the page: \\n, \\r and \\xHH are escapes."""
     return re.sub(
         r"\\(n|r|x[0-9a-f]{2})",
         lambda found: {"n": "\n", "r": "\r"}.get(found[1]) or chr(int(found[1][1:], 16)),
@@ -26,11 +26,11 @@ def examples_of_page():
     return [(bytes_of(row[1] or ""), bytes_of(row[2] or ""), int(row[3])) for row in rows]
 
 
-# What is outside the grammar; and what is a pattern, that matches nowhere in the empty text, or once.
+# Texts outside the grammar; and patterns that match nowhere in the empty text, or once.
 REFUSED_PATTERNS = ["\\", "+", "*", "?", "(", ")", "[", "{", "a{", "(b", "a)", "(?x)a", "(?=a)", "a{2,1}", "[b-a]", "\\q", "\\p{L}", "[a", "[[a]"]
 REFUSED_PATTERNS += ["a|*", "a{,2}", "a{65536}", "(?i)*", "(?)", "(?ii)", "(?P<n>a)(?<n>b)", "(a)\\1"]
 REFUSED_PATTERNS += ["\\<", "\\x{D800}", "[\\b]", "[]-a]"]
-# So are these of 65,536 bytes, which are as long as a pattern may be.
+# Also these of 65,536 bytes, the maximum length of a pattern.
 LONG_REFUSED = ["a" * 65_535 + "(", "(" * 65_536, "[" * 65_536, "a" + "*" * 65_535, "é" * 32_767 + "a)"]
 PATTERNS = ["]", "}", "-", "&", "a", " ", "\n", "é", "🐸", "]a}", ".", "a.", "a+", "[ab]", "(a)b", "\\w", "\\b", "a{2}"]
 EMPTY_PATTERNS = ["", "|", "^", "$", "a*", "a?", "()", "(?:a|b)*", "^$", "(?m)^$", "a{0}", "(?i)"]
@@ -43,14 +43,14 @@ def with_payload(word, text):
 
 
 def listed_after(patterns, reply, report):
-    """Patterns for the empty text, each with `list` after it."""
+    """Patterns for the empty text, each followed by `list`."""
     data = b"".join(with_payload("pattern", pattern) + b"list\n" for pattern in patterns)
     return data, (reply + report) * len(patterns), 0
 
 
 def long_lines(length):
-    """Four lines, of which the first and the last may lie across chunks, which have 984 bytes at most, and
-    what is listed of them under the pattern `éb`."""
+    """Four lines, the first and the last of which may span chunks, which have 984 bytes at most, and their list with
+    the pattern `éb`."""
     text = "a" * length + "éb\r\nébéb\r\r\n" + "é" * length + "b"
     places = [(0, length, length + 2), (1, 0, 2), (1, 2, 4), (3, length - 1, length + 1)]
     matches = b"".join(b"m %d %d %d\n" % place for place in places)
@@ -58,8 +58,8 @@ def long_lines(length):
 
 
 def replaced_in_chunks(step, template):
-    """A text of many chunks, with matches so many bytes apart and one from its third line to its fourth, and what it is
-    once a template takes the place of each, which names no group but 0."""
+    """A text with many chunks, with matches at this distance in bytes and one from its third line to its fourth, and
+    its result after a template that names only group 0 replaces each."""
     text = ("-" * (step - 1) + "x") * (4_000 // step) + "\r\n\nab\r" + "-" * 1_000 + "c"
     new = re.sub("x|b\r-*", lambda found: template.replace("$0", found[0]), text)
     commands = [("text", text), ("pattern", "x|b\\r-*"), ("replace", template)]
@@ -68,8 +68,8 @@ def replaced_in_chunks(step, template):
     return data + b"print\n", b"ok\nok\nok %d\ntext %d\n%b\n" % (count, len(new.encode()), new.encode()), 0
 
 
-# Of a row of letters `a` each is a match of these, and each search but the last ones reads on to the row's end; with a
-# template and what that then stands for, of each letter.
+# Patterns that match each letter of a run of `a`, and whose searches, except the last ones, read to the run's end; with
+# a template and its expansion for each letter.
 FAR_READING = [
     ("a*b|a", "$0", "a"),
     (".*?x|a", "<$0>", "<a>"),
@@ -81,8 +81,8 @@ FAR_READING = [
 
 
 def each_alone(count, pattern, template, new, letter="a"):
-    """A row of so many letters, each of which the pattern matches alone, listed, replaced, and listed when that is
-    undone."""
+    """A run of this number of letters, each of which the pattern matches separately: listed, replaced, and listed after
+    that is undone."""
     data = with_payload("text", letter * count) + with_payload("pattern", pattern) + b"list\n"
     data += with_payload("replace", template) + b"print\nundo\nlist\n"
     text = new.encode() * count
@@ -196,7 +196,7 @@ MORE_EXAMPLES = [
     (b"text 5\nlist\npattern 5\nlist\nlist\n", b"ok\nok\nok 0\n", 0),
     (b"text 9000\n" + b"print\n" * 1500 + b"print\n", b"ok\ntext 9000\n" + b"print\n" * 1500 + b"\n", 0),
     (b"text 9001\n" + b"print\n" * 1500 + b"\xff" + b"print\n", b"error utf8\ntext 0\n\n", 0),
-    # what is a pattern, and what is left of the one before
+    # patterns, and the state after the one before
     listed_after(REFUSED_PATTERNS, b"error pattern\n", b"error none\n"),
     listed_after(LONG_REFUSED, b"error pattern\n", b"error none\n"),
     listed_after(PATTERNS, b"ok\n", b"ok 0\n"),
@@ -214,7 +214,7 @@ MORE_EXAMPLES = [
     (b"pattern 1401\na" + b"{65535}" * 200 + b"list\n", b"error limit\nerror none\n", 0),
     (b"pattern 18\na{65535}{65535}{0}", b"ok\n", 0),
     (b"pattern 17\n^a{65535}a{65535}pattern 18\n^^a{65535}a{65535}", b"ok\nerror limit\n", 0),
-    # searches that read on to the end
+    # searches that read to the end
     *[each_alone(12, *row) for row in FAR_READING],
     each_alone(12, "é*b|é", "$0x", "éx", "é"),
     (b"text 9\naaaaaaaaapattern 4\na*b|list\nreplace 1\n-print\n",
@@ -233,7 +233,7 @@ MORE_EXAMPLES = [
      + b"list\noff\nlist\noff\n",
      b"ok\nok\nm 0 0 1\nm 1 1 2\nok 2\nok 1\nok\nerror none\nok\nerror pattern\nok\n"
      + b"m 0 0 1\nok 1\nok\nerror none\nok\n", 0),
-    # where a CR and an LF meet, and are apart again
+    # where a CR and an LF meet, and are separate again
     (b"text 5\nx\rb\nypattern 1\nyedit 1 0 1 1 0\nundo\nlist\nredo\nlist\n",
      b"ok\nok\nok\nok\nm 2 0 1\nok 1\nok\nm 1 0 1\nok 1\n", 0),
     (b"text 3\nx\rypattern 1\nyedit 1 0 1 0 1\n\nundo\nlist\nredo\nlist\n",
@@ -291,7 +291,7 @@ MORE_EXAMPLES = [
      b"m 8 0 0\nm 9 0 0\nok 10\ntext 14\n\nb\n\r\n\n\r\nb\nb\n\n\n\n", 0),
     # matches over chunks of 984 bytes, many in one, few in many, and a new text of one chunk or of many
     *[replaced_in_chunks(step, template) for step in (1, 30, 4_000) for template in ("", "y", "$0$0", "é\r\n" * 10)],
-    # positions that are nowhere: inside the frog's pair, between CR and LF, behind a line's text, past the last
+    # positions that are nowhere: inside the frog's pair, between CR and LF, after a line's text, past the last
     (with_payload("text", TEXT) + b"".join(b"edit %d %d %d %d 1\nx" % (place * 2) for place in NOWHERE) + b"undo\n",
      b"ok\n" + b"error range\n" * len(NOWHERE) + b"error none\n", 0),
 ]
@@ -304,7 +304,7 @@ def pieces(data, out, status):
 
 
 def cuts(data):
-    """The input cut after each of its bytes, by the model."""
+    """The input truncated after each of its bytes, by the model."""
     for length in range(len(data)):
         out, status = answer(data[:length])
         for wrong in differences(run(data[:length]), out, status):
@@ -326,7 +326,7 @@ def test_examples(examples):
 
 
 def counts_of(text, pattern, template):
-    """How many matches of a pattern are listed, and how many are replaced, in a text; none where that isn't answered."""
+    """How many matches of a pattern are listed, and how many are replaced, in a text; none if that has no answer."""
     commands = with_payload("text", text) + with_payload("pattern", pattern)
     told = run(commands + b"list\n" + with_payload("replace", template)).out
     return [int(count) for count in re.findall(rb"^ok (\d+)$", told, re.MULTILINE)]
@@ -354,7 +354,7 @@ def test_ample_memory():
     test("the first session a thousand times over", differences(run(FIRST * 1_000), answer(FIRST)[0] * 1_000, 0))
 
 
-# Patterns whose matches begin with literals, or with none that is known; each with what is put into lines.
+# Patterns whose matches begin with literals, or with none that is known; each with the text to insert into lines.
 BEGINNINGS = [
     ("xyz", "xyz"), ("xyz+", "xyzz"), ("^xyz", "xyz"), ("xyz$", "xyz"), ("(?m)^xyz$", "xyz"), ("\\bxy(z)?", "xy"),
     ("xy|xyz", "xyz"), ("xyz|abc", "abcxyz"), ("(?i)xYz", "XyZ"), ("é🐸.", "é🐸é"), ("x\\ny", "x\ny"), ("x[^a]?", "x\r\ny"),
@@ -363,8 +363,8 @@ BEGINNINGS = [
 
 
 def literals_at_seams():
-    """Commands over texts of several chunks, of which the first ends before, in and behind a literal and a break
-    beside it: the lines before are passed over, and the one with the literal isn't."""
+    """Commands over texts with several chunks, the first of which ends before, in and after a literal and a break next
+    to it: the lines before are skipped, and the one with the literal isn't."""
     for ending in ("\n", "\r\n", "\r"):
         data = with_payload("pattern", "xyz")
         for at in range(976, 988):
@@ -376,8 +376,9 @@ def literals_at_seams():
 
 
 def lines_far_apart():
-    """Commands over texts of some thousand lines, for each of these patterns: what its matches begin with lies in each
-    line, in few of them or in none, over the ends of chunks and of lines, and lines come and go."""
+    """Commands over texts with some thousand lines, for each of these patterns: the literal that its matches begin with
+    is in each line, in few of them or in none, across the ends of chunks and of lines, and lines are added and
+    removed."""
     maker = random.Random(41)
     for number, (pattern, literal) in enumerate(BEGINNINGS):
         for gap in (1, 12, 300, 5_000):
@@ -401,9 +402,9 @@ def test_lines_far_apart():
         test(name, differences(run(data), *answer(data)))
 
 
-READ, WRITTEN = 4_096, 65_536  # the most bytes that a read asks for, and that wait to be written
-# What lies at the end of the first read, at each place: lines, payloads, breaks and characters, and lines as long as one
-# may be and longer.
+READ, WRITTEN = 4_096, 65_536  # the maximum number of bytes that a read requests, and that are buffered for writing
+# The bytes at the end of the first read, at each offset: lines, payloads, breaks and characters, and lines as long as
+# allowed and longer.
 AT_THE_END = [
     with_payload("text", "é\r\n🐸\r") + b"print\n" + with_payload("pattern", "🐸|\\r") + b"list\nedit 1 0 1 2 2\n\xc3\xa9list\n",
     b"text 5\na\xff\xc3\r\nedit 0 0 0 0 2\n\xf0\x9fprint\njump\n",
@@ -413,7 +414,7 @@ AT_THE_END = [
 
 
 def at_ends_of_reads():
-    """Inputs whose first read ends at each place of these."""
+    """Inputs whose first read ends at each offset of these."""
     for last in AT_THE_END:
         for before in range(len(last) + 1):
             filling = "a" * (READ - before - len(b"text 4000\n"))
@@ -421,7 +422,7 @@ def at_ends_of_reads():
 
 
 def at_ends_of_writes():
-    """Inputs whose replies fill what waits to be written once and twice, up to each of some places."""
+    """Inputs whose replies fill the write buffer once and twice, up to each of some offsets."""
     for length in (*range(WRITTEN - 24, WRITTEN + 3), *range(2 * WRITTEN - 24, 2 * WRITTEN + 3)):
         yield with_payload("text", "a" * length) + b"print\nprint\nuse 0\nuse 9\n"
     for count in range(3):
@@ -439,7 +440,7 @@ def test_at_ends():
     test("replies at places where what waits to be written is full", wrong_at_ends(at_ends_of_writes()))
 
 
-# Patterns as long, as deep and as heavy as they may be, with what is listed of them in the text `x`.
+# Patterns as long, as deep and as heavy as allowed, with their list in the text `x`.
 START, END, WHOLE = b"m 0 0 0\n", b"m 0 1 1\n", b"m 0 0 1\n"
 LARGE = [
     ("()" * 32_768, [START, END]),
@@ -472,8 +473,8 @@ LETTERS = 1_000_000
 
 
 def test_far_reading():
-    """A megabyte of letters, each of which is a match of a pattern whose searches read on to the end, as one line and as
-    a whole text; and two such lines, of which one is edited."""
+    """A megabyte of letters, each of which is a match of a pattern whose searches read to the end, as one line and as a
+    whole text; and two such lines, one of which is edited."""
     for row in FAR_READING:
         data, out, status = each_alone(LETTERS, *row)
         test(f"a megabyte of letters, each of which {row[0]} matches alone", differences(run(data), out, status))
@@ -485,8 +486,8 @@ def test_far_reading():
 
 
 def read_past(line, before=b""):
-    """A command line, the number of which is a payload one byte over the limit, and `print`: they lie in a file with a
-    hole. Answers the run."""
+    """A command line whose number is that of a payload one byte over the limit, and `print`, in a sparse file. Returns
+    the run."""
     line %= TEXT_LIMIT + 1
     with tempfile.TemporaryFile(dir=ROOM) as given:
         given.write(before + line)
@@ -498,7 +499,7 @@ def read_past(line, before=b""):
 
 
 def test_long_text():
-    """A text one byte over the limit is read past and refused, and so is a template; and a text that would be too long
+    """A text one byte over the limit is skipped and refused, and so is a template; and a text that would be too long
     with all its matches replaced."""
     for name, line in (("a text", b"text %d\n"), ("an edit", b"edit 0 0 0 0 %d\n")):
         test(f"{name} one byte over the limit", differences(read_past(line), b"error size\ntext 0\n\n", 0))

@@ -1,5 +1,6 @@
-"""Programs turned round, as bin/search-driver tells them: their nodes are those of the programs, walked back, and their
-walks over bytes, from the end of each span, come to the starts that the model finds. Each refused request is told."""
+"""Reversed programs, as bin/search-driver prints them: their nodes are those of the programs, followed backward, and
+their walks over bytes, from the end of each span, reach the starts that the model finds. Each refused request is
+reported."""
 import itertools
 import re
 
@@ -11,11 +12,11 @@ from walks import LOOKS, Alternation, Concat, Group, Look, Repeat, Search, Set, 
 LOOK_SIGNS = {"^": "\\A", "$": "\\z", "m^": "(?m:^)", "m$": "(?m:$)", "b": "\\b", "B": "\\B"}
 
 
-# ---- what is told
+# ---- the answers
 
 
 class Turned:
-    """A program turned round, as it is told: the starts, the states, and the automata by the first state with each."""
+    """A reversed program as it is printed: the starts, the states, and the automata by the first state with each."""
 
     def __init__(self, told):
         states, *automata = told.split("; ")
@@ -38,14 +39,14 @@ class Turned:
         }
 
     def step(self, number, state, byte):
-        """Whether a byte is read on from a state of a node's automaton, and where it leads."""
+        """Whether a byte is read from a state of a node's automaton, and where it leads."""
         row = self.automata[int(self.states[number][1][0])][state]
         return byte in row, row.get(byte)
 
 
 def nodes_back(states):
-    """The states of a program turned round, by the rules, of the forward program's states as they are told. Reads share
-    an automaton where those of the program do."""
+    """The states of a reversed program, by the rules, from the printed states of the forward program. States that read
+    share an automaton if those of the program do."""
     count, arrivals, edges = len(states), [[] for _ in states], []
     for number, state in enumerate(states):
         kind, *rest = state.split()
@@ -70,11 +71,11 @@ def edges_of(kind, rest):
     return [int(rest[-1])] if kind.startswith("set") else list(map(int, rest))
 
 
-# ---- walks back
+# ---- backward walks
 
 
 def starts_back(turned, search):
-    """The places to which walks lead back over bytes from the span's end."""
+    """The offsets that walks reach backward over bytes from the span's end."""
     found, seen, left = set(), set(), [(turned.start, 0, search.span[1])]
     if not search.low <= search.span[1] <= search.high:
         return found
@@ -103,7 +104,7 @@ def read_back(turned, search, number, state, place):
     return [(int(turned.states[number][1][1]), 0, place - 1) if further is None else (number, further, place - 1)]
 
 
-# ---- patterns and contents
+# ---- patterns and haystacks
 
 
 def letter(text):
@@ -111,7 +112,7 @@ def letter(text):
 
 
 def several():
-    """Trees with looks, groups, loops of what may be empty, and characters of one to four bytes."""
+    """Trees with assertions, groups, loops of what may be empty, and characters of one to four bytes."""
     a, b, wide = letter("a"), letter("b"), letter("é")
     three, four = letter("\u20ac"), letter("\U0001f600")
     dot = Set(".", lambda character: character != "\n")
@@ -133,14 +134,14 @@ CONTENTS = [
 
 
 def spans(content):
-    """All spans of a content, in slices of it with and without its first and its last byte."""
+    """All spans of a haystack, in slices of it with and without its first and its last byte."""
     end = len(content)
     slices = [(start, last) for start in [0, 1] for last in [end - 1, end] if 0 <= start <= last]
     return itertools.product(slices, itertools.combinations_with_replacement(range(end + 1), 2))
 
 
 def wrong_walks(tree, turned):
-    """What is wrong with the walks back of a tree's program, in all spans and slices of the contents."""
+    """What is wrong with the backward walks of a tree's program, in all spans and slices of the haystacks."""
     for content in CONTENTS:
         for slice_, span in spans(content):
             for inside in [False, True]:

@@ -1,6 +1,6 @@
-"""What ropes answer, on bin/rope-driver, which reads rows, one a line: ropes that are made, looked into and edited.
+"""Ropes, on bin/rope-driver, which reads rows, one a line: ropes that are built, read and edited.
 
-What is due is told by the model of tests/rope_model.py, and where a value is known from outside, it stands here.
+The expected answers come from the model of tests/rope_model.py; values that are known from elsewhere are listed here.
 ROPE_DRIVER names another program than bin/rope-driver.
 """
 import itertools
@@ -12,8 +12,8 @@ from rope_texts import UNITS, full, pairs, small_texts
 
 LENGTHS = (0, 1, 983, 984, 985, 1968, 50_000)
 
-# Texts, and what a rope of each is asked, one after the other, with the answers: a call stands with what it is given, and a
-# text as it is.
+# Texts, and the requests for a rope of each, in order, with the answers: a call with its arguments, and a text
+# unchanged.
 EDITS = [
     ("ab\r\ncd", [("lengths", "6 6 6 2"), (("try_insert", 3, "x"), "Ok(())"), ("text", "ab\rx\ncd"),
      ("lengths", "7 7 7 3"), ("try_remove,3,4", "Ok(())"), ("text", "ab\r\ncd"), ("lengths", "6 6 6 2")]),
@@ -32,14 +32,14 @@ EDITS = [
      ("try_split_off,3", "Ok(())"), ("swap", "Ok(())"), ("lengths", "0 0 0 1"), ("swap", "Ok(())"),
      ("try_split_off,0", "Ok(())"), ("lengths", "0 0 0 1"), ("append", "Ok(())"), ("text", "a🐸é"),
      ("try_remove,,", "Ok(())"), ("lengths", "0 0 0 1"), ("cut", "0")]),
-    # The calls in their plain forms, in the middle and at both ends.
+    # The plain methods, in the middle and at both ends.
     ("aé🐸", [(("insert", 0, "b"), "Ok(())"), (("insert", 4, "\r\n"), "Ok(())"), (("insert", 2, "せ"), "Ok(())"),
      ("text", "baせé🐸\r\n"), (("insert_char", 0, "c"), "Ok(())"), (("insert_char", 8, "d"), "Ok(())"),
      (("insert_char", 4, "e"), "Ok(())"), ("text", "cbaせeé🐸\r\nd"), ("lengths", "16 10 11 2"),
      ("remove,1,3", "Ok(())"), ("text", "cせeé🐸\r\nd"), ("remove,0,0", "Ok(())"), ("split_off,8", "Ok(())"),
      ("split_off,3", "Ok(())"), ("text", "cせe"), ("append", "Ok(())"), ("split_off,0", "Ok(())"),
      ("lengths", "0 0 0 1"), ("append", "Ok(())"), ("text", "cせeé🐸\r\nd"), ("same", "true Equal true true")]),
-    # A text in the place of a range of characters or of bytes; and a range is refused before anything is done.
+    # A text replacing a range of characters or of bytes; and a range is refused before anything is done.
     ("aé\r\n🐸", [(("replace", 1, 3, "xy"), "Ok(())"), ("text", "axy\n🐸"), ("lengths", "8 5 6 2"),
      (("try_replace", 1, 9, "a"), "Err(CharRangeOutOfBounds(Some(1), Some(9), 5))"),
      (("try_replace", 3, 2, "a"), "Err(CharRangeInvalid(3, 2))"),
@@ -53,13 +53,13 @@ EDITS = [
      ("text", "\r\né"), (("try_replace", None, None, "🐸\n"), "Ok(())"), ("text", "🐸\n"),
      (("try_byte_replace", 1, 4, ""), "Err(ByteRangeNotCharBoundary(Some(1), Some(4)))"),
      (("try_byte_replace", None, 4, ""), "Ok(())"), ("lengths", "1 1 1 2")]),
-    # Of the characters that Unicode lets break lines LF and CR do, CR LF as one.
+    # Of the characters that Unicode lets break lines only LF and CR do, CR LF as one.
     ("a\nb\vc\fd\re\x85f\u2028g\u2029h\r\ni", [("lengths", "23 18 18 4"), ("same", "true Equal true true"),
      ("remove,1,2", "Ok(())"), ("remove,6,7", "Ok(())"), ("lengths", "21 16 16 2"),
      ("same", "true Equal true true")]),
     ("abc", [("try_remove,3,2", "Err(CharRangeInvalid(3, 2))"),
      ("try_remove,2,5", "Err(CharRangeOutOfBounds(Some(2), Some(5), 3))"), ("text", "abc")]),
-    # What a builder is given by slices: the text up to one character, and that from another one on.
+    # The slices that a builder gets: the text up to one character, and that from another one on.
     ("aé\r\n🐸", [("build,3,3", "Ok(9)"), ("text", "aé\r\n🐸"), ("build,2,3", "Ok(8)"), ("text", "aé\n🐸"),
      ("cut", "8 984"), ("build,4,0", "Ok(16)"), ("text", "aé\n🐸aé\n🐸"), ("same", "true Equal true true"),
      ("build,0,8", "Ok(0)"), ("lengths", "0 0 0 1")]),
@@ -67,7 +67,7 @@ EDITS = [
 
 
 def known_edits():
-    """Edits whose outcome is known from outside, and what the model makes of them."""
+    """Edits whose result is known from elsewhere, and the model's result."""
     for text, steps in EDITS:
         row = RopeRow("from_str", [text], [ask for ask, _ in steps])
         yield row.line(), ";" + "".join(f"{hexed(answer) if ask == 'text' else answer};" for ask, answer in steps)
@@ -75,7 +75,7 @@ def known_edits():
 
 
 def built_texts():
-    """Short texts that are built of parts, cut in every way, also in a CR LF; and parts that are empty."""
+    """Short texts that are built from parts, split in every way, also in a CR LF; and empty parts."""
     for length in range(6):
         for text in small_texts("\r\na", length):
             for cuts in range(2**length):
@@ -86,13 +86,13 @@ def built_texts():
     for maker, parts in itertools.product(("builder", "from_chunks"), (["", "", ""], ["", "a\r", "", "\nb", ""])):
         yield RopeRow(maker, parts, ["cut", "text", "lengths", "chunk,2"]).row()
     yield "from_chunks  cut lengths", ";0;0 0 0 1;"
-    # A leaf with room for a CR alone is cut before it, and one with room for two bytes takes both.
+    # A leaf with room for only a CR ends before it, and one with room for two bytes takes both.
     for letters, sizes in ((981, "983"), (982, "984"), (983, "983 2"), (984, "984 2")):
         yield f"builder 61*{letters}+0d||0a cut", f";{sizes} {984 * len(sizes.split())};"
 
 
 def longest_text():
-    """A text of 984 bytes that is doubled, which shares its nodes, until it would have 2^63 bytes or more."""
+    """A text of 984 bytes that is doubled, sharing its nodes, until it would have 2^63 bytes or more."""
     size = 984 * 2**53
     told = f"{size} {size} {size} 1;"
     line = f"from_str 61*984 {'clone append ' * 53}lengths clone append lengths"
@@ -100,7 +100,7 @@ def longest_text():
 
 
 def parts_of(text, size):
-    """A text in parts of so many bytes, characters kept whole."""
+    """A text in parts of this number of bytes, without splitting characters."""
     parts, data = [], text.encode()
     while data:
         end = size
@@ -112,7 +112,7 @@ def parts_of(text, size):
 
 
 def made_ropes():
-    """Long texts that are made ropes, in all ways: the chunks, the lengths, and what stands at places of them."""
+    """Long texts that are built into ropes, in all ways: the chunks, the lengths, and the results at some offsets."""
     for unit, size in itertools.product(UNITS, LENGTHS):
         text = full(unit, size)
         every = 1 if size < 1_000 else 997
@@ -132,18 +132,18 @@ def made_ropes():
     text = full("é🐸\r\n", 50_000)
     asks = [f"lines,0,{'n' * 6_252}{'p' * 6_252}", *(f"places,{idx}" for idx in range(0, 50_002, 7))]
     yield RopeRow("from_str", [text], ["cut", *asks]).row()
-    # All chunks one after the other, and back.
+    # All chunks in order, and backward.
     asks = [f"{kind},0,{'n' * 18}{'p' * 18}" for kind in CHUNK_KINDS]
     yield RopeRow("from_str", ["abc" * 5_000], ["cut", *asks]).row()
     for unit in UNITS:
-        # Ten million bytes: what is told is too long to be asked for by the model at each place.
+        # Ten million bytes: the answers are too long to ask the model at each offset.
         text, count = unit * (10_000_000 // len(unit.encode())), 10_000_000 // len(unit.encode())
         yield f"from_str {hexed(unit)}*{count} cut lengths", RopeRow("from_str", [text], ["cut", "lengths"]).wrong
 
 
 def compared_ropes():
-    """Ropes of one text that are cut in different ways, and ropes of texts that differ in a character or where one
-    ends, compared and hashed as wholes."""
+    """Ropes of one text that are split in different ways, and ropes of texts that differ in a character or of which one
+    is a prefix, compared and hashed as wholes."""
     others = [(text, other) for text in small_texts("a\né", 2) for other in small_texts("a\né", 2)]
     for text, other in [*others, ("", "a"), ("a", ""), ("\U0001f438", "\uffff"), ("a\r", "a\r\n")]:
         asks = ["split_off,0", ("insert", 0, other), "compare", "swap", "compare"]
@@ -156,14 +156,14 @@ def compared_ropes():
             asks = ["clone", *cut_anew, "compare", "swap", "compare", *one_more]
             yield RopeRow("from_str", [text], asks).row()
             yield RopeRow("builder", parts_of(text, 41), [*asks, "shrink_to_fit", "cut", "compare"]).row()
-        # Without its first 100 bytes the first chunk stays shorter than the one that is made anew.
+        # Without its first 100 bytes the first chunk stays shorter than a new one.
         asks = ["remove,0,100", "cut", "clone", "shrink_to_fit", "cut", "compare", "swap", "compare", *one_more]
         yield RopeRow("from_str", ["b" * 100 + text], asks, differ=(0, 1)).row()
 
 
 def small_edits():
     """Each insertion into a short text and its removal, each removal and each replacement, and each split that is
-    appended again. A clone of the text stays as it is."""
+    appended again. A clone of the text is unchanged."""
     others = [other for length in range(3) for other in small_texts("\r\na", length)]
     for length in range(5):
         for text in small_texts("\r\na", length):
@@ -182,7 +182,7 @@ def small_edits():
 
 
 def seams():
-    """Edits of a text of many chunks beside the place where its first chunk ends."""
+    """Edits of a text with many chunks near the offset where its first chunk ends."""
     for small, letters in itertools.product(small_texts("\r\na", 2), range(981, 985)):
         asks = []
         for other, at in itertools.product(("\r", "\n", "\r\n", "\n\r", "x"), range(980, 987)):
@@ -193,7 +193,7 @@ def seams():
 
 
 def edits_of_many_chunks():
-    """Long texts that are inserted and removed, and halves that change places."""
+    """Long texts that are inserted and removed, and halves that are swapped."""
     text, other = full("ab\r\n", 20_000), full("\nc\r", 5_000)
     asks = []
     for at in (0, 1, 3, 983, 984, 10_003, 19_999, 20_000):
@@ -206,21 +206,21 @@ def edits_of_many_chunks():
 
 
 def merging_leaves():
-    """Texts of a few bytes that are appended one after the other come into full chunks."""
+    """Texts of a few bytes that are appended in order go into full chunks."""
     for unit, count in (("a", 2_000), ("\r\n", 1_000), ("🐸é\r", 500)):
         yield RopeRow("from_str", [unit], ["clone"] * (count - 1) + ["append"] * (count - 1) + ["cut", "text", "same"]).row()
 
 
 def looks(chance, size):
-    """Look-ups at a place drawn by lot."""
+    """Look-ups at a random offset."""
     idx = chance.randint(0, size + 1)
     kind = chance.choice(("bytes", "chars", "lines", *CHUNK_KINDS))
     return ["cut", "lengths", f"places,{idx}", f"chunk,{idx}", f"{kind},{chance.randint(0, size)},nnnppppprnncpl", "same"]
 
 
 def random_edits(seed, count, most, units, every, sizes):
-    """Edits drawn by lot: four of nine insert, two remove, two replace, and one splits and appends. So often the rope is
-    compared with its text, looked into, and a clone kept, which is compared at the end."""
+    """Random edits: four of nine insert, two remove, two replace, and one splits and appends. At intervals the rope is
+    compared with its text, read, and a clone is kept, which is compared at the end."""
     chance = random.Random(seed)
     text, asks, kept = "", [], 0
     for turn in range(count):
@@ -259,7 +259,7 @@ def edits_at_random():
     yield random_edits(7, 60_000, 15_000, units, 600, [few] * 99 + [many]).row()
     yield random_edits(1, 600, 60_000, ("a", "\r", "\n", "b\r\nc"), 10, [few] * 7 + [lambda chance: chance.randint(0, 3_000)]).row()
     yield random_edits(2, 4_000, 80_000, ("\nc\r", "aé\r\nb"), 100, [lambda chance: chance.randint(0, 300)]).row()
-    # What is cut out of a text leaves no short chunk behind but at its end.
+    # Removing text leaves no short chunk except at the end.
     text = full("aé\r\nb", 60_000)
     for left in (1, 2, 100, 400, 500):
         asks, at, size = [], left, len(text)

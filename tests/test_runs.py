@@ -1,7 +1,6 @@
-"""Runs over memory, by bin/run-driver: how many rows they make and how often they search a whole text, with small
-limits on texts, in small reads and writes, and with calls that fail. The head of
-tests/compiled/run_driver/src/main.rt.txt says how rows are spelled; what is due is worked out by the model of the
-protocol, or written out."""
+"""Runs in memory, by bin/run-driver: how many rows they make and how many whole texts they search, with small limits on
+texts, in small reads and writes, and with calls that fail. The head of tests/compiled/run_driver/src/main.rt.txt
+describes the rows; the expected results come from the model of the protocol, or are listed."""
 import functools
 from dataclasses import dataclass, replace
 from itertools import product
@@ -11,18 +10,18 @@ from memory import counted, library
 from protocol import CLOSING, TEXT_LIMIT, Session, costs, positions_of, read_commands, replies, replies_and_costs, spelled, takers
 from test_replies import MORE_EXAMPLES, examples_of_page
 
-BATCH = 5_000  # how many rows go into one run of the driver
+BATCH = 5_000  # the number of rows in one run of the driver
 ENDINGS = {"input": "Input", "command": "Command", "cut": "Cut"}
-# An input of more bytes is cut, and failed at, near its ends and at some places between alone, but for the shortest that
-# lies in several chunks; one of more than MOST bytes isn't.
+# An input with more bytes is truncated, and failed, only near its ends and at some offsets between, except the shortest
+# with several chunks; one with more than MOST bytes isn't.
 LONG, LONGER, MOST = 400, 10_000, 70_000
 ACROSS_CHUNKS = spelled("text", (1_969,), b"a" * 983 + b"xyz" + b"a" * 983) + spelled("pattern", (3,), b"xyz") + b"list\n"
 
 
 @dataclass(frozen=True)
 class Run:
-    """A run of an input: how many bytes a text may have, how many a read and a write move at most, which of these calls
-    fails, and how many bytes there is room for."""
+    """A run of an input: the limit on the bytes of a text, the maximum number of bytes of a read and a write, which of
+    these calls fails, and the room in bytes."""
 
     data: bytes
     limit: int = TEXT_LIMIT
@@ -39,7 +38,7 @@ class Run:
 
 @dataclass(frozen=True)
 class Outcome:
-    """How a run ended, the rows that it made, how often it searched a whole text, and what it wrote."""
+    """How a run ended, the rows that it made, how many whole texts it searched, and its output."""
 
     ending: str
     rows: int
@@ -48,13 +47,13 @@ class Outcome:
 
     @staticmethod
     def of(answer):
-        """What an answer tells, or None where it is why there is none."""
+        """The outcome in an answer, or None if it says why there is none."""
         words = answer.split(" ")
         return Outcome(words[0], int(words[1]), int(words[2]), bytes.fromhex(words[3])) if len(words) == 4 else None
 
 
 def outcomes(runs):
-    """What came of runs, each with what is wrong where there is no answer."""
+    """The outcomes of runs, each with what is wrong if there is no answer."""
     runs = list(runs)
     for first in range(0, len(runs), BATCH):
         batch = runs[first : first + BATCH]
@@ -69,7 +68,7 @@ def outcomes(runs):
 
 
 def problems(runs, wrong_with):
-    """What is wrong with runs, by what a call finds wrong with each and its outcome."""
+    """What is wrong with runs, by a function of each run and its outcome."""
     for run, outcome in outcomes(runs):
         for wrong in wrong_with(run, outcome) if outcome else ["there is no answer"]:
             yield f"{short(run.data)} {replace(run, data=b'')}: {wrong}"
@@ -77,7 +76,7 @@ def problems(runs, wrong_with):
 
 @functools.lru_cache(maxsize=10)
 def due_under(data, limit):
-    """The ending and the text that the model gives, and its bounds of rows and searches of whole texts."""
+    """The model's ending and output, and its bounds on rows and searches of whole texts."""
     commands, ending = read_commands(data)
     told, most = replies_and_costs(commands, limit)
     return ENDINGS[ending], b"".join(told) + CLOSING[ending], most
@@ -88,7 +87,7 @@ def due(run):
 
 
 def wrong_with(run, outcome):
-    """A run in which no call fails is that of the model, within its bounds."""
+    """A run without a failing call is that of the model, within its bounds."""
     ending, written, (rows, wholes) = due(run)
     if (outcome.ending, outcome.written) != (ending, written):
         yield f"{outcome.ending} with {short(outcome.written)}, not {ending} with {short(written)}"
@@ -97,7 +96,8 @@ def wrong_with(run, outcome):
 
 
 def wrong_with_failed_read(run, outcome):
-    """A byte a read: where the one that fails was needed, the replies to all commands read whole are written."""
+    """One byte for each read: if the one that fails was needed, the replies to all commands read completely are
+    written."""
     before = run.data[: run.failed_read - 1]
     commands, ending = read_commands(before)
     if run.failed_read > len(run.data) + 1 or ending == "command":
@@ -109,7 +109,7 @@ def wrong_with_failed_read(run, outcome):
 
 
 def wrong_with_failed_write(run, outcome):
-    """A byte a write, and a flush at the end: what was taken before the one that fails is a front of all."""
+    """One byte for each write, and a flush at the end: what was taken before the one that fails is a prefix of all."""
     _, written, (rows, _) = due(run)
     if run.failed_write > len(written) + 1:
         yield from wrong_with(run, outcome)
@@ -120,7 +120,7 @@ def wrong_with_failed_write(run, outcome):
 
 
 def wrong_with_room(run, outcome):
-    """Where all that is written doesn't find room, a front of it does."""
+    """If there isn't room for all output, a prefix of it is written."""
     ending, written, _ = due(run)
     wanted = (ending, written) if len(written) <= run.room else ("Write", outcome.written)
     if (outcome.ending, outcome.written) != wanted or not written.startswith(outcome.written):
@@ -128,7 +128,7 @@ def wrong_with_room(run, outcome):
 
 
 def places(length, each=False):
-    """The places up to a length: of a long one those near its ends and some between, if not each."""
+    """The offsets up to a length: for a long one those near its ends and some between, otherwise each."""
     if each or length <= LONG:
         return range(length)
     near = 6 if length <= LONGER else 2
@@ -136,7 +136,8 @@ def places(length, each=False):
 
 
 def test_worked(inputs):
-    """Every worked input: in reads and writes of few bytes, cut after each byte, and with each call failing in turn."""
+    """Every worked input: in reads and writes of few bytes, truncated after each byte, and with each call failing in
+    turn."""
     for data in inputs:
         name = short(data[:60]) + (f".. ({len(data)} bytes)" if len(data) > 60 else "")
         steps = [Run(data, read=read, write=write) for read, write in ((1, 1), (2, 3), (4096, 1), (3, 4096))]
@@ -157,28 +158,28 @@ def test_worked(inputs):
         test(f"{name} over memory, with little room, {len(rooms)} times", problems(runs, wrong_with_room))
 
 
-# Inputs, with the rows that they make and how often they search a whole text, exactly.
+# Inputs, with the exact numbers of rows that they make and of whole texts that they search.
 ROWS = [
     ("text 7\na🐸b\npattern 1\nblist\n".encode(), 2, 0),
-    # Without a pattern nothing is searched, and for what is no pattern neither.
+    # Without a pattern nothing is searched, and neither for a text that is no pattern.
     (b"text 2\nabfork\nuse 1\nprint\nfork\nlist\n", 0, 0),
     (b"pattern 2\na(pattern 1\n\xffpattern 1\nalist\n", 1, 0),
     # A text that is set later is searched too.
     ("text 9\nab\r\nba\u2028pattern 1\natext 1\naoff\noff\n".encode(), 3, 0),
     (b"pattern 5\nabcdetext 3\na\nalist\nundo\n", 3, 0),
     (b"text 3\na\nbpattern 1\nbedit 1 0 1 1 3\nb\nb", 4, 0),
-    # Of a text to which one goes back or forward the lines that come back are searched, and no others.
+    # Undo and redo search only the lines that come back.
     (b"text 7\na\nb\na\nbpattern 1\nbedit 2 0 2 1 1\nbundo\nredo\n", 7, 0),
     (b"text 7\na\nb\na\nbpattern 1\nbedit 0 1 2 0 0\nundo\nredo\n", 9, 0),
     (b"text 5\nx\rb\nypattern 1\nyedit 1 0 1 1 0\nundo\nredo\n", 6, 0),
     (b"text 3\na\nbedit 1 0 1 1 1\ncpattern 1\nbundo\noff\nredo\npattern 1\nbundo\n", 6, 0),
-    # A line for each match that is replaced, and a line of many matches once.
+    # One line for each match that is replaced, and a line with many matches once.
     (b"text 7\na\nb\na\nbpattern 1\nbreplace 1\ncundo\nredo\n", 10, 1),
     (b"text 4\nbbbbpattern 1\nbreplace 2\nccundo\nredo\n", 4, 1),
     (b"text 3\na\nbpattern 1\ncreplace 1\ndundo\nredo\n", 2, 1),
-    # A search of a whole text makes no row; one that is refused for its position is none.
+    # A search of a whole text makes no row; one that is refused because of its position is none.
     (b"text 3\nabapattern 3\n\\b.next 0 1\nnext 0 3\nnext 0 4\nlist\n", 1, 2),
-    # Each line has a row that is counted, also where it is passed over since it has none of a literal.
+    # Each line has a row that is counted, also if it is skipped because it has none of the literals.
     (spelled("text", (33_027,), b"".join(b"some line\r\n" if line % 1_001 else b"a match\r\n" for line in range(3_003)))
      + b"pattern 5\nmatchlist\n", 3_004, 0),
 ]
@@ -198,15 +199,16 @@ EDITED = b"text 7\na\nb\na\nbpattern 1\nbedit 2 0 2 1 3\nb\nb"
 REPLACED = b"text 7\na\nb\na\nbpattern 1\nbreplace 3\n$0\n"
 ONE_MATCH = spelled("text", (99_995,), b"some line\n" * 5_000 + b"match" + b"some line\n" * 4_999) + b"pattern 5\nmatch"
 
-# What stands before a command, the command, the most rows that it makes, and how often it searches the whole text.
+# The input before a command, the command, the maximum number of rows that it makes, and how many whole texts it
+# searches.
 LAST = [
-    # A CR and an LF meet at the front of an edit, at its back, at both, and where it leaves nothing between them.
+    # A CR and an LF meet at the start of an edit, at its end, at both, and if it leaves nothing between them.
     (b"text 5\nx\rb\nypattern 1\ny", b"edit 1 0 1 1 0\n", 1, 0),
     (b"text 5\nx\rb\nypattern 1\ny", b"edit 1 0 1 1 2\n\n\r", 3, 0),
     (b"text 3\nx\rypattern 1\ny", b"edit 1 0 1 0 1\n\n", 2, 0),
     (b"text 3\nb\nypattern 1\ny", b"edit 0 1 0 1 1\n\r", 2, 0),
     (LINES, b"edit 5000 5 5000 5 1\nx", 1, 0),
-    # Of a replacement, for each match as many as what takes its place has lines.
+    # For a replacement, the number of lines of each expansion.
     (b"text 4\na\r\nbpattern 1\n\n", b"replace 0\n", 1, 1),
     (b"text 5\na\rx\nypattern 1\nx", b"replace 0\n", 1, 1),
     (b"text 4\na\r\nbpattern 2\n\r\n", b"replace 2\n\n\r", 3, 1),
@@ -215,7 +217,7 @@ LAST = [
     (b"text 5\na\nb\napattern 1\na", b"replace 3\n$0\n", 4, 1),
     (b"text 5\na\nb\napattern 1\n\n", b"replace 1\n\r", 4, 1),
     (ONE_MATCH, b"replace 1\nz", 1, 1),
-    # Of what is undone and done again, for each change as many as what comes back has lines.
+    # For undo and redo, the number of lines that come back for each change.
     (EDITED, b"undo\n", 1, 0),
     (EDITED + b"undo\n", b"redo\n", 2, 0),
     (REPLACED, b"undo\n", 2, 0),
@@ -225,8 +227,8 @@ LAST = [
 
 
 def wrong_last(pairs):
-    """What is wrong with the last commands of inputs: each is run without it, where that wasn't yet, and with it, and
-    answered as by the model."""
+    """What is wrong with the last commands of inputs: each is run without it, unless that was done, and with it, and
+    has the model's answer."""
     begun = {run.data: outcome for run, outcome in outcomes(map(Run, dict.fromkeys(pair[0] for pair in pairs)))}
     told = outcomes(Run(before + last) for before, last, _, _ in pairs)
     for (before, last, rows, wholes), (run, both) in zip(pairs, told):
@@ -245,8 +247,8 @@ def test_last():
 
 
 def refused_in(run):
-    """What came of a run with each request for memory of the program refused in turn, but where the program lacks it for
-    its own ends: to read the line, to make the sink, or to tell the answer."""
+    """The outcomes of a run with each request for memory of the program refused in turn, except if the program itself
+    lacks it: to read the line, to make the sink, or to write the answer."""
     line = run.line().encode()
 
     def runs(environment):
@@ -259,28 +261,28 @@ def refused_in(run):
 
 
 def places_refused(run):
-    """The commands to which memory may be refused: none of them that tells it, or one."""
+    """The commands to which memory may be refused: none that reports it, or one."""
     commands, _ = read_commands(run.data)
     return [frozenset(), *(frozenset({place}) for place in takers(commands, run.limit))]
 
 
 def written_where_refused(run):
-    """All that may be written where memory is refused to one command, or to none that tells it."""
+    """All possible outputs with memory refused to one command, or to none that reports it."""
     commands, ending = read_commands(run.data)
     return {b"".join(replies(commands, refused, run.limit)) + CLOSING[ending] for refused in places_refused(run)}
 
 
 def costs_where_refused(run):
-    """How many rows may be made there at most, and how often a whole text may be searched: a session in which one command
-    is refused may go on with another text."""
+    """The maximum number of rows then, and of searches of a whole text: a session in which one command is refused may
+    continue with another text."""
     commands, _ = read_commands(run.data)
     each = [costs(commands, run.limit, refused) for refused in places_refused(run)]
     return max(rows for rows, _ in each), max(wholes for _, wholes in each)
 
 
 def wrong_refused(run, rows, wholes):
-    """What is wrong with a run in which each request for memory is refused in turn: one command is answered so and changes
-    nothing, or there is no session; and no more rows are made, and whole texts searched, than else."""
+    """What is wrong with a run in which each request for memory is refused in turn: one command is out of memory and
+    changes nothing, or there is no session; and no more rows are made, and whole texts searched, than otherwise."""
     may_be, refused = written_where_refused(run), 0
     for number, outcome in refused_in(run):
         refused += b"error memory" in outcome.written
@@ -294,13 +296,13 @@ def wrong_refused(run, rows, wholes):
 
 
 def wrong_last_refused(before, last, rows, wholes):
-    """The same of an input whose last command makes so many rows."""
+    """The same for an input whose last command makes this number of rows."""
     for _, outcome in outcomes([Run(before)]):
         yield from wrong_refused(Run(before + last), outcome.rows + rows, outcome.wholes + wholes) if outcome else ["no answer"]
 
 
 def wrong_sink():
-    """What is wrong where the room that a sink asks for is refused."""
+    """What is wrong if the room that a sink requests is refused."""
     line = Run(b"print\n", room=1 << 24).line().encode()
 
     def run(environment):
@@ -326,7 +328,7 @@ def texts(letters, longest):
 
 @functools.lru_cache(maxsize=1)
 def session_after(before):
-    """The model's session behind these commands."""
+    """The model's session after these commands."""
     session = Session()
     for command in read_commands(before)[0]:
         session.reply(command)
@@ -334,12 +336,13 @@ def session_after(before):
 
 
 def last_of(before, last):
-    """The last command of an input, with the most rows that it may make, and how often it may search a whole text."""
+    """The last command of an input, with the maximum number of rows that it may make, and of searches of a whole
+    text."""
     return before, last, *session_after(before).cost(read_commands(last)[0][0])
 
 
 def small_edits(letters, longest, longest_inserted):
-    """Every edit between two positions of every small text, also from a later one to an earlier, under some patterns."""
+    """Every edit between two positions of every small text, also from a later one to an earlier, with some patterns."""
     for text, pattern in product(texts(letters, longest), ("a", "x*", "a$")):
         before = spelled("text", (len(text),), text.encode()) + spelled("pattern", (len(pattern),), pattern.encode())
         for first, last, inserted in product(positions_of(text), positions_of(text), texts(letters, longest_inserted)):
@@ -361,7 +364,7 @@ def test_small_texts():
     test(f"{len(replacements)} replacements in small texts make no more rows than they may", wrong_last(replacements))
 
 
-# A limit on texts, an input, and what it is answered.
+# A limit on texts, an input, and its answer.
 LIMITS = [
     (4, b"text 5\nabcdeprint\n", b"error size\ntext 0\n\n"),
     (4, b"text 4\nabcdprint\n", b"ok\ntext 4\nabcd\n"),
@@ -370,13 +373,13 @@ LIMITS = [
     (4, b"text 5\n\xff\xff\xff\xff\xfftext 5\nabcde", b"error utf8\nerror size\n"),
     # A pattern may have more bytes than a text.
     (4, b"pattern 5\nabcde", b"ok\n"),
-    # The limit holds for templates, and for the text that replacing makes.
+    # The limit applies to templates, and to the text after replacing.
     (4, b"text 3\nabcpattern 0\nreplace 1\n-print\n", b"ok\nok\nerror size\ntext 3\nabc\n"),
     (4, b"text 3\nabcpattern 1\nbreplace 4\n$0$0print\nundo\nreplace 6\n$0$0$0",
      b"ok\nok\nok 1\ntext 4\nabbc\nok\nerror size\n"),
     (4, b"text 2\nabreplace 5\n$0$0$pattern 1\nxreplace 5\n$0$0$replace 1\n$",
      b"ok\nerror none\nok\nerror size\nok 0\n"),
-    # Nothing of these texts is kept. Each character is cut at each place.
+    # Nothing of these texts is kept. Each character is split at each offset.
     (2, "text 10\naé🐸せ".encode(), b"error size\n"),
     (2, b"text 4\n\xf0\x9f\x90\xc3", b"error utf8\n"),
     (2, b"text 3\nab\xc3", b"error utf8\n"),

@@ -1,9 +1,9 @@
-"""What searches find, on bin/search-driver: all matches with their groups, and what one search notes in slots, in
-haystacks that lie in pieces, and perhaps in slices and spans, anchored, and under settings of the engine.
+"""Searches, on bin/search-driver: all matches with their groups, and what one search notes in slots, in haystacks in
+chunks, also in slices and spans, anchored, and with settings of the engine.
 
-Its answers are those of the table tests/searches.jsonl, which Python's re made, those that stand here, and
-those of the model of tests/walks.py, to cases at random and to all slices and spans of short haystacks. SEARCH_DRIVER
-names another program than bin/search-driver.
+The expected answers are those of the table tests/searches.jsonl, made with Python's re, those listed here, and those of
+the model of tests/walks.py, for random cases and for all slices and spans of short haystacks. SEARCH_DRIVER names
+another program than bin/search-driver.
 """
 import itertools
 import json
@@ -18,15 +18,15 @@ from protocol import is_utf8
 from random_patterns import Maker, character
 from walks import LOOKS, Alternation, Concat, Empty, Group, Look, Repeat, Search, Set, is_word, spelled
 
-SIZES = (0, 1, 2, 3)  # how many bytes a piece has; 0: all are one piece
+SIZES = (0, 1, 2, 3)  # the number of bytes of a chunk; 0: all are one chunk
 RANDOM_CASES, CASES_UNDER_SETTINGS, RANDOM_SLOTS, BROKEN_HAYSTACKS = 1_500, 700, 500, 400
 SEARCHERS_CASES = 400
 
-ALL, FIRST, SECOND = True, 2, 3  # anchored: matches start at the span's start alone; of pattern 0, or of pattern 1
+ALL, FIRST, SECOND = True, 2, 3  # anchored: matches start only at the span's start; of pattern 0, or of pattern 1
 BY_SEMICOLON, BY_LINE_FEED = Settings("m", line_end=ord(";")), Settings("m", line_end=ord("\n"))
 
-# Patterns, haystacks and their answers; where not all is asked for as it is at first, also the slice, the span, and
-# where matches start, and then perhaps whether empty matches inside a character are found, and settings.
+# Patterns, haystacks and their answers; if not everything has its default, also the slice, the span, and where matches
+# start, and then perhaps whether empty matches inside a character are found, and settings.
 VECTORS = [
     ("\\b", "a b c", "0-0 1-1 2-2 3-3 4-4 5-5"),
     ("x*", "x", "0-1"),
@@ -46,21 +46,21 @@ VECTORS = [
     ("\\b", "é", "0-0 2-2"),
     ("(a){0}b", "ab", "1-2,-"),
     ("(" * 250 + "a" + ")" * 250, "a", ",".join(["0-1"] * 251)),
-    # After the turn that reads `b` none is taken that reads nothing: it would lead to the same fork again.
+    # After the iteration that reads `b` none follows that reads nothing: it would lead to the same fork again.
     ("(b|)+", "b", "0-1,0-1"),
     ("(a*)*", "b", "0-0,0-0 1-1,1-1"),
-    # A group keeps what it had in an earlier turn.
+    # A group keeps its span of an earlier iteration.
     ("(?:(a)|b)+", "ab", "0-2,0-1"),
-    # Looks see the slice, all of it and nothing else.
+    # Assertions see the slice, all of it and nothing else.
     ("foo$", "xfoox", "1-4", ((1, 4), (1, 4), False)),
     ("^foo$", "xfoox", "1-4", ((1, 4), (1, 4), False)),
     ("^foo$", "xfoox", "", ((0, 5), (1, 4), False)),
     ("\\bfoo\\b", "xfoox", "", ((0, 5), (1, 4), False)),
     ("\\Bfoo\\B", "xfoox", "1-4", ((0, 5), (1, 4), False)),
-    # A cut character is no word character, and beside it stands no `\B`.
+    # A split character is no word character, and there is no `\B` next to it.
     ("\\B", "éé", "", ((1, 3), (1, 3), False)),
     ("\\b|\\B", "aé", "0-0 1-1", ((0, 2), (0, 2), False)),
-    # A span may end past the content, start past it, or start past its end.
+    # A span may end past the haystack, start past it, or start past its end.
     ("a*", "aa", "1-2", ((0, 9), (1, 9), False)),
     ("a*", "aa", "", ((0, 9), (3, 9), False)),
     ("a*", "aa", "", ((0, 2), (2, 1), False)),
@@ -68,7 +68,7 @@ VECTORS = [
     ("b", "abb", "1-2 2-3", ((0, 3), (1, 3), True)),
     ("b", "abb", "1-2 2-3", ((0, 3), (1, 3), FIRST)),
     ("b", "abb", "", ((0, 3), (1, 3), SECOND)),
-    # Empty matches inside a character are found where the engine is told so, and lines end where it is told so.
+    # Empty matches inside a character are found if the engine is set to do so, and lines end at the byte that is set.
     ("x*", "せ", "0-0 1-1 2-2 3-3", ((0, 9), (0, 9), False), True),
     ("x*", "せx", "0-0 3-4", ((0, 9), (0, 9), False), False),
     ("x*", "せ", "0-0 3-3", ((0, 9), (0, 9), False), False, BY_LINE_FEED),
@@ -84,7 +84,7 @@ VECTORS = [
     ("a{65535}{65535}", "a", TOO_LARGE),
 ]
 
-# As far as numbers go: patterns as deep as they may be nested, and slices and spans that end past every content.
+# At the limits of numbers: patterns nested as deeply as allowed, and slices and spans that end past every haystack.
 DEEP, MOST = Settings(nest_limit=65_535), 2**64 - 1
 EXTREMES = [
     ("a" + "*" * 65_535, "aab", "0-2 3-3", None, False, DEEP),
@@ -95,10 +95,10 @@ EXTREMES = [
     ("a+|$", "aab", "", ((MOST, MOST), (0, MOST), False)),
 ]
 
-# Patterns, how haystacks are cut, these, what is asked for, and what the first match notes in slots: its pattern, or
-# that there is none, and then a place or a dash for each slot.
+# Patterns, how haystacks are split, these, the search, and what the first match notes in slots: its pattern, or that
+# there is none, and then an offset or a dash for each slot.
 SLOTS = [
-    # Groups are told, and looks see the bytes of the neighbouring pieces.
+    # Groups are returned, and assertions see the bytes of the neighbouring chunks.
     ("(b)|(c)", "1", "a b c", None, "0 2 3 2 3 - -"),
     ("(\\w) (\\w)$", "1", "a b c", None, "0 2 5 2 3 4 5"),
     ("(?:(\\w) ?)*", "1", "a b c", None, "0 0 5 4 5 - -"),
@@ -106,29 +106,29 @@ SLOTS = [
     ("x*", "1", "a b c", None, "0 0 0 - - - -"),
     ("^b", "1", "a b c", None, "none - - - - - -"),
     ("\\Bb", "1", "a b c", None, "none - - - - - -"),
-    # Pieces may cut a character, and be empty.
+    # Chunks may split a character, and be empty.
     ("(.)b", "1.3", "せb", None, "0 0 4 0 3 - -"),
     ("\\B", "1.3", "せb", None, "0 3 3 - - - -"),
     ("b\\b", "1.3", "せb", None, "0 3 4 - - - -"),
     ("[^b]$", "1.3", "せb", None, "none - - - - - -"),
-    # No empty match stands inside a character, wherever the span starts.
+    # There is no empty match inside a character, wherever the span starts.
     ("x*", "0", "せb", ((0, 9), (1, 4), False), "0 3 3 - - - -"),
     ("(.)", "0", "せb", ((0, 9), (1, 4), False), "0 3 4 3 4 - -"),
-    # A slice hides what stands outside from looks, and a span doesn't.
+    # A slice hides the text outside from assertions, and a span doesn't.
     ("^bar", "0", "foobar", ((0, 6), (3, 6), False), "none - - - - - -"),
     ("^bar", "0", "foobar", ((3, 6), (3, 6), False), "0 3 6 - - - -"),
     ("fo(o*?)", "0", "foobar", ((0, 6), (0, 2), False), "0 0 2 2 2 - -"),
-    # An anchored search finds what starts with the span; that of a pattern which isn't there finds nothing.
+    # An anchored search finds what starts with the span; that of a pattern that doesn't exist finds nothing.
     ("bar", "0", "foobar", ((0, 6), (3, 6), False), "0 3 6 - - - -"),
     ("bar", "0", "foobar", ((0, 6), (3, 6), ALL), "0 3 6 - - - -"),
     ("bar", "0", "foobar", ((0, 6), (3, 6), FIRST), "0 3 6 - - - -"),
     ("bar", "0", "foobar", ((0, 6), (3, 6), SECOND), "none - - - - - -"),
     ("bar", "0", "foobar", ((0, 6), (0, 6), ALL), "none - - - - - -"),
-    # A byte that was passed over where a look was refused isn't where it holds.
+    # A byte that was skipped where an assertion failed isn't where it holds.
     ("\\bb", "5.2.3", "abab b.\nbb", None, "0 5 6 - - - -"),
     ("(?m)^b|c", "5.2.3", "abab b.\nbb", None, "0 8 9 - - - -"),
     ("[b]$", "5.2.3", "abab b.\nbb", None, "0 9 10 - - - -"),
-    # Slots are noted, and put back.
+    # Slots are noted, and restored.
     ("(a)|(b)", "0", "b", None, "0 0 1 - - 0 1"),
     ("(b)|(b)", "0", "b", None, "0 0 1 0 1 - -"),
     ("(b*)(b*)", "0", "b", None, "0 0 1 0 1 1 1"),
@@ -137,7 +137,7 @@ SLOTS = [
     ("(?:(b)|(a))*", "0", "b", None, "0 0 1 0 1 - -"),
     ("((b)a|b)", "0", "b", None, "0 0 1 0 1 - -"),
     ("(b)(a)", "0", "b", None, "none - - - - - -"),
-    # There may be fewer slots than the program names, and more.
+    # There may be fewer slots than the program has, and more.
     ("(a)", "0", "a", None, "0"),
     ("(a)", "0", "ab", None, "0 0"),
     ("(a)", "0", "a", None, "0 0 1"),
@@ -160,16 +160,16 @@ SMALL_TREES = [Look(text) for text in LOOKS] + [
 ]
 SMALL_HAYSTACKS = ["a a", "éa", "aaé\n", "a\na", "せ", "🐸a"]
 
-# What haystacks that are no UTF-8 are made of: characters; parts of them; a surrogate, a character spelled in more
-# bytes than it takes, a number past the last character, and a byte that no character has.
+# The parts of haystacks that are no UTF-8: characters; parts of them; a surrogate, a character spelled in more bytes
+# than it takes, a number past the last character, and a byte that no character has.
 UNITS = [text.encode() for text in "aab \néせ🐸"]
 UNITS += [b"\xc3", b"\xe3\x81", b"\x81", b"\xf0\x9f\x90", b"\xf0", b"\x9f\x90", b"\x80"]
 UNITS += [b"\xed\xa0\x80", b"\xc0\x81", b"\xf4\x90\x80\x80", b"\xff"]
 
-# A content that begins anew after each 50 bytes, so that its long part leads a search to nothing that its short one
-# doesn't. Both parts start at one place, and the places where they end have as many digits, so that all cases take as
-# much memory to read. And patterns that match nothing in a part, or all of it: then with the places of their groups,
-# as far before its end.
+# A haystack that repeats after each 50 bytes, so that its long part leads a search to nothing that its short one
+# doesn't. Both parts start at one offset, and their ends have equally many digits, so that all cases take the same
+# memory to read. And patterns that match nothing in a part, or all of it: then with the offsets of their groups, as far
+# before its end.
 LONG = "fn aab(é: &str) -> 🐸 { abab_9 + b } // ééé\n".encode() * 20_000
 START, SHORT_END, LONG_END = 100_000, 101_000, 999_000
 MATCHING_NOTHING = ["(a|b|ab)*c", "(\\w+)\\s*=>\\s*(\\w+)", "(?i)todo|error", "(?:([a-é]+?)|\\b){2,5}x"]
@@ -186,14 +186,14 @@ def listed(matches):
 
 
 def case_of(tree, haystack, cut=0, asked=None, inside=False, line_end=b"\n"):
-    """A case that the model answers."""
+    """A case with the model's answer."""
     matches = Search(tree, haystack, *(asked or (None, None, False)), inside, line_end).matches()
     settings = Settings(line_end=line_end[0])
     return search(spelled(tree), haystack, listed(matches), cut, asked, inside, settings)
 
 
 def slots_of(tree, haystack, count, cut=0, asked=None):
-    """A case about so many slots that the model answers."""
+    """A case with this number of slots and the model's answer."""
     model = Search(tree, haystack, *(asked or ()))
     found = model.find(model.span[0])
     places = [str((found or {}).get(slot, "-")) for slot in range(count)]
@@ -222,7 +222,7 @@ def told_slots():
         yield search(pattern, haystack.encode(), answer, cut, asked, slots=len(answer.split()) - 1)
 
 
-# Slots for the whole match alone, where group 1 takes part and has none. Captures that have no more must tell the same.
+# Slots for only the whole match, if group 1 takes part and has none. Captures without more must return the same.
 WHOLES = [
     search("(a)|b", b"xab", "0 1 2", 1, slots=2),
     search("(a)*", b"aab", "0 0 2", slots=2),
@@ -243,13 +243,13 @@ def asked_at_random(chance, length):
 
 
 def is_worth(chance, case):
-    """Whether the case is one to send: most of those in which nothing but empty matches is found aren't."""
+    """Whether to send the case: most of those with only empty matches aren't sent."""
     wholes = [match.split(",")[0].split("-") for match in case.answer.split()]
     return any(start != end for start, end in wholes) or chance.random() < 0.3
 
 
 def at_random(seed, count, has_settings=False):
-    """Cases at random, perhaps with empty matches inside characters and another byte that ends lines."""
+    """Random cases, perhaps with empty matches inside characters and another byte that ends lines."""
     chance, settings = random.Random(seed), ()
     maker = Maker(chance)
     while count > 0:
@@ -285,7 +285,7 @@ def slots_at_random(count=RANDOM_SLOTS):
 
 
 def pairs(low, high):
-    """All pairs of places in order, from `low` up to `high`."""
+    """All pairs of offsets in order, from `low` up to `high`."""
     return itertools.combinations_with_replacement(range(low, high + 1), 2)
 
 
@@ -299,7 +299,7 @@ def slices_and_spans():
 
 
 def broken(chance, maker, tree):
-    """A haystack of units at random, or one that may be found in, with a byte lost or another one."""
+    """A random haystack of units, or one with possible matches, with a byte removed or changed."""
     if chance.random() < 0.5:
         return b"".join(chance.choice(UNITS) for _ in range(chance.randint(1, 7)))
     haystack = maker.haystack(tree).encode()
@@ -329,8 +329,8 @@ IN_NEED = [
 
 
 def memory_for(pattern, groups, end, *how):
-    """What is wrong with the answer to a search in a part of the long content, and how often and for how many bytes
-    the program asks for memory."""
+    """What is wrong with the answer to a search in a part of the long haystack, and how often and for how many bytes
+    the program requests memory."""
     matches = [] if groups is None else [[(START, end)] + [(end - first, end - last) for first, last in groups]]
     case = search(pattern, LONG, listed(matches), *how)
     ended, count, _, total = tallied(lambda environment: answer_to(case.line, environment))
@@ -338,18 +338,18 @@ def memory_for(pattern, groups, end, *how):
 
 
 def in_part(end):
-    """A search in a part of the long content, which lies in pieces."""
+    """A search in a part of the long haystack, which is in chunks."""
     return 984, ((0, len(LONG)), (START, end), False)
 
 
 def in_front(end):
-    """A search in the last part of the long content, which is cut there, and lies in one piece."""
+    """A search in the last part of the long haystack, which is cut off there, and is in one chunk."""
     return 0, ((0, end), (START, end), False), False, Settings(), None, end
 
 
 def check_long(pattern, groups=None):
-    """A search asks for memory as often in the long part as in the short one, and for as many bytes, and so in a long
-    content and in a short one."""
+    """A search requests memory as often in the long part as in the short one, and for as many bytes, and so in a long
+    haystack and in a short one."""
     for name, how in [("parts of a content", in_part), ("contents", in_front)]:
         wrong, little = memory_for(pattern, groups, SHORT_END, *how(SHORT_END))
         more_wrong, much = memory_for(pattern, groups, LONG_END, *how(LONG_END))
@@ -359,13 +359,13 @@ def check_long(pattern, groups=None):
         test(name, wrong + more_wrong)
 
 
-# A content in whose parts `a|` has as many matches, told in as many bytes. In the second an empty match is passed over
-# behind each, so it is searched almost twice as often, by one cache.
+# A haystack in whose parts `a|` has equally many matches, written in equally many bytes. In the second an empty match
+# is skipped after each, so it is searched almost twice as often, with one cache.
 OFTEN, SELDOM_IN, OFTEN_IN = b"x" * 100 + b"a" * 8 + b"ax" * 8, (100, 108), (108, 123)
 
 
 def wrong_often():
-    """What is wrong with more searches by one cache: they ask for no more memory."""
+    """What is wrong with more searches with one cache: they request no more memory."""
     told = []
     for start, end in (SELDOM_IN, OFTEN_IN):
         matches = [[(at, at + 1)] for at in range(start, end) if OFTEN[at : at + 1] == b"a"]

@@ -1,5 +1,5 @@
-"""Sessions at random of bin/rope-search, beside the model: a part of their own, since they take as long as all else of
-test_edits.py, which says how they are made."""
+"""Random sessions of bin/rope-search, compared with the model: a separate part, because they take as long as the rest
+of test_edits.py, which makes them."""
 from harness import test
 from test_edits import BACK_AND_FORWARD, OF_ALL_KINDS, SESSIONS, SESSIONS_IN_RUN, some_sessions
 

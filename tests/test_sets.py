@@ -1,8 +1,9 @@
-"""The sets of patterns, and the automata that read them, on bin/search-driver: sets that are told, and searches of
-every scalar value, of bytes with each first and second byte, and of bytes at random, of which most are no UTF-8.
+"""The sets of patterns, and the automata that read them, on bin/search-driver: the sets as they are printed, and
+searches in every scalar value, in bytes with each first and second byte, and in random bytes, most of which are no
+UTF-8.
 
-What a search finds of a set is compared with the ranges that the pattern spells, where Python's own UTF-8 decoder tells
-the characters; and the ranges with Python's judgement of the scalar values that its version of Unicode knows.
+The matches of a set are compared with the ranges that the pattern spells, with the characters from Python's own UTF-8
+decoder; and the ranges with Python's properties of the scalar values that its version of Unicode has.
 """
 import itertools
 import re
@@ -40,7 +41,7 @@ SETS = [
     ("(?i)[a-z]", [(0x41, 0x5A), (0x61, 0x7A), (0x17F, 0x17F), (0x212A, 0x212A)]),
     ("\\s", SPACES),
 ]
-# What sets have and haven't, of the characters that are told.
+# Members and non-members of sets, among the characters given.
 MEMBERS = [
     ("[\\s]", "\t\n\x0b\x0c\r \x85\u3000", "a\u200b"),
     ("\\d", "0123456789\U0001fbf9", "/:a"),
@@ -53,7 +54,7 @@ MEMBERS = [
     ("(?i)[^a-f\\d]", "x", "7D"),
 ]
 
-# Sets that are searched for in every scalar value, by runs of members, and what Python judges of a character.
+# Sets that are searched for in every scalar value, by runs of members, and Python's property of a character.
 JUDGED = [
     ("\\w", is_word),
     ("\\W", lambda c: not is_word(c)),
@@ -70,11 +71,11 @@ JUDGED = [
     ("[^\\s\\S]", lambda c: False),
 ]
 PATTERNS = [pattern for pattern, _ in JUDGED]
-# Sets of which each member is searched for by itself, also in bytes that are no UTF-8.
+# Sets each member of which is searched for separately, also in bytes that are no UTF-8.
 SINGLE = ["\\w", "\\W", ".", "(?s:.)", "[^a]", "[\\x{D7FF}-\\x{E000}]"]
 
-# How many states and ranges of bytes a set's automaton has, and how many its reverse, as a subset construction by hand
-# has them: it asks each byte of each set of states.
+# The number of states and ranges of bytes of a set's automaton, and of its reverse, from a plain subset construction,
+# which tries each byte for each set of states.
 SIZES = [
     ("a", "4 4 4 4"),
     ("é", "5 5 5 7"),
@@ -91,7 +92,7 @@ KNOWN = [c for c in EVERY if unicodedata.category(c) != "Cn"]
 
 
 def offsets(text):
-    """The places in UTF-8 of the characters of a text, of which a byte that is none is a surrogate, and of its end."""
+    """The offsets in UTF-8 of the characters of a text, in which a byte that is none is a surrogate, and of its end."""
     places, at = [0], 0
     for character in text:
         code = ord(character)
@@ -101,7 +102,7 @@ def offsets(text):
 
 
 def code_points(answer):
-    """The ranges of the one set that an answer to `parse` tells, which numbers scalar values without surrogates."""
+    """The ranges of the only set in an answer to `parse`, which numbers scalar values without surrogates."""
 
     def code(number):
         return number + (0x800 if number >= 0xD800 else 0)
@@ -120,7 +121,7 @@ def members_of(ranges):
 
 
 def wrong_sets():
-    """What is wrong with the sets that are told, and with those whose members are."""
+    """What is wrong with the sets that are printed, and with those whose members are given."""
     told, wrong = answers([about("parse", pattern) for pattern, _ in SETS])
     for (pattern, ranges), answer in zip(SETS, told):
         if code_points(answer) != ranges:
@@ -133,7 +134,7 @@ def wrong_sets():
 
 
 def wrong_judgements(pattern, ranges, has):
-    """Where Python judges otherwise, of the scalar values that its version of Unicode knows."""
+    """Where Python's property differs, for the scalar values that its version of Unicode has."""
     members = members_of(ranges)
     for c in KNOWN:
         if members[ord(c)] != has(c):
@@ -141,7 +142,7 @@ def wrong_judgements(pattern, ranges, has):
 
 
 def difference(case, answer, due):
-    """What is wrong with a long answer: where it is another one first."""
+    """What is wrong with a long answer: where it first differs."""
     if answer != due:
         found, wanted = answer.split(" "), due.split(" ")
         alike = itertools.takewhile(lambda pair: pair[0] == pair[1], zip(found, wanted))
@@ -164,7 +165,7 @@ def wrong_runs():
 
 
 def matches_due(text, places, ranges):
-    """All matches of a set in a text of which these are the places. A byte that is no UTF-8 is a surrogate there."""
+    """The expected matches of a set in a text with these offsets. A byte that is no UTF-8 is a surrogate there."""
     members = members_of(ranges)
     return " ".join(f"{places[at]}-{places[at + 1]}" for at, c in enumerate(text) if members[ord(c)])
 
@@ -182,13 +183,13 @@ def wrong_singles(haystack):
 
 
 def read_back(pattern, haystack):
-    """A case of a set that is read back from each place of every scalar value, or of these bytes."""
+    """A case of a set that is read backward from each offset of every scalar value, or of these bytes."""
     told = haystack if haystack == EVERY_CHARACTER else haystack.hex()
     return Case(f"{pattern!r} back", line_of("back", written(pattern), *Settings().fields(), None, told))
 
 
 def wrong_back(patterns, haystack):
-    """What is wrong with sets that are read back: from each place the member is taken whose UTF-8 stands last there."""
+    """What is wrong with sets that are read backward: from each offset the member whose UTF-8 ends there is read."""
     text = EVERY if haystack == EVERY_CHARACTER else haystack.decode("utf-8", "surrogateescape")
     places = offsets(text)
     lens = [b"%d" % (end - start) for start, end in zip(places, places[1:])]
@@ -207,7 +208,7 @@ def wrong_back(patterns, haystack):
 
 
 def cut_and_changed():
-    """Each scalar value's UTF-8 without its first byte, and with a byte changed, in turn; parted by line feeds."""
+    """Each scalar value's UTF-8 without its first byte, and with a byte changed, in turn; separated by line feeds."""
     rows = []
     for c in EVERY:
         spelling, code = c.encode(), ord(c)
@@ -218,14 +219,14 @@ def cut_and_changed():
 
 
 def first_and_second_bytes():
-    """Bytes with each first and second byte, parted by line feeds."""
+    """Bytes with each first and second byte, separated by line feeds."""
     thirds = [0x7F, 0x80, 0xBF, 0xC0]
     rows = (bytes([first, second, third, 0x80]) for first in range(256) for second in range(256) for third in thirds)
     return SEPARATOR.join(rows) + SEPARATOR + b"\xe2\x82"
 
 
 def bytes_at_random(count=100_000):
-    """So many times four bytes that look as if drawn by lot, parted by line feeds."""
+    """This number of times four pseudo-random bytes, separated by line feeds."""
     rows, seed = [], 1
     for _ in range(count):
         seed = (seed * 6_364_136_223_846_793_005 + 1_442_695_040_888_963_407) % 2**64

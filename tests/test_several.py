@@ -1,10 +1,10 @@
-"""What is found of several patterns that are searched for together, on bin/search-driver, which asks each engine: all
-matches in haystacks that lie in pieces, each with its pattern and its groups, perhaps in slices and spans, anchored, and
-anchored to a pattern, also by the iterators of both engines over automata, with a cache and with its clone; all by a
-`Regex` with each engine on and off, and with caches of all sizes; all in parts of ropes; and why patterns are refused. So
-are the searches for one pattern of tests/test_searches.py, and of the table tests/searches.jsonl.
+"""Searches for several patterns together, on bin/search-driver, by each engine: all matches in haystacks in chunks,
+each with its pattern and its groups, also in slices and spans, anchored, and anchored to a pattern, also by the
+iterators of both automaton engines, with a cache and with its clone; all by a `Regex` with each engine on and off, and
+with caches of all sizes; all in parts of ropes; and why patterns are refused. The same for the searches for one pattern
+of tests/test_searches.py, and of the table tests/searches.jsonl.
 
-Its answers are those that stand here, and those of the model of tests/walks.py to cases at random.
+The expected answers are listed here, or are those of the model of tests/walks.py for random cases.
 """
 import itertools
 import random
@@ -22,21 +22,22 @@ from test_settings import about as about_settings
 from walks import Search, spelled
 
 RANDOM_CASES = share_of(6_000)
-ROOMS = itertools.cycle(CAPACITIES[:3])  # so many that each comes with each engine
+ROOMS = itertools.cycle(CAPACITIES[:3])  # enough for each to be combined with each engine
 
-# Patterns, haystacks, and all matches; where not all is asked for, also the slice, the span and where matches start.
+# Patterns, haystacks, and all matches; if not everything has its default, also the slice, the span and where matches
+# start.
 VECTORS = [
-    # Where several start at one place the first pattern's is found, whichever is longer.
+    # If several start at one offset the first pattern's match is found, whichever is longer.
     (["a", "ab"], "ab", "0:0-1"),
     (["ab", "a"], "ab", "0:0-2"),
     (["b", "ab"], "abb", "1:0-2 0:2-3"),
     (["a", "b", "c"], "cab", "2:0-1 0:1-2 1:2-3"),
     (["x", "a|ab", "b"], "ab", "1:0-1 2:1-2"),
-    # Each has its groups, and of the others nothing is told.
+    # Each has its groups, and the slots of the others are empty.
     (["(a)(b)", "(a)", "b()"], "abab", "0:0-2,0-1,1-2 0:2-4,2-3,3-4"),
     (["(a)(b)", "(a)", "b()"], "aab", "1:0-1,0-1 0:1-3,1-2,2-3"),
     (["(a)|(b)", "(c)"], "cb", "1:0-1,0-1 0:1-2,-,1-2"),
-    # Empty matches, also behind one of another pattern.
+    # Empty matches, also after one of another pattern.
     (["", "a"], "a", "0:0-0 0:1-1"),
     (["a", ""], "ab", "0:0-1 1:2-2"),
     (["x*", "."], "せ", "0:0-0 0:3-3"),
@@ -59,8 +60,8 @@ VECTORS = [
     (["\\bé", "e\\b"], "é e", "0:0-2 1:3-4"),
 ]
 
-# So many bytes that a `Regex` searches back from where a match ends, patterns, what stands behind these bytes, and where
-# matches lie in that, by their patterns. The next match is as far behind the last one again.
+# A number of bytes great enough that a `Regex` searches backward from where a match ends, patterns, the text after
+# these bytes, and where matches are in that, by their patterns. The next match is as far after the last one again.
 FAR = 30_000
 FAR_ONES = [
     (["x[a-c]*y", "q+"], "xabcay", [(0, 0, 6)]),
@@ -70,7 +71,7 @@ FAR_ONES = [
     (["\\bq|éé", "z"], " éé q", [(0, 1, 5), (0, 6, 7)]),
 ]
 
-# Why patterns are refused: for the first text that is no pattern, and else for their weight together, and 1.
+# Why patterns are refused: for the first text that is no pattern, otherwise for the sum of their weights, plus 1.
 REFUSED = [
     (["a", "b(", "c)"], "the pattern isn't in the grammar"),
     (["(", "a" * 65_537], "the pattern isn't in the grammar"),
@@ -87,14 +88,14 @@ def about(patterns, haystack, answer, cut=0, asked=None):
 
 
 def under(patterns, haystack, answer, cut=0, asked=None):
-    """Cases by a `Regex` with each engine on and off, and with caches of which each size comes in turn."""
+    """Cases by a `Regex` with each engine on and off, and with caches of each size in turn."""
     for ways in engines():
         given = ".".join(filter(None, (ways, next(ROOMS))))
         yield about_settings("under", patterns, answer, given, haystack, cut, asked)
 
 
 def answer_of(trees, haystack, asked):
-    """The matches that the model finds, as the program writes them."""
+    """The model's matches, as the program writes them."""
     slice_, span, anchored = asked
     pattern = anchored - FIRST if anchored >= FIRST else None
     told = Search(trees, haystack, slice_, span, anchored != ANYWHERE, pattern=pattern).told()
@@ -111,7 +112,7 @@ def vectors():
 
 
 def ones():
-    """Searches for one pattern under no settings, and those of the table."""
+    """Searches for one pattern with default settings, and those of the table."""
     for pattern, haystack, answer, *asked in ONES:
         if len(asked) > 1 or re.search("[a-z]", answer):
             continue
@@ -124,7 +125,7 @@ def ones():
 
 
 def far():
-    """Searches for matches that lie far from one another."""
+    """Searches for matches that are far from one another."""
     for patterns, behind, found in FAR_ONES:
         part = FAR * b"-" + behind.encode()
         for size in SIZES:

@@ -1,8 +1,8 @@
-"""What slices of ropes answer, on bin/rope-driver, which reads rows, one a line.
+"""Slices of ropes, on bin/rope-driver, which reads rows, one a line.
 
-The slices are those of trees whose leaves the rows give, so that also texts of a few characters lie in several chunks, in
-all ways that cut no CR LF. What is due is told by the model of tests/rope_model.py, and where a value is known from
-outside, it stands here. ROPE_DRIVER names another program than bin/rope-driver.
+The slices are those of trees with the leaves of a row, so that also texts of a few characters are in several chunks, in
+all ways that split no CR LF. The expected answers come from the model of tests/rope_model.py; values that are known
+from elsewhere are listed here. ROPE_DRIVER names another program than bin/rope-driver.
 """
 import functools
 import itertools
@@ -18,7 +18,7 @@ from rope_texts import LETTERS, cut_at_random, cuttings, pairs, shortest_leaves,
 # Each character that breaks lines, and those that break none: the other line ends of Unicode, and their neighbours.
 ALL_BREAKS = "a\nb\vc\fd\re\r\nf\x85g\u2028h\u2029i\t\x0e\x1f ¥\x84\x86\u2027\u202a"
 
-# A text, what is asked of a rope of it and of a slice over it, and the answer, to which the plain forms' is added.
+# A text, a request for a rope of it and for a slice over it, and the answer, followed by that of the plain methods.
 VECTORS = [
     ("\r\n", "lengths", "2 2 2 2"),
     ("\r\n", "places,0", "Ok(0) Ok(0) Ok(0) Ok(0) Ok(0) Ok(0) Ok(0) Ok(0) Some(13) Some(13) 0d0a/2|"),
@@ -68,17 +68,17 @@ VECTORS = [
     ("\x85", "lengths", "2 1 1 1"),
 ]
 
-# The answers to a range over `aé\r\n` as one of characters and as one of bytes, where None is not asked.
+# The answers to a range over `aé\r\n` as one of characters and as one of bytes; None isn't requested.
 RANGE_TEXT = "aé\r\n"
 RANGE_KINDS = ["a..b", "a..=b", "a..", "..b", "..=b", ".."]
 
 RANGES = [
-    # A range that starts above its end comes first, also where it goes past the text's end too.
+    # A range that starts above its end is refused first, also if it goes past the text's end too.
     ("a..b", 3, 2, "CharRangeInvalid(3, 2)", "ByteRangeInvalid(3, 2)"),
     ("a..b", 9, 8, "CharRangeInvalid(9, 8)", "ByteRangeInvalid(9, 8)"),
     ("a..b", GREATEST, 0, f"CharRangeInvalid({GREATEST}, 0)", f"ByteRangeInvalid({GREATEST}, 0)"),
     ("a..=b", 9, 4, "CharRangeInvalid(9, 5)", "ByteRangeInvalid(9, 5)"),
-    # Then one that goes past it, also where a character is cut.
+    # Then one that goes past it, also if a character is split.
     ("a..b", 2, 6, "CharRangeOutOfBounds(Some(2), Some(6), 4)", "ByteRangeOutOfBounds(Some(2), Some(6), 5)"),
     ("a..b", 0, GREATEST, f"CharRangeOutOfBounds(Some(0), Some({GREATEST}), 4)", f"ByteRangeOutOfBounds(Some(0), Some({GREATEST}), 5)"),
     (
@@ -94,12 +94,12 @@ RANGES = [
     ("..b", 0, 6, None, "ByteRangeOutOfBounds(None, Some(6), 5)"),
     ("a..", 5, 0, "CharRangeOutOfBounds(Some(5), None, 4)", "/1"),
     ("a..", 6, 0, None, "ByteRangeOutOfBounds(Some(6), None, 5)"),
-    # Then one that cuts a character.
+    # Then one that splits a character.
     ("a..", 2, 0, "0d0a/2", "ByteRangeNotCharBoundary(Some(2), None)"),
     ("..b", 0, 2, "61c3a9/1", "ByteRangeNotCharBoundary(None, Some(2))"),
     ("..=b", 0, 1, "61c3a9/1", "ByteRangeNotCharBoundary(None, Some(2))"),
     ("a..=b", 2, 4, None, "ByteRangeNotCharBoundary(Some(2), Some(5))"),
-    # And ranges that are taken.
+    # And ranges that are accepted.
     ("a..=b", 2, 3, "0d0a/2", None),
     ("..", 0, 0, "61c3a90d0a/2", "61c3a90d0a/2"),
     ("a..", 4, 0, "/1", None),
@@ -112,7 +112,7 @@ RANGES = [
 
 
 def known():
-    """Values that are known from outside, of ropes and of slices, in one leaf and in leaves as short as may be."""
+    """Values that are known from elsewhere, of ropes and of slices, in one leaf and in leaves as short as possible."""
     plain = {"places": with_plain_places, "chunk": with_plain_chunks}
     for text, ask, answer in VECTORS:
         name = ask.partition(",")[0]
@@ -124,7 +124,7 @@ def known():
 
 
 def known_ranges():
-    """The answers to ranges that are known from outside."""
+    """The answers to ranges that are known from elsewhere."""
 
     def wrong(kind, start, end, dues, line):
         answers = line[:-1].split("|")
@@ -141,7 +141,7 @@ def known_ranges():
 
 
 def cut_breaks():
-    """Slices that end or start inside a row of CR LF."""
+    """Slices that end or start inside a sequence of CR LF."""
     for pieces in (["\r\n" * 15], ["\r\n"] * 15):
         for place in range(31):
             asks = ["lengths", "whole", f"slice,{place},30", "lengths", "whole", f"byte_slice,{place},30", "lengths"]
@@ -151,7 +151,7 @@ def cut_breaks():
 
 
 def there_and_back(count, place):
-    """A script that goes from a place to the end, back to the start and to that place again; and turned round there,
+    """A script that goes from a position to the end, back to the start and to that position again; and, reversed there,
     to the start, to the end and back. Each end is met twice."""
     return (
         "n" * (count - place + 1) + "p" * (count + 2) + "n" * place
@@ -160,12 +160,12 @@ def there_and_back(count, place):
 
 
 def to_and_fro(count):
-    """A script that turns at each item, forwards and backwards, by steps and by turns, and goes on with clones."""
+    """A script that turns at each item, forward and backward, by steps and by reversals, and continues with clones."""
     return "lnnpclrpr" * (count + 1) + "r" + "lnnprcr" * (count + 1)
 
 
 def walks(kind, count, last, cut):
-    """Walks from each place up to the last one, and from one past it."""
+    """Walks from each position up to the last one, and from one past it."""
     for place in range(last + 2):
         script = there_and_back(count, min(place, count))
         yield f"{kind},{place},{script}", cut.walk(kind, place, script)
@@ -180,7 +180,7 @@ def joined(both):
 
 @functools.lru_cache(maxsize=10_000)
 def asks_of_text(text):
-    """What is asked of each slice with this text, however it is cut, and the answers."""
+    """The requests for each slice with this text, however it is split, and the answers."""
     cut, told = Cut((text,) if text else ()), text_of(text)
     both = [("lengths", lengths(text)), ("text", hexed(text))]
     both += [(f"places,{idx}", told.places(idx)) for idx in range(told.bytes + 2)]
@@ -192,7 +192,7 @@ def asks_of_text(text):
 
 @functools.lru_cache(maxsize=10_000)
 def asks_of_chunks(pieces):
-    """What is asked of each slice that is cut so, and the answers."""
+    """The requests for each slice with these chunks, and the answers."""
     cut = Cut(pieces)
     whole, text = cut.whole, hexed(cut.whole.text)
     both = [("as_str", cut.as_str()), ("to_text", text), ("display", text)]
@@ -226,7 +226,7 @@ def slices_row(pieces, ranges, *kinds):
 
 
 def small_slices():
-    """Every slice of short texts that are cut in every way: what it answers at each index, and every walk."""
+    """Every slice of short texts that are split in every way: the answers at each index, and every walk."""
     for length, letters in ((0, LETTERS), (1, LETTERS), (2, LETTERS), (3, LETTERS), (4, LETTERS[:4])):
         for text in small_texts(letters, length):
             for pieces in cuttings(text):
@@ -234,7 +234,7 @@ def small_slices():
 
 
 def longer_slices():
-    """Every slice of texts of five characters in one leaf, and the whole of them in leaves as short as may be; and a
+    """Every slice of texts of five characters in one leaf, and the whole of them in leaves as short as possible; and a
     text with each line break."""
     for pieces in ((ALL_BREAKS,), shortest_leaves(ALL_BREAKS)):
         yield slices_row(pieces, [(0, len(ALL_BREAKS)), (3, 20)], asks_of_text, asks_of_chunks)
@@ -255,7 +255,7 @@ def slices_of_slices():
 
 
 def narrowings(chance, cut):
-    """Slices of slices at random, of a text in leaves: how each is reached, and what it is."""
+    """Random slices of slices, of a text in leaves: how each is reached, and its text."""
     length = len(cut.whole.text)
     for _ in range(10):
         start = chance.randint(0, length)
@@ -268,7 +268,7 @@ def narrowings(chance, cut):
 
 
 def asks_at_random(chance, cut):
-    """Some of what is asked of a slice, at places drawn by lot, and the answers."""
+    """Some of the requests for a slice, at random offsets, and the answers."""
     whole, both = cut.whole, [("lengths", lengths(cut.whole.text))]
     for _ in range(3):
         idx = chance.randint(0, whole.bytes + 1)
@@ -282,7 +282,7 @@ def asks_at_random(chance, cut):
 
 def long_texts():
     """Slices of slices of texts in many leaves: trees of up to four levels over leaves of a few bytes, and of longer
-    leaves, at places drawn by lot."""
+    leaves, at random offsets."""
     chance = random.Random(5)
     for length, most in ((300, 1), (3_000, 8), (12_000, 1), (12_000, 8), (100_000, 600), (400_000, MOST_BYTES)):
         pieces = cut_at_random(chance, text_at_random(chance, length), most)
@@ -299,8 +299,8 @@ def long_texts():
 
 
 def pair_row(left, right):
-    """A row that compares two texts in leaves. Hashers are given as many writes of as many bytes where the texts have
-    as many."""
+    """A row that compares two texts in leaves. Hashers get equally many writes of equally many bytes if the texts have
+    equally many."""
     texts = ["".join(pieces) for pieces in (left, right)]
     is_equal = "true" if texts[0] == texts[1] else "false"
     is_as_long = "true" if len(texts[0].encode()) == len(texts[1].encode()) else "false"
@@ -309,12 +309,12 @@ def pair_row(left, right):
 
 
 def pairs_of_texts():
-    """Short texts in pairs, cut in every way, and long ones that differ in the last character, or in their length."""
+    """Short texts in pairs, split in every way, and long ones that differ in the last character, or in their length."""
     cuts = [pieces for length in range(3) for text in small_texts(LETTERS, length) for pieces in cuttings(text)]
     for left, right in itertools.product(cuts, repeat=2):
         yield pair_row(left, right)
     chance = random.Random(3)
-    # Hashers are given blocks of 256 bytes.
+    # Hashers get blocks of 256 bytes.
     for middle in (0, 126, 127, 128, 254, 255, 256, 382, 490, 2_500):
         texts = ["é" * middle + end for end in ("éé", "éê", "é", "")]
         for left, right in itertools.product(texts, repeat=2):

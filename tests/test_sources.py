@@ -10,20 +10,20 @@ from harness import TOP, example_rows, test
 
 # The crates of ropes and of reports.
 CITES_LAWS = re.compile(r"(str_indices|ropey|ropey_tree|ropey_walk|rope_search_(changes|templates|reports))/")
-# Words of definitions that say the same of the types of several crates.
+# Words of definitions with the same meaning for types of several crates.
 SHARED = set("""CacheView ComesNext FollowEachOther Gives GivesInOrder GivesNext HasFinds HasFirstMatches InClass IsAnswer
     IsAnswerAt IsCacheOf IsEmptyAtLast IsShowing MatchesStandAtBoundaries Name OneOf StandsAtBoundaries between end_of
     is_among is_anchored joined left_of limit_in nodes_of none_set prefilter_of search_by showing span_of start_of
     with_replaced""".split())
-# Inner crates, and the crates of their group, which alone name them.
+# Inner crates, and the crates of their group, which are the only ones to name them.
 GROUPS = {r"ropey_(tree|walk)": r"ropey\w*", r"rx_\w+": r"rx_\w+|regex_cursor\w*",
           r"rope_search_(io|changes|reports|templates)": r"rope_search\w*"}
-# A line whose call does nothing but to show a proof what the type keeps.
+# A line whose call only shows a proof an invariant of the type.
 FOR_PROOFS = r"^ *let _ = \(?[\w.]+\(\)"
 
 
 def sources():
-    """The paths of the code of libraries, each below crates/, and what stands there, comments left out."""
+    """The paths of the code of libraries, each below crates/, and its text, without comments."""
     for path in sorted(glob.glob(os.path.join(TOP, "crates", "*", "src", "**", "*.rt"), recursive=True)):
         crate = os.path.relpath(path, os.path.join(TOP, "crates")).split(os.sep)[0]
         root = os.path.join(TOP, "crates", crate, "src", "lib.rt")
@@ -42,8 +42,8 @@ def that_name(form, files):
 
 
 def test_counters():
-    """Rows and searches are counted by what a caller hands in: no library makes a counter of its own, but where a program
-    in C opens a session."""
+    """Rows and searches are counted by the caller's counter: no library makes a counter of its own, except when a C
+    program opens a session."""
     above = [(path, text) for path, text in sources() if path.startswith("rope_search")]
     wrong = [f"{path} makes one" for path in that_name(r"\bLines\s*::\s*new\b", above)]
     wrong += [f"{path} makes one" for path in that_name(r"\bLines\s*::\s*for_caller_in_c\b", above)
@@ -76,21 +76,21 @@ def test_regexes():
 
 
 def test_groups():
-    """An inner crate is named inside its group alone: what crates.txt doesn't list, no file of a crate can name."""
+    """An inner crate is named only inside its group: no file of a crate can name what crates.txt doesn't list."""
     wrong = [f"{crate} names {library}" for crate, libraries in listed().items() for library in libraries
              for inner, group in GROUPS.items() if re.fullmatch(inner, library) and not re.fullmatch(group, crate)]
     test(f"{len(listed())} crates name inner crates of their group alone", wrong)
 
 
 def test_breaks():
-    """What breaks are is said in one place."""
+    """The set of breaks is defined in one place."""
     ropes = [(path, text) for path, text in sources() if path.startswith("rope")]
     named = that_name(r"\bstr_indices\s*::\s*lines(_lf|_crlf)?\b", ropes)
     test("which line breaks count is named once", [] if named == ["ropey_tree/src/breaks.rt"] else [f"{named}"])
 
 
 def test_positions():
-    """Places are told as positions, and found by them, by three chunks of a rope at most, with no conversion."""
+    """Offsets are converted to positions and back by at most three chunks of a rope, without a conversion."""
     text = dict(sources())["rope_search_reports/src/positions.rt"]
     test("positions take no conversion", re.findall(r"\.\w+_to_\w+\(", text))
     count = len(re.findall(r"\.chunk\w*\(", text))
@@ -107,7 +107,7 @@ def test_laws():
 
 
 def test_words():
-    """A word of the definitions has one meaning, in one crate, but for those that say the same of several types."""
+    """A word of the definitions has one meaning, in one crate, except those with the same meaning for several types."""
     homes = {}
     for path in glob.glob(os.path.join(TOP, "crates", "*", "specs", "**", "*.antt"), recursive=True):
         crate = os.path.relpath(path, os.path.join(TOP, "crates")).split(os.sep)[0]
@@ -130,7 +130,7 @@ def test_meaning():
 
 
 def test_messages():
-    """What the program tells of a run that breaks off is what the page says, also where no test lasts so long."""
+    """The program's messages for a run that stops early are those of the page, also if no test runs that long."""
     text = read(os.path.join(TOP, "crates", "rope_search_cli", "src", "main.rt"))
     form = re.search(r'eprintln!\(rt; "(.*)\{\}"', text)[1]
     told = {form + message for message in re.findall(r'Broken::\w+ => "(.*)"', text)}
@@ -140,19 +140,19 @@ def test_messages():
 
 
 def drawn(script):
-    """What a script of the benchmarks makes of the page of results."""
+    """The output of a benchmark script for the page of results."""
     command = [sys.executable, "-B", os.path.join(TOP, "bench", script), "--shown"]
     return subprocess.run(command, stdout=subprocess.PIPE).stdout.decode()
 
 
 def test_picture():
-    """The picture of README.md is what bench/plot draws by the page of results."""
+    """The picture of README.md is the output of bench/plot for the page of results."""
     same = drawn("plot") == read(os.path.join(TOP, "docs", "letter.svg"))
     test("docs/letter.svg is what bench/plot draws", [] if same else ["it draws another: run bench/plot"])
 
 
 def test_figures():
-    """The table of README.md has the figures of the page of results, and each it cites stands there as it is."""
+    """The table of README.md has the figures of the page of results, and each that it cites is there unchanged."""
     readme, results = read(os.path.join(TOP, "README.md")), read(os.path.join(TOP, "bench", "RESULTS.md"))
     same = "\n" + drawn("cite") in readme
     test("README.md has the table that bench/cite makes", [] if same else ["it makes another: run bench/cite"])
@@ -163,7 +163,7 @@ def test_figures():
 
 
 def test_costs():
-    """The page of ways to embed it has what a letter costs by each, as the page of results tells it."""
+    """The page of ways to embed the library has the cost of a letter for each, as the page of results does."""
     results, page = read(os.path.join(TOP, "bench", "RESULTS.md")), read(os.path.join(TOP, "docs", "embedding.md"))
     rows = re.findall(r"^\| (.*?) \| ([\d,]+) (ns|us) \|", results.split("\n## embedded\n")[1].split("\n## ")[0], re.M)
     measured = {name: int(number.replace(",", "")) / (1000 if unit == "ns" else 1) for name, number, unit in rows}
@@ -176,7 +176,7 @@ def test_costs():
 
 
 def anchors(text):
-    """What the headings of a page are linked by."""
+    """The anchors of the headings of a page."""
     headings = re.findall(r"^#+ (.*)", re.sub(r"(?ms)^```.*?^```", "", text), re.M)
     return {re.sub(r"[^\w -]", "", heading).lower().replace(" ", "-") for heading in headings}
 
@@ -201,8 +201,8 @@ def test_links():
 
 
 def test_length():
-    """The pages can be read: that of results has 3,000 words at most, all together have 28,000, but for what tools/meaning
-    writes."""
+    """The pages are short enough to read: that of results has 3,000 words at most, all together have 28,000, except
+    what tools/meaning writes."""
     pages = [os.path.join(TOP, name) for name in ("README.md", "CONTRIBUTING.md", "bench/RESULTS.md")]
     written = {os.path.join(TOP, "docs", name) for name in ("meaning.md", "definitions.md")}
     counts = [len(read(path).split()) for path in (*pages, *set(glob.glob(os.path.join(TOP, "docs", "*.md"))) - written)]

@@ -1,5 +1,5 @@
-"""All small texts of bin/rope-search, beside the model: replacements in them, edits that are undone under other patterns,
-and positions. A part of their own, since they take as long as all else of test_edits.py, which says how they are made."""
+"""All small texts of bin/rope-search, compared with the model: replacements in them, edits that are undone with other
+patterns, and positions. A separate part, because they take as long as the rest of test_edits.py, which makes them."""
 from harness import test
 from test_edits import (REPLACED_PATTERNS, TURNED_PATTERNS, nexts_of, positions_around, replacements_in, small_texts,
                         turned_under)

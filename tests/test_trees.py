@@ -1,5 +1,5 @@
-"""What is made of the tree of a rope, on bin/rope-driver: a leaf takes a text, and the tree is split, or joined with
-another one. The rows give the leaves of the trees. ROPE_DRIVER names another program than bin/rope-driver.
+"""Operations on the tree of a rope, on bin/rope-driver: a leaf gets a text inserted, and the tree is split, or joined
+with another one. The rows give the leaves of the trees. ROPE_DRIVER names another program than bin/rope-driver.
 """
 import itertools
 import random
@@ -9,7 +9,7 @@ from rope_rows import check, wrong_chunks
 from rope_texts import cut_at_random, cuttings, full
 
 
-# What stands in the place of bytes of one leaf, and the leaf then, or None where there is none.
+# The replacement of bytes of one leaf, and the resulting leaf, or None if there is none.
 REPLACED = [
     ("ab", 0, 0, "xyz", "xyzab"),
     ("ab", 1, 1, "é", "aéb"),
@@ -27,7 +27,7 @@ REPLACED = [
     ("é", 0, 1, "a", None),
     # Nothing would be left.
     ("ab", 0, 2, "", None),
-    # What a leaf beside it sees would change.
+    # A neighbouring leaf would be affected.
     ("ab", 0, 0, "\n", None),
     ("ab", 2, 2, "\r", None),
     ("\na", 0, 0, "b", None),
@@ -36,8 +36,8 @@ REPLACED = [
     ("a\r", 2, 2, "b", None),
 ]
 
-# How many leaves 900 bytes come to lie in where some bytes have others in their place. A leaf takes a text of up to
-# 983 bytes, and two leaves take one of up to 1,960.
+# The number of leaves of 900 bytes with some replaced by others. A leaf takes a text of up to 983 bytes, and two leaves
+# take one of up to 1,960.
 FULL_LEAF = [
     (0, 0, 83, 1),
     (900, 900, 84, 2),
@@ -57,13 +57,13 @@ def told_tree(pieces, height):
 
 
 def leaves_in(answer):
-    """The leaves that are told of a tree, and its height."""
+    """The leaves of a printed tree, and its height."""
     *leaves, height = answer.split("|")
     return [bytes.fromhex(leaf).decode() for leaf in leaves], height
 
 
 def tree_row(pieces, asks, wrong):
-    """A row on what is made of a tree, and what is wrong with its answers."""
+    """A row on an operation on a tree, and what is wrong with its answers."""
     line = " ".join(["node", "|".join(map(hexed, pieces)), *asks])
 
     def due(answer):
@@ -91,8 +91,8 @@ def replacements():
 
 
 def two_leaves():
-    """A full leaf that takes some characters becomes two of 488 bytes or more, wherever a CR LF or a character lies
-    over its middle."""
+    """A full leaf with characters inserted becomes two of 488 bytes or more, wherever a CR LF or a character spans its
+    middle."""
     for unit in ("a", "\r\n", "é", "せ", "🐸", "a\r\n🐸"):
         for size in range(980, MOST_BYTES + 1):
             old = full(unit, size)
@@ -111,8 +111,8 @@ def two_leaves():
 
 
 def edited_trees():
-    """Trees of many leaves in which a leaf takes a text, and becomes two and grows the tree, or there is no such
-    tree; the tree itself stays."""
+    """Trees with many leaves, one of which gets a text inserted, and becomes two and grows the tree, or there is no
+    such tree; the tree itself is unchanged."""
     chance = random.Random(8)
     shapes = [(["a" * 983] * 24, "bcde"), (cut_at_random(chance, full("é\r\nab", 30_000)), "")]
     shapes += [(cut_at_random(chance, full("é\r\nab", 30_000)), "せせ"), (["ab"] * 600, "c" * 983)]
@@ -136,7 +136,7 @@ def edited_trees():
 
 
 def halves():
-    """Trees that are split before each character. Both halves are cut as the tree is, but for the leaf at the seam."""
+    """Trees that are split before each character. Both halves are split as the tree is, except the leaf at the seam."""
     chance = random.Random(9)
     texts = ["\r\n", "a\r\nb", "\n\r\r\n\n", "aé\r\nせ🐸"]
     shapes = [pieces for text in texts for pieces in cuttings(text)]
@@ -156,8 +156,8 @@ def halves():
 
 
 def joined_trees():
-    """Trees of any heights that are joined: leaves at the seam that fit become one, a short one is filled, and no CR
-    LF is cut."""
+    """Trees of any heights that are joined: leaves at the seam that fit become one, a short one is filled, and no CR LF
+    is split."""
     chance = random.Random(10)
     sizes = [(1, 1), (1, 50_000), (3_000, 3_000), (50_000, 3_000), (50_000, 50_000), (1, 300_000)]
     shapes = []

@@ -1,9 +1,9 @@
-"""The library in WebAssembly: its heap, natively, beside a model; the script that changes the target, on lines that it must
-refuse; the module's calls, and commands by them in sessions at random, under Node; refused memory and the end of the stack;
-and the page of examples/web in Chromium. What is missing, of the module, Node and Chromium, is named, and its tests are left
-out.
+"""The library in WebAssembly: its heap, natively, compared with a model; the script that changes the target, on lines
+that it must refuse; the module's calls, and commands by them in random sessions, under Node; refused memory and the end
+of the stack; and the page of examples/web in Chromium. If the module, Node or Chromium is missing, it is named, and its
+tests are left out.
 
-The module is that of ROPE_SEARCH_WEB, else rope_search.wasm beside the library that C links.
+The module is that of ROPE_SEARCH_WEB, otherwise rope_search.wasm next to the C library.
 """
 import json
 import os
@@ -32,7 +32,7 @@ MODULE = os.path.abspath(os.environ.get("ROPE_SEARCH_WEB") or os.path.join(LIBRA
 FOLDER = os.path.join(TOP, "bindings", "web")
 MEMORY64 = "--experimental-wasm-memory64"
 RUNS_OF_HEAP = 40
-SESSIONS, SESSIONS_IN_RUN = 300, 15  # at random, hostile ones among them
+SESSIONS, SESSIONS_IN_RUN = 300, 15  # random ones, some of them hostile
 SANITIZED = ["-std=c99", "-pedantic", "-O1", "-g", "-Wall", "-Wextra", "-Werror", "-fno-strict-aliasing",
              "-fsanitize=address,undefined", "-fno-sanitize-recover=all"]
 
@@ -77,7 +77,7 @@ BEFORE = [
     "!1 = !{}",
 ]
 EXPORT, INNER, LOAD = 6, 13, 16
-# Lines that put something of x86-64's, or something unknown, in the place of the line of that number.
+# Lines that put something of x86-64's, or something unknown, in place of the line with that number.
 REFUSED = [
     (1, 'target datalayout = "e-m:e-p:32:32-i64:64-S128"'), (2, 'target triple = "aarch64-unknown-linux-gnu"'),
     (4, "@static.0 = thread_local global i32 0, align 4"), (4, 'module asm "nop"'),
@@ -111,7 +111,7 @@ def refuses(lines):
 
 
 def wrong_retargeting():
-    """A small module gets its guards, and each line that isn't known is refused."""
+    """A small module gets its guards, and each unknown line is refused."""
     out, exports, functions = retarget.retargeted(BEFORE)
     text = "\n".join(out)
     due = [
@@ -130,7 +130,7 @@ def wrong_retargeting():
 
 # ---- the calls
 
-# What the header's types are in calls.js, where one type alone, or one with its length, is an argument.
+# The header's types in calls.js, for arguments of one type, or of one with its length.
 KINDS = {
     # A position is passed as a line and a column.
     ("rope_search_position",): "size size", ("const uint8_t*", "size_t"): "text", ("size_t",): "size", ("uint64_t",): "size",
@@ -142,7 +142,7 @@ VALUES = {"bool": "bool", "size_t": "size", "uint64_t": "size", "uint32_t": "u32
 
 
 def passed(kinds):
-    """The kinds of calls.js for types of C."""
+    """The kinds in calls.js for types of C."""
     found = []
     while kinds:
         known = max((form for form in KINDS if tuple(kinds[: len(form)]) == form), key=len, default=None)
@@ -159,7 +159,7 @@ def is_array(kinds):
 
 
 def row_of(result, kinds):
-    """What calls.js has to have of a call of C, its session left out."""
+    """The entry that calls.js must have for a call of C, without its session."""
     kinds = [kind.replace(" *", "*") for kind in kinds]
     has_session, kinds = kinds[:1] == ["rope_search*"], [kind for kind in kinds if kind != "rope_search*"]
     if result.startswith("rope_search_"):
@@ -197,7 +197,8 @@ console.log(JSON.stringify({ ...calls, methods }));"""
 
 
 def wrong_tables(node):
-    """calls.js must have the calls, structures, refusals and reasons of the header, and the declarations its methods."""
+    """calls.js must have the calls, structures, refusals and reasons of the header, and the declarations its
+    methods."""
     status, said = ran([node, "--input-type=module", "-e", TABLES.replace("FOLDER", FOLDER)], ROOM)
     if status:
         return said.splitlines()
@@ -253,7 +254,7 @@ PROBE = 'import { isSupported } from "FOLDER/rope-search.js"; process.exitCode =
 
 
 def wrong_in_web(words, package):
-    """The code of the page must print what it says, in a folder where the package is installed."""
+    """The code of the page must print what the page says, in a folder where the package is installed."""
     code, due = shown("web", "js")
     at = tempfile.mkdtemp(dir=ROOM)
     os.makedirs(os.path.join(at, "node_modules"))
@@ -264,7 +265,7 @@ def wrong_in_web(words, package):
 
 
 def wrong_script(words, name, *arguments):
-    """What is wrong with a script of tests/, which says at its end how many checks it made."""
+    """What is wrong with a script of tests/, which prints the number of its checks at its end."""
     script = os.path.join(TOP, "tests", name)
     return wrong_end([*words, script, *arguments], ROOM, [r"^[1-9]\d* checks$"])
 
@@ -277,7 +278,7 @@ def changed_module(name, change):
 
 
 def sessions_at_random():
-    """The commands of sessions at random, several in an input, with what is no command left out."""
+    """The commands of random sessions, several in an input, without those that are none."""
     count = share_of(SESSIONS)
     for first in range(0, count, SESSIONS_IN_RUN):
         data = b"".join(part for number in range(first, min(first + SESSIONS_IN_RUN, count))
@@ -304,7 +305,7 @@ def different(data, got, due):
 
 
 def wrong_replies(words, inputs):
-    """What is wrong with the replies by calls of the module to inputs, each with what is due."""
+    """What is wrong with the replies by calls of the module to inputs, each with the expected output."""
     inputs, folder = list(inputs), tempfile.mkdtemp(dir=ROOM)
     files = [os.path.join(folder, str(number)) for number in range(len(inputs))]
     for file, (data, _) in zip(files, inputs):
@@ -326,7 +327,7 @@ def wrong_example(words, folder):
 
 
 def beside_program():
-    """Sessions at random, and what the program replies."""
+    """Random sessions, and the program's replies."""
     for data in sessions_at_random():
         yield data, run(data).out
 

@@ -1,7 +1,7 @@
-"""A small model of searches, by their definitions alone: patterns as trees, the programs that stand for them, the
-walks through these, and what a search finds. It is slow, and looks like no engine.
+"""A small model of searches, from their definitions: patterns as trees, their programs, the walks through these, and
+the results of searches. It is slow, and shares nothing with the engines.
 
-Places are byte indices into a content, which may be any bytes.
+Offsets are byte indices into a haystack, which may be any bytes.
 """
 import functools
 import itertools
@@ -32,7 +32,7 @@ class Set:
 
 @dataclass(frozen=True)
 class Look:
-    """What has to stand around a place: a key of LOOKS."""
+    """The condition on the text around an offset: a key of LOOKS."""
 
     text: str
 
@@ -62,7 +62,7 @@ class Alternation:
 
 @dataclass(frozen=True)
 class Repeat:
-    """So many of a tree, from the least number to the most (None: any), as many as may be or as few."""
+    """A repetition of a tree, from the least number to the greatest (None: any), as many as possible or as few."""
 
     inside: Any
     least: int
@@ -71,22 +71,22 @@ class Repeat:
 
 
 def below(tree):
-    """The trees that a tree is made of."""
+    """The trees directly below a tree."""
     if isinstance(tree, (Concat, Alternation)):
         return tree.parts
     return [tree.inside] if isinstance(tree, (Group, Repeat)) else []
 
 
 def postfix(tree):
-    """What spells a repetition, behind what is repeated."""
+    """The spelling of a repetition, after what is repeated."""
     counts = f"{{{tree.least}}}" if tree.least == tree.most else f"{{{tree.least},{tree.most or ''}}}"
     short = {(0, None): "*", (1, None): "+", (0, 1): "?"}
     return short.get((tree.least, tree.most), counts) + ("" if tree.is_greedy else "?")
 
 
 def spelled(tree, looks=None, level=0):
-    """The pattern that spells a tree; `looks` has other spellings of looks. The level tells what is put between
-    `(?:` and `)`: at 1 alternations, at 2 also what is in a row or empty, at 3 also repetitions."""
+    """The pattern that spells a tree; `looks` has other spellings of assertions. The level says what is put between
+    `(?:` and `)`: at 1 alternations, at 2 also sequences and the empty tree, at 3 also repetitions."""
     if isinstance(tree, Set):
         return tree.text
     if isinstance(tree, Look):
@@ -103,13 +103,13 @@ def spelled(tree, looks=None, level=0):
 
 
 def group_numbers(tree):
-    """The numbers of the groups in a tree, of which 0 is the whole of it."""
+    """The numbers of the groups in a tree; 0 is the whole of it."""
     inside = [number for part in below(tree) for number in group_numbers(part)[1:]]
     return [0] + ([tree.number] if isinstance(tree, Group) else []) + inside
 
 
 def may_be_empty(tree):
-    """Whether some path through the tree reads no character, whatever looks stand on it."""
+    """Whether some path through the tree reads no character, whatever assertions are on it."""
     if isinstance(tree, Alternation):
         return any(map(may_be_empty, tree.parts))
     if isinstance(tree, Repeat) and tree.least == 0:
@@ -118,7 +118,7 @@ def may_be_empty(tree):
 
 
 def static_groups(tree):
-    """How many groups stand in each match of the tree, if that is one number; else None."""
+    """The number of groups in each match of the tree, if that is the same for all, otherwise None."""
     inside = [static_groups(part) for part in below(tree)]
     if isinstance(tree, Alternation):
         return inside[0] if len(set(inside)) == 1 else None
@@ -128,15 +128,15 @@ def static_groups(tree):
 
 
 def static_captures(trees):
-    """The same of several patterns, of which one matches, with its whole match."""
+    """The same for several patterns, one of which matches, with its whole match."""
     each = {static_groups(tree) for tree in trees}
     return each.pop() + 1 if len(each) == 1 and None not in each else None
 
 
-# ---- characters and looks
+# ---- characters and assertions
 
 WHITE_SPACE = set("\t\n\v\f\r \x85\xa0\u1680\u2028\u2029\u202f\u205f\u3000") | set(map(chr, range(0x2000, 0x200B)))
-# The letters in circles and squares, which are alphabetic though no category tells it.
+# The letters in circles and squares, which are alphabetic though no category says so.
 ENCLOSED = [(0x24B6, 0x24E9), (0x1F130, 0x1F149), (0x1F150, 0x1F169), (0x1F170, 0x1F189)]
 WORD_CATEGORIES = {"Lu", "Ll", "Lt", "Lm", "Lo", "Nl", "Mn", "Mc", "Me", "Nd", "Pc"}
 
@@ -150,13 +150,13 @@ def is_space(character):
 
 
 def is_word(character):
-    """Whether it is a letter, a mark, a decimal digit, a connector such as `_`, or joins or parts letters."""
+    """Whether it is a letter, a mark, a decimal digit, a connector such as `_`, or joins or separates letters."""
     enclosed = any(low <= ord(character) <= high for low, high in ENCLOSED)
     return unicodedata.category(character) in WORD_CATEGORIES or enclosed or character in "\u200c\u200d"
 
 
 def whole(data):
-    """The one character whose UTF-8 these bytes are, if they are that of one."""
+    """The only character whose UTF-8 these bytes are, if they are that of one."""
     try:
         text = data.decode()
     except UnicodeDecodeError:
@@ -174,17 +174,17 @@ def last_character(data):
 
 
 def words(before, after):
-    """Whether a word character stands on each side. A side that is no whole character has none."""
+    """Whether there is a word character on each side. A side without a whole character has none."""
     sides = last_character(before), first_character(after)
     return [side is not None and is_word(side) for side in sides]
 
 
 def is_cut(before, after):
-    """Whether bytes stand on a side that are no whole character."""
+    """Whether the bytes on a side are no whole character."""
     return (before and not last_character(before)) or (after and not first_character(after))
 
 
-# When each look holds, by the bytes before a place and those after it, and the byte that ends lines.
+# When each assertion holds, given the bytes before an offset and those after it, and the byte that ends lines.
 LOOKS = {
     "\\A": lambda before, after, line_end: not before,
     "^": lambda before, after, line_end: not before,
@@ -201,10 +201,10 @@ LOOKS = {
 
 
 class Program:
-    """The nodes that stand for trees, each as what it is, its ordered edges to other nodes, and the slot, the look,
-    the set or the pattern that it has. A tree's nodes are made after those that they lead on to. One pattern stands
-    alone; several, or none, stand under one node with edges to them. The slots of all groups 0 come first, then those
-    of the other groups, pattern by pattern."""
+    """The nodes of trees, each as its kind, its ordered edges to other nodes, and the slot, the assertion, the set or
+    the pattern that it has. A tree's nodes are made after their next nodes. One pattern has only its own nodes;
+    several, or none, are below one node with edges to them. The slots of all groups 0 come first, then those of the
+    other groups, pattern by pattern."""
 
     def __init__(self, *trees):
         self.nodes, self.patterns, self.slots = [], [], 2 * len(trees) - 2
@@ -219,16 +219,16 @@ class Program:
         return len(self.nodes) - 1
 
     def fork(self, into, on, is_greedy):
-        """A node with edges into what is repeated and on, the first preferred where it is greedy."""
+        """A node with edges into what is repeated and past it; the first is preferred if it is greedy."""
         return self.add("pass", [into, on] if is_greedy else [on, into])
 
     def noted(self, slot, inside, on):
-        """A node that notes the start, what is inside, and one that notes the end."""
+        """A node that notes the start, the contents, and a node that notes the end."""
         end = self.add("note", [on], slot + 1)
         return self.add("note", [self.code(inside, end)], slot)
 
     def code(self, tree, on):
-        """Adds nodes for a tree from which walks go on to the node `on`. Answers the node that is entered."""
+        """Adds nodes for a tree from which walks continue to the node `on`. Returns the node that is entered."""
         if isinstance(tree, Set):
             return self.add("set", [on], tree.has)
         if isinstance(tree, Look):
@@ -246,8 +246,8 @@ class Program:
         return self.add("pass", [on])
 
     def repeat(self, tree, on):
-        """The least number of copies; then optional ones, each inside the one before, or a loop. Where what may
-        be empty is repeated, `*` is an optional `+`."""
+        """The least number of copies; then optional ones, each inside the one before, or a loop. If what may be empty
+        is repeated, `*` is an optional `+`."""
         first, copies = on, tree.least
         if tree.most is not None:
             for _ in range(tree.most - tree.least):
@@ -263,7 +263,7 @@ class Program:
         return first
 
     def loop(self, tree, on):
-        """A fork into what is repeated and on, and what is repeated, which leads back to it. Answers the first
+        """A fork into what is repeated and past it, and what is repeated, which leads back to it. Returns the first
         node of what is repeated, and the fork."""
         fork = self.fork(None, on, tree.is_greedy)
         into = self.code(tree.inside, fork)
@@ -281,10 +281,10 @@ def program_of(*trees):
 
 
 class Search:
-    """Searches of a content for a tree, or for several, a tuple of them, with a slice, outside of which nothing is seen,
-    and a span, in which a match has to lie. Both are whole contents if not told; ends beyond the content are as its
-    end. Empty matches inside a character are found if `inside` is told, and lines end in the byte `line_end`. Matches
-    are anchored to a pattern alone if its number is told."""
+    """Searches of a haystack for a tree, or for several, a tuple of them, with a slice, outside of which nothing is
+    seen, and a span, in which a match has to be. Both are the whole haystack by default; ends beyond the haystack mean
+    its end. Empty matches inside a character are found if `inside` is set, and lines end at the byte `line_end`.
+    Matches are anchored to a pattern if its number is given."""
 
     def __init__(self, tree, content, slice_=None, span=None, is_anchored=False, inside=False, line_end=b"\n",
                  pattern=None):
@@ -302,13 +302,13 @@ class Search:
                       for number, (start, count) in enumerate(zip(starts, counts))]
 
     def holds(self, look, place):
-        """Whether a look holds at a place, in the content cut to the slice."""
+        """Whether an assertion holds at an offset, in the haystack cut off at the slice's ends."""
         return look(self.content[self.slice[0] : place], self.content[place : self.slice[1]], self.line_end)
 
     def least_walk(self, node, place, taken=frozenset()):
-        """The least walk from a node at a place, as where it ends and what it notes, or None. No pair of node
-        and place is taken twice: none of the nodes that were taken at this place, and a read leads to a further
-        place, where none was. The first edge that some walk goes on by is the least one's."""
+        """The least walk from a node at an offset, as where it ends and what it notes, or None. No pair of node and
+        offset is taken twice: none of the nodes that were taken at this offset, and a read leads to a further offset,
+        where none was. The least walk uses the first edge that some walk continues on."""
         key = node, place, taken
         if key not in self.known:
             self.known[key] = None if node in taken else self.walk_by_edges(node, place, taken | {node})
@@ -329,7 +329,7 @@ class Search:
         return (walk[0], ((has, place),) + walk[1]) if walk and kind == "note" else walk
 
     def walked(self, node, place):
-        """The patterns that walks from a node at a place match, each with where it ends."""
+        """The patterns that walks from a node at an offset match, each with where it ends."""
         walked, seen, left = set(), set(), [(node, place)] if self.low <= place <= self.high else []
         while left:
             pair = left.pop()
@@ -342,11 +342,11 @@ class Search:
         return walked
 
     def ends(self, place):
-        """The places where walks from the start node at a place end."""
+        """The offsets where walks from the start node at an offset end."""
         return {end for _, end in self.walked(self.program.start, place)}
 
     def further(self, kind, edges, has, place):
-        """The pairs of node and place to which the edges of a node lead at a place."""
+        """The pairs of node and offset to which the edges of a node lead at an offset."""
         if kind == "look" and not self.holds(has, place):
             return []
         if kind == "set":
@@ -356,7 +356,7 @@ class Search:
         return [(edge, place) for edge in edges]
 
     def counts(self, start, end):
-        """Whether a match from a start to an end counts: it isn't empty, or may stand there."""
+        """Whether a match from a start to an end counts: it isn't empty, or may be empty there."""
         return start != end or self.inside or self.content[start : start + 1] not in CONTINUE
 
     def find_back(self):
@@ -367,7 +367,7 @@ class Search:
 
     def find_backwards(self, pattern=None):
         """Of the walks that end where the span ends and count the least start, then the least pattern, as pattern and
-        start, or None. With `pattern` those of that pattern alone."""
+        start, or None. With `pattern` only those of that pattern."""
         if pattern is not None and pattern >= len(self.trees):
             return None
         node = self.program.start if pattern is None else self.program.patterns[pattern]
@@ -379,9 +379,9 @@ class Search:
         return None
 
     def find_all(self, start, pattern=None):
-        """Where all matches are wanted: of the walks that count, from all places from `start` on, or from that one
-        alone, the greatest end, then the least start, then the least pattern, as pattern, start and end, or None.
-        With `pattern` walks start at that place alone, at the pattern's own node."""
+        """For all matches: of the walks that count, from all offsets from `start` on, or only from that one, the
+        greatest end, then the least start, then the least pattern, as pattern, start and end, or None. With `pattern`
+        walks start only at that offset, at the pattern's own node."""
         if pattern is not None and pattern >= len(self.trees):
             return None
         is_tied = self.is_anchored or pattern is not None
@@ -393,9 +393,9 @@ class Search:
         return (-matched, -place, end) if found else None
 
     def find(self, start):
-        """The least walk of the least start that counts, as its pattern and the places in its slots, or None. Starts
-        are the places from `start` on, or that one alone. An empty walk counts at the content's end and before a byte
-        that continues no character, and anywhere if `inside`. A slot has the place that was noted last."""
+        """The least walk of the least start that counts, as its pattern and the offsets in its slots, or None. Starts
+        are the offsets from `start` on, or only that one. An empty walk counts at the haystack's end and before a byte
+        that continues no character, and anywhere if `inside`. A slot has the offset that was noted last."""
         if self.pattern is not None and self.pattern >= len(self.trees):
             return None
         node = self.program.start if self.pattern is None else self.program.patterns[self.pattern]
@@ -408,8 +408,7 @@ class Search:
         return None
 
     def all_told(self, pattern=None):
-        """Where all matches are wanted, these one after the other, as `told_from` goes on, each as its pattern, its
-        start and its end."""
+        """For all matches, these in order, as `told_from` continues, each as its pattern, its start and its end."""
         found, start, last = [], self.span[0], None
         while True:
             best = self.find_all(start, pattern)
@@ -425,7 +424,7 @@ class Search:
         return self.matches_from(self.span[0])
 
     def matches_from(self, start, last=None):
-        """Those from a place on, where one ended before at `last`."""
+        """Those from an offset on, after one that ended at `last`."""
         return [groups for _, groups in self.told_from(start, last)]
 
     def told(self):
@@ -433,8 +432,8 @@ class Search:
         return self.told_from(self.span[0])
 
     def told_from(self, start, last=None):
-        """Those from a place on, where one ended before at `last`. A match is the find from the end of the one before,
-        or, where that is empty and ends where the one before did, from the place behind the one that was asked for."""
+        """Those from an offset on, after one that ended at `last`. A match is the find from the end of the one before,
+        or, if that is empty and ends where the one before did, from the next offset."""
         found = []
         while True:
             slots = self.find(start)

@@ -1,7 +1,7 @@
-"""A crate that allocates nothing, as rattle lowers it for wasm64, beside what bindings/web/retarget.py makes of what it
-lowers for x86-64: the same functions, but for what surrounds exports.
+"""A crate that allocates nothing, as rattle lowers it for wasm64, compared with the output of bindings/web/retarget.py
+for its x86-64 lowering: the same functions, except for what surrounds exports.
 
-rattle proves the crate for each, over str_indices, which rt ci or make has built.
+rattle proves the crate for each, with str_indices as rt ci or make has built it.
 """
 import os
 import re
@@ -19,7 +19,7 @@ import retarget
 NAME = "lowered"
 TARGETS = ("x86_64-unknown-linux-gnu", "wasm64-unknown-unknown")
 LIBRARIES = ("counters", "str_indices")
-# Takes the place of the kit's clang: keeps the bitcode that it is given, and ends there.
+# Replaces the kit's clang: keeps the bitcode that it gets, and stops.
 KEEPING = """#!/bin/sh
 for word in "$@"; do
     case $word in
@@ -45,7 +45,7 @@ def lacking():
 
 
 def lowered(target, room):
-    """The module as text, or what rattle said."""
+    """The module as text, or rattle's message."""
     folder = tempfile.mkdtemp(dir=room)
     toolchain, clang = toolchain_in(folder, KEEPING)
     os.mkdir(f"{folder}/src")
@@ -67,7 +67,7 @@ def lowered(target, room):
 
 
 def functions(lines):
-    """The functions, each as its lines with the names of values and labels left out."""
+    """The functions, each as its lines without the names of values and labels."""
     found, name = {}, None
     for line in lines:
         line = re.sub(r"%[\w.]+", "%", line.partition(" ;")[0].rstrip())
@@ -82,7 +82,7 @@ def functions(lines):
 
 
 def counted(lines):
-    """How often each line is in a function: where the stack is looked at may differ, not whether it is."""
+    """How often each line is in a function: where the stack is checked may differ, not whether it is."""
     count, at = Counter(), 0
     while at < len(lines):
         is_frame = all(re.fullmatch(form, line) for form, line in zip(FRAME, lines[at:at + len(FRAME)]))

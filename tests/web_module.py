@@ -1,4 +1,4 @@
-"""Modules of WebAssembly as bytes: what they export and import, and modules with less memory or a shorter stack."""
+"""Modules of WebAssembly as bytes: their exports and imports, and modules with less memory or a shorter stack."""
 from dataclasses import dataclass
 
 HEAD = 8  # bytes of a module before its sections
@@ -45,7 +45,7 @@ def parts(data):
 
 
 def joined(data, changed):
-    """The module with the bytes that `changed` gives for those of each section."""
+    """The module with the bytes that `changed` returns for those of each section."""
     out = [data[:HEAD]]
     for number, part in parts(data):
         part = changed(number, part)
@@ -81,7 +81,7 @@ def sections(data):
 
 
 def with_memory(data, more):
-    """The module, whose memory may grow by so many pages."""
+    """The module with a memory that may grow by this number of pages."""
     def changed(number, part):
         if number != MEMORIES:
             return part
@@ -92,7 +92,7 @@ def with_memory(data, more):
 
 
 def with_stack(data, size):
-    """The module with a stack of so many bytes, of which the first global is the top: it ends at the address 0."""
+    """The module with a stack of this number of bytes; its top is in the first global, and it ends at address 0."""
     def changed(number, part):
         if number != GLOBALS:
             return part

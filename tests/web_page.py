@@ -1,5 +1,5 @@
-"""What is to be seen on the page of examples/web in Chromium: a pattern and its matches, edits, replacement, a pattern on
-which RegExp hangs, files. What is marked is held against a search anew."""
+"""The page of examples/web in Chromium: a pattern and its matches, edits, replacement, a pattern on which RegExp hangs,
+files. The marks are compared with those of a new search."""
 import json
 import os
 import re
@@ -10,7 +10,7 @@ from harness import ROOM
 from protocol import units
 
 IDLE = "document.documentElement?.dataset.idle === 'true'"
-# The lines that are shown, each its number, its text, and what is marked in it, by columns.
+# The lines that are shown, each with its number, its text, and what is marked in it, by columns.
 SHOWN = """[...document.querySelectorAll("#lines .line")].map((line) => {
   let at = 0;
   const marks = [];
@@ -28,7 +28,7 @@ def text_of(page, name):
 
 
 def count_of(page):
-    """The number of matches that the page shows, as it shows it."""
+    """The number of matches, as the page shows it."""
     return re.search(r"[\d,]+(?= match|$)", text_of(page, "place"))[0]
 
 
@@ -37,7 +37,7 @@ def settled(page):
 
 
 def wrong_marks(page, pattern):
-    """The marks must be what a search anew finds in the lines that are shown."""
+    """The marks must be those of a new search in the lines that are shown."""
     rows = page.value(SHOWN)
     wrong = [] if len(rows) > 20 else [f"{len(rows)} lines are shown"]
     for number, text, marks in rows:
@@ -61,7 +61,7 @@ def set_pattern(page, pattern):
 
 
 def wrong_search(page):
-    """A pattern, its matches in turn, and one that is none."""
+    """A pattern, its matches in order, and one that is none."""
     wrong = [] if text_of(page, "place") == "no pattern" else [f"at first: {text_of(page, 'place')}"]
     set_pattern(page, ARROWS)
     wrong += wrong_marks(page, ARROWS)
@@ -80,7 +80,7 @@ def wrong_search(page):
 
 
 def wrong_edits(page):
-    """Letters that are typed, taken back and made again, with the keyboard alone."""
+    """Letters that are typed, undone and redone, with the keyboard only."""
     set_pattern(page, ARROWS)
     before = count_of(page)
     wrong = tab_to(page, "keys")
@@ -155,7 +155,7 @@ def wrong_files(page):
 
 
 def wrong_hanging(page):
-    """A pattern on which RegExp takes exponential time: here its matches are there, and RegExp is ended."""
+    """A pattern on which RegExp takes exponential time: here its matches are found, and RegExp is stopped."""
     page.value("document.getElementById('hang').click()")
     settled(page)
     found = text_of(page, "place")
