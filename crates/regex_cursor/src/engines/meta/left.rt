@@ -170,7 +170,7 @@ pub(super) fn half_of(found: Option<Match>) -> Option<HalfMatch>
     }
 }
 
-/// Sets an input's span back to this one, after `cut`.
+/// Sets an input's span, for `cut` and to undo it.
 pub(super) fn put_back<C: Cursor>(input: &mut Input<C>, span: Span)
     requires { IsSpan span }
     ensures same { IsSameContent input.old.cursor input.new.cursor }
