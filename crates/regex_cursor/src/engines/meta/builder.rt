@@ -62,7 +62,7 @@ impl Builder {
     /// - `TooLong` for a pattern of more than 65,536 bytes
     /// - `Nesting` for a text that is a pattern only with a greater nest limit
     /// - `Outside` for a text outside the grammar
-    /// - `Size` for a pattern that exceeds the size limit, or, without one, a weight of 262,144
+    /// - `Size` for a pattern that exceeds the size limit, which by default is a weight of 262,144
     /// - `Memory`, which may replace any result
     ///
     /// # Complexity
