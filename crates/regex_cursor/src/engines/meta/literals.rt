@@ -15,6 +15,10 @@ use rx_program::Program;
 use rx_util::MatchKind;
 use std::alloc::{AllocError, Global};
 
+/// The greatest number of states of a program of which first bytes are read: each set takes 256
+/// steps of its automaton, and a long alternation begins with many sets.
+const STATES: usize = 1_000;
+
 /// What is known of the literals in a program's matches.
 #[derive(Debug, Drop)]
 pub(super) struct Literals {
@@ -131,7 +135,7 @@ fn required_of(
 }
 
 /// Returns the bytes that the program's matches begin with; `None` if literals are known that they
-/// begin with, if the settings want none, or if there is no such set.
+/// begin with, if the settings want none, if there is no such set, or if the program is large.
 fn first_of(
     alloc: Global,
     program: &Program,
@@ -143,7 +147,8 @@ fn first_of(
     ensures unwanted { IfOk result
         (λ first. auto_prefilter_of config.now ≡ false → first ≡ None) }
 {
-    if config.get_auto_prefilter() && beginnings.is_none() {
+    let is_small = program.states().len() <= STATES;
+    if config.get_auto_prefilter() && beginnings.is_none() && is_small {
         ByteSet::of(alloc, program)
     } else {
         Ok(None)
