@@ -44,7 +44,7 @@ REPLACED = [
     (r"(\w+) (\w+)", "$2 $1", r"\2 \1"),
 ]
 # Of which instructions are counted: patterns of reports, and of replacements with their templates.
-REPORTED = ["TODO", *EXPRESSIONS, "e", "found nowhere", "[a-z]+", ".*x", r"(\w+) (\w+)"]
+REPORTED = ["TODO", *EXPRESSIONS, "e", "found nowhere", "[a-z]+", r"\w+", ".*x", r"(\w+) (\w+)"]
 REWRITTEN = [("e", "E"), (r"\w+", "<$0>"), (r"(\w+) (\w+)", "$2 $1")]
 SAMPLES = {
     "ASCII": "    let count = lines.iter().filter(|line| line.len() > 80).count();\n",

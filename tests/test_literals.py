@@ -175,7 +175,9 @@ REQUIRED = [
     ("\\d{300}x", []),
 ]
 
-# Patterns, and needles of which each match begins with one or contains one, if such are known.
+DIGITS, LETTERS = list("0123456789"), list("ABCDEFGHIJKLMNOPQRSTUVWXYZ")
+
+# Patterns, and needles of which each match begins with one or contains one, if such are known: literals, or single bytes.
 BETWEEN = [
     (["\\w+\\s*=>\\s*\\w+"], ["=>"]),
     ([".*;$"], [";"]),
@@ -185,10 +187,23 @@ BETWEEN = [
     (["\\w+abcde"], ["abcde"]),
     ([".*abcde", "\\d+abcde"], None),
     (["abcde", "abcdf"], ["abcde", "abcdf"]),
-    (["\\d+x", "\\d+y"], None),
+    (["\\d+x", "\\d+y"], DIGITS),
     (["\\d+x"], ["x"]),
     ([".*"], None),
     (["x*"], None),
+    # By the bytes that matches begin with, if none is common in texts, and matches are not empty.
+    (["[0-9]+|0x[0-9a-f]+"], DIGITS),
+    (["[A-Z]\\d?"], LETTERS),
+    (["(?:(?:x|[0-9])|y)+?\\b"], [*DIGITS, "x", "y"]),
+    (["^[0-9]", "x|[A-Z]"], [*DIGITS, *LETTERS, "x"]),
+    (["\\b[v-z]{2,}"], ["v", "w", "x", "y", "z"]),
+    (["[xy]*[0-9]"], [*DIGITS, "x", "y"]),
+    (["[à-ü]|[0-9]"], [*DIGITS, b"\xc3"]),
+    (["[a-z]+"], None),
+    (["[xs]y*"], None),
+    (["[0-9]*"], None),
+    (["[0-9]?|x"], None),
+    (["[0-9]", "x*"], None),
 ]
 
 
@@ -275,7 +290,7 @@ def read_from(word, patterns):
 def between():
     """Up to where nothing matches: the first of the needles in the span, wherever the haystack is cut."""
     for patterns, told in BETWEEN:
-        needles = [needle.encode() for needle in told or ["=>"]]
+        needles = [needle if isinstance(needle, bytes) else needle.encode() for needle in told or ["=>"]]
         first, last = needles[0], needles[-1]
         haystacks = [b"", first, first[:-1], b"ab" + first, b"a1 " + last + b" " + first + b"b", first[:-1] * 3 + last, b"a\n" * 3 + first]
         for haystack, cut in itertools.product(haystacks, CUTS):

@@ -26,6 +26,12 @@ CAPACITIES = ["", *(f"hybrid_cache_capacity={size}" for size in (0, 700, 2**64 -
 LIMITS = ["", "dfa_state_limit=none.dfa_size_limit=none", "dfa_state_limit=3", "dfa_size_limit=0"]
 IDLE = ["byte_classes=0", "backtrack=0", "onepass_size_limit=1", "prefilter=" + written("b"), "prefilter=none"]
 
+
+def spans(first, length, apart, count):
+    """`count` spans of this length, of which the first starts at `first`, and each next one `apart` bytes later."""
+    return " ".join(f"{start}-{start + length}" for start in range(first, first + count * apart, apart))
+
+
 # Patterns, haystacks, settings, and all matches; perhaps also the settings of the syntax.
 VECTORS = [
     (["a", "ab"], "ab", "", "0:0-1"),
@@ -70,6 +76,12 @@ VECTORS = [
     (["[ab]*a[ab]{5}"], "abbab" * 40 + "c", "hybrid_cache_capacity=0.dfa=0", "0-199"),
     (["[ab]*a[ab]{5}"], "abbab" * 40 + "c", "hybrid=0.dfa=0", "0-199"),
     (["[ab]*a[ab]{5}"], "abbab" * 40 + "c", "dfa_state_limit=none.dfa_size_limit=none", "0-199"),
+    # Matches that mostly don't begin at the first byte that one can begin with, and later mostly do; searches for one there
+    # that read far; and one that reaches a byte of 128 or more.
+    (["[a-z]+[0-9]"], "ab ab1 " * 150 + "ab1 " * 150, "", spans(3, 3, 7, 150) + " " + spans(1050, 3, 4, 150)),
+    (["[a-z ]+[0-9]|x"], ("ab " * 30 + "x;") * 40 + "x1", "", spans(90, 1, 92, 40) + " 3680-3682"),
+    (["todo\\([0-9]\\)"], "todo(x) todo(1) " * 100, "", spans(8, 7, 16, 100)),
+    (["\\b[a-z]+\\b"], "aé ab a", "", "4-6 7-8"),
 ]
 
 

@@ -1,6 +1,7 @@
 -- A match starts at the first place at which an anchored search finds one.
 use Rattle.std.proofs.Common.{◌≡◌, ℕ, ◌+◌, ◌≤◌, Bool, List, max, Option, Some, None, option_map, refl, sym, ap, ap₂, subst, ◌∙◌, arith, inl, inr}
 use Rattle.std.proofs.lemmas.Bool.{cases_lt}
+use Rattle.std.proofs.lemmas.Option.{same_Some}
 use Rattle.unicode.specs.Perl.{is_word_char}
 use Rattle.rx_sets.specs.Sets.{Range}
 use Rattle.rx_utf8.specs.Automata.{is_in}
@@ -8,7 +9,7 @@ use Rattle.rx_util.specs.declared.search.Anchored.TheVariants.{Yes}
 use Rattle.rx_util.specs.Search.{HalfFound}
 use Rattle.rx_input.specs.Cursors.{IsSameContent}
 use Rattle.rx_input.specs.Inputs.{Asked, HasSpan, InputState}
-use Rattle.rx_walks.specs.Finds.{Counts, IsFind, Search, anchored, is_found, not_found}
+use Rattle.rx_walks.specs.Finds.{Counts, IsFind, Search, anchored, is_found, not_found, unanchored}
 use Rattle.rx_walks.specs.Looks.{Look}
 use Rattle.rx_walks.specs.Machines.{Outcome}
 use Rattle.rx_walks.specs.Programs.{Notes, Program, fresh_notes}
@@ -18,7 +19,8 @@ use Rattle.rx_program.specs.Programs.{ByteProgram, character_program}
 use Rattle.rx_steps.specs.Searching.{anchoring_of, search_of}
 use Rattle.rx_dfa.specs.Searching.{IsHalfAnswer}
 use Rattle.rx_literals.proofs.LowLaws.{least_from}
-use Rattle.rx_chunk.specs.Engines.{Finds}
+use Rattle.rx_chunk.specs.Engines.{Finds, IsFound}
+use Rattle.rx_matches.specs.Halves.{whole_of}
 use Rattle.regex_cursor.specs.Backs.{StartsAt, freed}
 use Rattle.regex_cursor.specs.Cores.{AreCachesOf}
 use Rattle.regex_cursor.specs.Strategies.{AreKeptFor, Engines, HasStart}
@@ -117,6 +119,26 @@ module _ (p : ByteProgram) (s : Search) where
   starts_last place end is above behind t finds =
       let lies = inside_law is_in is_word_char C S t finds in
       omega (arith, is, above, behind t finds, lies.found.ordered, lies.found.inside.3)
+
+  -- what is found where the span starts is what is found, if the search isn't anchored
+  pub whole_here : s.anchoring ≡ unanchored → (half : HalfFound) → IsHalfAnswer p (anchored_at s s.start) (Some half) → IsFound (Finds p) s (Some (whole_of half s.start))
+  whole_here free half answer = by answer.found answer.finds answer.met_is
+    where
+      freed_is : S ≡ s
+      freed_is = ap (λ a. record s { anchoring = a }) (sym free)
+
+      by : (out : Option (Outcome Notes)) → Finds p (anchored_at s s.start) out → Some half ≡ option_map (λ (t : Outcome Notes). record { pattern = t.pattern; offset = t.end }) out → IsFound (Finds p) s (Some (whole_of half s.start))
+      by None finds is = absurd (cc is)
+      by (Some u) finds is =
+          let counts = some_counts s.start (omega arith) (starts_inside s.start (omega arith)) finds in
+          let kept = walk_keeps is_in is_word_char C S counts.least.walk in
+          let at_start : start_of u ≡ s.start = kept.start in
+          let there : Finds p S (Some u) = is_found counts (λ j v below other. absurd (omega (arith, below, other.possible.0.2))) in
+          let same : half ≡ record { pattern = u.pattern; offset = u.end } = same_Some half (record { pattern = u.pattern; offset = u.end }) is in (
+            Some u,
+            subst (λ x. Finds p x (Some u)) freed_is there,
+            ap (λ (h : HalfFound). Some (whole_of h s.start)) same ∙ ap (λ k. Some (whole_of (record { pattern = u.pattern; offset = u.end }) k)) (sym at_start),
+          )
 
 -- ---- the input
 

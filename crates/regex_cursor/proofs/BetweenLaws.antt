@@ -1,5 +1,6 @@
--- A part of a content in which no needle occurs has no match.
-use Rattle.std.proofs.Common.{◌≡◌, ℕ, ◌+◌, ◌<◌, ◌≤◌, Bool, true, List, length, take, get_or, Option, Some, None, refl, sym, ap, subst, ◌∙◌, arith, length-drop}
+-- A part of a content in which no needle occurs, and none of the bytes that matches begin with, has no
+-- match.
+use Rattle.std.proofs.Common.{◌≡◌, ℕ, ◌+◌, ◌<◌, ◌≤◌, Bool, true, false, List, length, take, get_or, Option, Some, None, refl, sym, ap, subst, ◌∙◌, arith, length-drop}
 use Rattle.std.proofs.lemmas.List.{length-take, get_or-take, get_or-drop, take_all}
 use Rattle.unicode.specs.Perl.{is_word_char}
 use Rattle.rx_sets.specs.Sets.{Range}
@@ -11,7 +12,9 @@ use Rattle.rx_walks.specs.Programs.{Program}
 use Rattle.rx_walks.specs.ProgramFinds.{ProgramFinds}
 use Rattle.rx_program.specs.Programs.{character_program}
 use Rattle.rx_literals.specs.Needles.{AreNeedles, FoundAt, no_needle, this_needle, other_needle, FoundBetween, nowhere, at_least_place}
+use Rattle.rx_literals.specs.ByteSets.{HasMemberAt, HasNoMemberBetween, MatchesBeginIn}
 use Rattle.rx_literals.specs.Requirements.{MatchesContain, NoneContainedNoMatch}
+use Rattle.rx_literals.proofs.ByteSetLaws.{no_member_no_match}
 use Rattle.rx_literals.proofs.NeedleLaws.{found_start}
 use Rattle.regex_cursor.specs.Patterns.{HasNoMatchBetween, program_for, search_part}
 use Rattle.regex_cursor.specs.Regexes.{Engine, HasNoFindBetween, RegexView, IsRegexOf}
@@ -88,3 +91,34 @@ module _ (needles : List (List ℕ)) (are : AreNeedles needles) (law : NoneConta
     none_between text re built contain start end behind before =
         let of_tree : MatchesContain needles (program_for built.tree) = subst (λ p. MatchesContain needles p) (program-is text re built) contain in
         none_there (program_for built.tree) of_tree true (between start end content) (part_without content from place cut within none start end behind before)
+
+-- ---- what bytes that matches begin with tell, where none is found
+
+module _ (members : List Bool) (content : List ℕ) (from place cut : ℕ) (within : place ≤ cut) (none : HasNoMemberBetween members (take cut content) from place) where
+  inside_part : (start end i : ℕ) → HasMemberAt members (between start end content) i → start + i < end
+  inside_part start end i has = omega (arith, has.inside, length-drop start (take end content), length-take end content)
+
+  -- a member in a part is in the content
+  member_in : (start end i : ℕ) → end ≤ place → HasMemberAt members (between start end content) i → HasMemberAt members (take cut content) (start + i)
+  member_in start end i before has = record {
+    inside = omega (arith, has.inside, length-drop start (take end content), length-take end content, length-take cut content, before, within);
+    is_member = ap (λ b. get_or members b false) (part_reads content start end cut i (omega (arith, before, within)) (inside_part start end i has)) ∙ has.is_member;
+  }
+
+  no_member_in : (start end : ℕ) → from ≤ start → end ≤ place → (part : List ℕ) → part ≡ between start end content → HasNoMemberBetween members (take (length part) part) 0 (length part)
+  no_member_in start end behind before part is k low high has =
+      let there = subst (λ bytes. HasMemberAt members bytes k) (take_all (length part) part (omega arith) ∙ is) has in
+      none (start + k) (omega (arith, behind)) (omega (arith, inside_part start end k there, before)) (member_in start end k before there)
+
+  no_find_there : (p : Program Look (List Range)) → MatchesBeginIn members p → (utf8_empty : Bool) (start end : ℕ) → from ≤ start → end ≤ place → ProgramFinds is_in is_word_char p (search_part utf8_empty (between start end content)) None
+  no_find_there p begin utf8_empty start end behind before =
+      no_member_no_match members p is_word_char (search_part utf8_empty (between start end content)) begin refl
+      (no_member_in start end behind before (between start end content) refl)
+
+  pub no_byte_by_program : (e : Engine) → MatchesBeginIn members (character_program e.program) → HasNoFindBetween e content from place
+  no_byte_by_program e begin start end behind before = no_find_there (character_program e.program) begin e.utf8_empty start end behind before
+
+  pub no_byte_between : (text : List ℕ) (re : RegexView) (built : IsRegexOf text re) → MatchesBeginIn members (character_program re.engine.program) → HasNoMatchBetween built.tree content from place
+  no_byte_between text re built begin start end behind before =
+      let of_tree : MatchesBeginIn members (program_for built.tree) = subst (λ p. MatchesBeginIn members p) (program-is text re built) begin in
+      no_find_there (program_for built.tree) of_tree true start end behind before

@@ -1,5 +1,5 @@
 -- What is known of literals, if they are known.
-use Rattle.std.proofs.Common.{ℕ, List, Option, Some, None, IfSome, refl}
+use Rattle.std.proofs.Common.{Option, Some, None, IfSome, refl}
 use Rattle.std.specs.Borrow.{Bor}
 use Rattle.std.specs.Option.{ForSome, option_copied}
 
@@ -8,6 +8,6 @@ if_there None all = tt
 if_there (Some x) all = all x refl
 
 -- and what is lent is what is known
-pub lent : (P : List (List ℕ) → Type 0) (o : Option (Bor (List (List ℕ)))) → IfSome (option_copied o) P → IfSome o (λ needles. P needles.now)
+pub lent : {A : Type 0} (P : A → Type 0) (o : Option (Bor A)) → IfSome (option_copied o) P → IfSome o (λ x. P x.now)
 lent P None p = p
 lent P (Some x) p = p

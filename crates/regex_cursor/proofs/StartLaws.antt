@@ -1,4 +1,4 @@
--- What a prefilter tells of where a match may begin.
+-- What literals and bytes that matches begin with tell of where a match may begin.
 use Rattle.std.proofs.Common.{◌≡◌, ℕ, ◌≤◌, Bool, false, List, Option, Some, None, refl, ap₂, subst, arith}
 use Rattle.unicode.specs.Perl.{is_word_char}
 use Rattle.rx_util.specs.declared.search.Anchored.{Anchored}
@@ -13,6 +13,8 @@ use Rattle.rx_program.specs.Programs.{ByteProgram, character_program}
 use Rattle.rx_chunk.specs.Engines.{Finds}
 use Rattle.rx_literals.specs.Needles.{AreNeedles, FoundAt, FoundBetween, nowhere, at_least_place}
 use Rattle.rx_literals.specs.Beginnings.{MatchesBeginWith, FirstNeedle, MatchesComeBehind, NoNeedleNoMatch}
+use Rattle.rx_literals.specs.ByteSets.{FirstMember, MatchesBeginIn}
+use Rattle.rx_literals.proofs.ByteSetLaws.{matches_come_from_member, no_member_no_match}
 use Rattle.rx_literals.proofs.NeedleLaws.{found_start}
 use Rattle.regex_cursor.specs.Strategies.{BeginsFrom}
 
@@ -36,6 +38,18 @@ module _ (p : ByteProgram) (needles : List (List ℕ)) (s : Search) (begins : Ma
 
   pub begins_nowhere : AreNeedles needles → NoNeedleNoMatch → FirstNeedle needles s None → Finds p s None
   begins_nowhere are law first = law needles (character_program p) is_word_char s are begins free first
+
+-- the same of bytes
+module _ (p : ByteProgram) (members : List Bool) (s : Search) (begin : MatchesBeginIn members (character_program p)) (free : s.anchoring ≡ unanchored) where
+  pub begins_at_member : (place : ℕ) → FirstMember members s (Some place) → BeginsFrom p s place
+  begins_at_member place first = record {
+    behind = first.low;
+    before = omega (arith, first.high);
+    finds = λ out finds. matches_come_from_member members (character_program p) is_word_char s place out begin free first finds;
+  }
+
+  pub begins_at_no_member : FirstMember members s None → Finds p s None
+  begins_at_no_member none = no_member_no_match members (character_program p) is_word_char s begin free none
 
 abbrev search_by : Bool → List ℕ → Asked → Search
 search_by utf8_empty content asked = record {

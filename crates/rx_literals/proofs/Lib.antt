@@ -5,6 +5,7 @@ pub mod FoundLaws
 pub mod SliceLaws
 pub mod ScanLaws
 pub mod LowLaws
+pub mod BehindLaws
 pub mod SkipLaws
 pub mod FirstLaws
 pub mod WayLaws
@@ -14,3 +15,5 @@ pub mod SpellingLaws
 pub mod LiteralLaws
 pub mod EndingLaws
 pub mod RequirementLaws
+pub mod ByteSetLaws
+pub mod MemberLaws

@@ -37,32 +37,33 @@ under_way needles i k j at hay same asked moved part holds behind none =
     }
 
 module _ (needles : List (List ℕ)) (i j : InputState) (at len : ℕ) (way : IsUnderWay needles i j at len) where
-  -- where none is left, none comes
+  at_end : len ≡ 0 → i.asked.span.end ≤ j.position ⊎ (length j.cursor.content ≤ j.position)
+  at_end none_left = elim (cases_lt j.position i.asked.span.end) [
+    | inl before ↦ (
+        let last : j.position ≡ j.cursor.end = omega (arith, way.left, way.stop, none_left, before, way.holds.before_end) in
+        inr (omega (arith, last, way.holds.at_end last)))
+    | inr behind ↦ inl behind
+  ]
+
+  -- where none is left, the bytes up to the span's end are
+  pub past : len ≡ 0 → (k : ℕ) → at ≤ k → k < i.asked.span.end → length (bytes_to_end i) ≤ k
+  past none_left k above high = elim (at_end none_left) [
+    | inl done ↦ absurd (omega (arith, done, above, high, way.position))
+    | inr last ↦ omega (arith, ap length way.same, length-take j.asked.span.end j.cursor.content, last, above, way.position)
+  ]
+
+  -- and none comes
   pub over : AreNeedles needles → len ≡ 0 → FoundBetween (bytes_to_end i) needles i.asked.span.start i.asked.span.end None
   over are none_left = nowhere (λ k low high. elim (cases_lt k at) [
     | inl below ↦ way.none k low below
-    | inr above ↦ none_past (bytes_to_end i) k (past k above high) needles are.each
+    | inr above ↦ none_past (bytes_to_end i) k (past none_left k above high) needles are.each
   ])
-    where
-      at_end : i.asked.span.end ≤ j.position ⊎ (length j.cursor.content ≤ j.position)
-      at_end = elim (cases_lt j.position i.asked.span.end) [
-        | inl before ↦ (
-            let last : j.position ≡ j.cursor.end = omega (arith, way.left, way.stop, none_left, before, way.holds.before_end) in
-            inr (omega (arith, last, way.holds.at_end last)))
-        | inr behind ↦ inl behind
-      ]
-
-      past : (k : ℕ) → at ≤ k → k < i.asked.span.end → length (bytes_to_end i) ≤ k
-      past k above high = elim at_end [
-        | inl done ↦ absurd (omega (arith, done, above, high, way.position))
-        | inr last ↦ omega (arith, ap length way.same, length-take j.asked.span.end j.cursor.content, last, above, way.position)
-      ]
 
   module _ (some : len ≡ 0 → ⊥) where
-    place : j.position ≡ at
+    pub place : j.position ≡ at
     place = omega (arith, way.position, way.left, some, way.holds.lawful.within)
 
-    end_is : at + len ≡ min j.asked.span.end j.cursor.end
+    pub end_is : at + len ≡ min j.asked.span.end j.cursor.end
     end_is = omega (arith, place, way.left, some)
 
     -- the position lies in the span

@@ -7,3 +7,4 @@ pub mod Spellings
 pub mod Ways
 pub mod Endings
 pub mod Requirements
+pub mod ByteSets

@@ -7,7 +7,7 @@ ghost use Rattle.rx_literals.specs.FirstBytes.{BeginAmong, is_among};
 use memchr::{memchr, memchr2, memchr3};
 
 /// Letters that are common in texts.
-const COMMON: &[u8] = b" etaoinsr";
+pub(crate) const COMMON: &[u8] = b" etaoinsr";
 
 /// Whether a byte is common in texts.
 pub(crate) fn is_common(byte: u8) -> bool {

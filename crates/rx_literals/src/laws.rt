@@ -2,6 +2,7 @@
 //! is the law, proved.
 
 ghost use Rattle.rx_literals.specs.Beginnings.{MatchesComeBehind, NoNeedleNoMatch};
+ghost use Rattle.rx_literals.specs.ByteSets.{MatchesComeFromMember, NoMemberNoMatch};
 ghost use Rattle.rx_literals.specs.Literals.{LiteralsFind};
 ghost use Rattle.rx_literals.specs.Requirements.{BeginningsAreContained, NoneContainedNoMatch};
 
@@ -32,4 +33,15 @@ pub fn none_contained_no_match()
 /// What the matches of a program begin with they contain.
 pub fn beginnings_are_contained()
     ensures { BeginningsAreContained }
+{}
+
+/// If a search's span has none of the bytes that a program's matches begin with, and the search
+/// isn't anchored, it finds nothing.
+pub fn no_member_no_match()
+    ensures { NoMemberNoMatch }
+{}
+
+/// If it has one, the search finds what it finds from the first one on.
+pub fn matches_come_from_member()
+    ensures { MatchesComeFromMember }
 {}

@@ -2,6 +2,7 @@
 #![tactic(auto)]
 
 mod beginning;
+mod byte_set;
 mod ending;
 mod exact;
 mod first_bytes;
@@ -11,5 +12,6 @@ mod members;
 mod prefilter;
 mod required;
 
+pub use byte_set::ByteSet;
 pub use ending::ends_with_slice;
 pub use prefilter::Prefilter;

@@ -11,7 +11,7 @@ use rx_input::{Cursor, Input};
 use rx_util::Span;
 
 /// The bytes of the span from the position on, as far as the piece that is shown has them.
-fn left_in_piece<C: Cursor>(input: &Input<C>) -> &[u8]
+pub(crate) fn left_in_piece<C: Cursor>(input: &Input<C>) -> &[u8]
     ensures part { result.now ≡ between input.now.position
         (min input.now.asked.span.end input.now.cursor.end) input.now.cursor.content }
     ensures holds { HoldsPlace input.now.cursor input.now.position }

@@ -16,9 +16,11 @@ mod leftmost;
 mod linear;
 mod literals;
 mod regex;
+mod shared;
 mod split;
 mod split_n;
 mod splitter;
+mod starts;
 mod strategy;
 
 pub use builder::Builder;

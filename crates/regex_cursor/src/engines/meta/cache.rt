@@ -17,7 +17,7 @@ ghost use Rattle.regex_cursor.specs.Strategies.{IsLeft};
 use super::back::Back;
 use super::left::Left;
 use super::regex::Regex;
-use super::strategy::Core;
+use super::shared::Core;
 use rx_chunk::pikevm;
 use rx_dfa::try_search_fwd;
 use rx_input::{Cursor, Input};
@@ -36,6 +36,21 @@ const BYTES_A_CLEAR: usize = 50_000;
 /// In how many bytes for each state of the program searches forward may have looked for the starts
 /// of matches whose ends are known before the program is turned round, which takes about as long.
 const BYTES_A_STATE: usize = 35;
+
+/// The greatest number of failed tries in a row. A try asks whether a match begins at the first
+/// offset at which one can begin.
+const TRIES: usize = 32;
+
+/// The number of failed tries that each successful one makes up for: a failed one takes about half
+/// as long as the search back for a match's start that a successful one saves.
+const TRIES_A_MATCH: usize = 2;
+
+/// A failed try counts once more for each time that it read this number of bytes, so that long ones
+/// soon end.
+const BYTES_A_TRY: usize = 16;
+
+/// The number of searches by the automaton without a try after which there is one again.
+const UNTRIED: usize = 64;
 
 /// What searches with a regex keep from one to the next, so that they ask for memory once. It
 /// serves the regex that it was made for or reset for, after each search again, refused or not.
@@ -70,6 +85,10 @@ pub(super) struct Kept {
     walked: usize,
     // How many places any search read.
     read: usize,
+    // The number of failed tries that are left.
+    tries: usize,
+    // The number of searches by the automaton since the last try.
+    untried: usize,
 }
 
 impl Kept {
@@ -95,6 +114,36 @@ impl Kept {
     {
         self.passed = self.passed.saturating_add(bytes);
         self.read = self.read.saturating_add(bytes);
+        self.untried = self.untried.saturating_add(1);
+    }
+
+    /// Returns whether to try if a match begins at the first offset at which one can begin: mostly
+    /// one did, or the last try was long ago.
+    pub(super) fn may_try(&self) -> bool {
+        self.tries > 0 || self.untried >= UNTRIED
+    }
+
+    /// Notes that a try succeeded.
+    pub(super) fn note_success(&mut self)
+        ensures core { self.new.core ≡ self.old.core }
+        ensures vm { self.new.vm ≡ self.old.vm }
+        ensures automaton { self.new.automaton ≡ self.old.automaton }
+        ensures back { self.new.back ≡ self.old.back }
+    {
+        self.untried = 0;
+        self.tries = self.tries.saturating_add(TRIES_A_MATCH).min(TRIES);
+    }
+
+    /// Notes that a try failed, and the number of bytes that it read.
+    pub(super) fn note_failure(&mut self, bytes: usize)
+        ensures core { self.new.core ≡ self.old.core }
+        ensures vm { self.new.vm ≡ self.old.vm }
+        ensures automaton { self.new.automaton ≡ self.old.automaton }
+        ensures back { self.new.back ≡ self.old.back }
+    {
+        self.untried = 0;
+        let cost = (bytes / BYTES_A_TRY).saturating_add(1);
+        self.tries = self.tries.saturating_sub(cost);
     }
 
     /// Notes that a search read so many places more.
@@ -329,6 +378,8 @@ impl Cache {
             back: None,
             walked: 0,
             read: 0,
+            tries: TRIES,
+            untried: 0,
         };
         Ok(Cache {
             kept: kept.boxed(alloc)?,

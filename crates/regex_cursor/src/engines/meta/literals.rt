@@ -3,16 +3,21 @@
 ghost use Rattle.std.specs.Prelude.{◌≡◌, IfOk, IfSome, None, false};
 ghost use Rattle.rx_program.specs.Programs.{character_program};
 ghost use Rattle.rx_literals.specs.Beginnings.{MatchesBeginWith};
+ghost use Rattle.rx_literals.specs.ByteSets.{MatchesBeginIn};
 ghost use Rattle.rx_literals.specs.Literals.{IsLiteralOf};
 ghost use Rattle.rx_literals.specs.Requirements.{MatchesContain};
 ghost use Rattle.regex_cursor.specs.Configs.{WantsNoLiterals, auto_prefilter_of, prefilter_of};
 ghost use Rattle.regex_cursor.specs.Literals.{AreLiteralsOf, no_literals};
 
 use super::config::Config;
-use rx_literals::Prefilter;
+use rx_literals::{ByteSet, Prefilter};
 use rx_program::Program;
 use rx_util::MatchKind;
 use std::alloc::{AllocError, Global};
+
+/// The greatest number of states of a program of which first bytes are read: each set takes 256
+/// steps of its automaton, and a long alternation begins with many sets.
+const STATES: usize = 1_000;
 
 /// What is known of the literals in a program's matches.
 #[derive(Debug, Drop)]
@@ -23,6 +28,8 @@ pub(super) struct Literals {
     pub(super) whole: Option<Prefilter>,
     /// One that each match contains, if it is known and none are that matches begin with.
     pub(super) required: Option<Prefilter>,
+    /// The bytes that matches begin with, if they are known and `beginnings` are not.
+    pub(super) first: Option<ByteSet>,
 }
 
 impl Literals {
@@ -40,10 +47,12 @@ impl Literals {
         let beginnings = beginnings_of(alloc, program, config)?;
         let whole = literal_of(alloc, program, config)?;
         let required = required_of(alloc, program, config, &beginnings)?;
+        let first = first_of(alloc, program, config, &beginnings)?;
         Ok(Literals {
             beginnings,
             whole,
             required,
+            first,
         })
     }
 }
@@ -120,6 +129,27 @@ fn required_of(
 {
     if beginnings.is_none() && config.get_auto_prefilter() {
         Prefilter::required(alloc, program)
+    } else {
+        Ok(None)
+    }
+}
+
+/// Returns the bytes that the program's matches begin with; `None` if literals are known that they
+/// begin with, if the settings want none, if there is no such set, or if the program is large.
+fn first_of(
+    alloc: Global,
+    program: &Program,
+    config: &Config,
+    beginnings: &Option<Prefilter>,
+) -> Result<Option<ByteSet>, AllocError>
+    ensures begin { IfOk result (λ first. IfSome first
+        (λ bytes. MatchesBeginIn bytes (character_program program.now))) }
+    ensures unwanted { IfOk result
+        (λ first. auto_prefilter_of config.now ≡ false → first ≡ None) }
+{
+    let is_small = program.states().len() <= STATES;
+    if config.get_auto_prefilter() && beginnings.is_none() && is_small {
+        ByteSet::of(alloc, program)
     } else {
         Ok(None)
     }

@@ -30,6 +30,7 @@ use super::find_matches::FindMatches;
 use super::left::{find_literal, note_nothing};
 use super::split::Split;
 use super::split_n::SplitN;
+use super::starts::no_byte_before;
 use super::strategy::Strategy;
 use rx_chunk::pikevm::PikeVM;
 use rx_input::{Cursor, Input};
@@ -449,15 +450,15 @@ impl Regex {
             .next_slots(cache, input, slots, last_match_end)
     }
 
-    /// Returns an offset of the input's span before which no match lies, found by literals of which
-    /// each match begins with one, or contains one: no part of the content from the span's start up
-    /// to there has a match, searched by itself. It is where the first of these literals is in the
-    /// span, or the span's end, which may lie behind the content's. `None` where no such literals
-    /// are known. Span, slice, anchoring and `earliest` of the input stay as they are. It asks for
-    /// no memory.
+    /// Returns an offset of the input's span before which no match lies: no part of the haystack
+    /// from the span's start up to there has a match, searched by itself. It is the offset of the
+    /// first literal that each match begins with or contains, or else of the first byte that
+    /// matches begin with; if the span has none, the span's end, which may exceed the haystack's.
+    /// `None` if neither literals nor bytes are known, or if one of the bytes is common in texts.
+    /// Only the position of the input changes. It allocates nothing.
     ///
-    /// Where there is one literal, it takes time in proportion to the bytes and pieces up to the
-    /// offset.
+    /// With one literal, or with bytes, it takes time proportional to the bytes and chunks up to
+    /// the offset.
     pub fn no_match_before<C: Cursor>(&self, input: &mut Input<C>) -> Option<usize>
         ensures no_match { (text : List ℕ) → (built : IsRegexOf text self.now)
             → IfSome result (λ place. HasNoMatchBetween built.tree input.old.cursor.content
@@ -468,6 +469,9 @@ impl Regex {
         ensures asked { input.new.asked ≡ input.old.asked }
         ensures same { IsSameContent input.old.cursor input.new.cursor }
     {
+        if let Some(bytes) = self.strategy.rare_first_bytes() {
+            return Some(no_byte_before(bytes, input));
+        }
         let prefilter = self.strategy.prefilter()?;
         match find_literal(prefilter, input) {
             Some(span) => Some(span.start),

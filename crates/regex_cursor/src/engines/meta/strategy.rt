@@ -11,6 +11,7 @@ ghost use Rattle.rx_input.specs.Cursors.{IsSameContent};
 ghost use Rattle.rx_input.specs.Searchers.{EndsInside};
 ghost use Rattle.rx_walks.specs.Finds.{from_place_on};
 ghost use Rattle.rx_program.specs.Programs.{character_program};
+ghost use Rattle.rx_literals.specs.ByteSets.{MatchesBeginIn};
 ghost use Rattle.rx_literals.specs.Literals.{IsLiteralOf};
 ghost use Rattle.rx_literals.specs.Requirements.{MatchesContain};
 ghost use Rattle.rx_dfa.specs.Searching.{IsHalfAnswer};
@@ -21,101 +22,28 @@ ghost use Rattle.rx_chunk.specs.Iterating.{EndsAhead, HasNotedNext, IsFoundNext,
 ghost use Rattle.regex_cursor.specs.Backs.{EndsLast, IsWhole};
 ghost use Rattle.regex_cursor.specs.Regexes.{HoldsMatches, IsCacheOf, TellsHalf, TellsMatch, TellsSlots, TellsWhole, search_by};
 ghost use Rattle.regex_cursor.specs.Configs.{WantsNoLiterals};
-ghost use Rattle.regex_cursor.specs.Cores.{IsCore};
 ghost use Rattle.regex_cursor.specs.Literals.{AreLiteralsOf, no_literals};
 ghost use Rattle.regex_cursor.specs.Strategies.{AreKeptFor, IsLeft, IsNextLeft, IsPart, IsPartLeft, IsStart, IsTold, regex_of};
 
 use super::cache::{Cache, Kept};
 use super::config::Config;
-use super::dense::{bytes_of_states, closed_of, state_count};
+use super::dense::{bytes_of_states, closed_of};
 use super::exact::{asks_in_slice, find_occurrence};
 use super::left::{Left, Part, Start, Told, find_literal, half_of, put_back, start_of_literal};
 use super::literals::Literals;
-use super::{ahead, leftmost};
+use super::shared::Core;
+use super::starts::first_byte;
+use super::{ahead, leftmost, starts};
 use rx_chunk::pikevm::{self, PikeVM};
-use rx_dfa::{Alphabet, DenseTable};
+use rx_dfa::DenseTable;
 use rx_input::{Cursor, Input};
-use rx_literals::{Prefilter, ends_with_slice};
+use rx_literals::{ByteSet, Prefilter, ends_with_slice};
 use rx_matches::halves::{starts_first, whole};
 use rx_program::Program;
 use rx_util::{Captures, HalfMatch, Match, MatchError, MatchKind, NonMaxUsize, PatternID};
 use std::alloc::{AllocError, Global};
 use std::marker::Model;
 use std::rc::Rc;
-
-/// What a regex shares with its clones and its caches: the engine that serves any search, the
-/// automaton of its program, and its settings.
-#[derive(Debug, Drop)]
-pub(super) struct Core {
-    vm: PikeVM,
-    dfa: Alphabet,
-    config: Config,
-    // How many states the program and the automata of its sets have.
-    states: usize,
-}
-
-impl Model for Core {
-    ghost use Rattle.regex_cursor.specs.Cores.{CoreView, IsCore};
-
-    ghost Value = { CoreView };
-
-    ghost view = { λ c. record { vm = c.vm; dfa = c.dfa; settings = c.config } };
-
-    ghost invariant = { λ c. IsCore (record { vm = c.vm; dfa = c.dfa; settings = c.config }) };
-}
-
-impl Core {
-    /// A PikeVM, the automaton of its program, and the settings.
-    fn new(alloc: Global, vm: PikeVM, config: Config) -> Result<Core, AllocError>
-        ensures vm { IfOk result (λ core. core.vm ≡ vm) }
-        ensures settings { IfOk result (λ core. core.settings ≡ config) }
-    {
-        let capacity = config.get_hybrid_cache_capacity();
-        let dfa = Alphabet::new(alloc, vm.program(), vm.utf8_empty(), capacity)?;
-        let states = state_count(vm.program());
-        Ok(Core {
-            vm,
-            dfa,
-            config,
-            states,
-        })
-    }
-
-    /// The engine that serves any search.
-    pub(super) fn vm(&self) -> &PikeVM
-        ensures vm { result.now ≡ self.now.vm }
-        ensures engine { IsEngine self.now.vm }
-    {
-        &self.vm
-    }
-
-    /// The automaton.
-    pub(super) fn dfa(&self) -> &Alphabet
-        ensures dfa { result.now ≡ self.now.dfa }
-        ensures core { IsCore self.now }
-    {
-        &self.dfa
-    }
-
-    /// The settings.
-    pub(super) fn config(&self) -> &Config
-        ensures { result.now ≡ self.now.settings }
-    {
-        &self.config
-    }
-
-    /// The program that both search for.
-    pub(super) fn program(&self) -> &Program
-        ensures { result.now ≡ self.now.vm.program }
-    {
-        self.vm.program()
-    }
-
-    /// How many states the program and the automata of its sets have.
-    pub(super) fn states(&self) -> usize {
-        self.states
-    }
-}
 
 /// The engines of a regex, which it shares with its clones.
 #[derive(Debug, Drop)]
@@ -280,6 +208,32 @@ impl Strategy {
         }
     }
 
+    /// Returns the bytes that matches begin with, if they are known and no literals are that they
+    /// begin with.
+    pub(super) fn first_bytes(&self) -> Option<&ByteSet>
+        ensures begin { IfSome result
+            (λ bytes. MatchesBeginIn bytes.now (character_program self.now.vm.program)) }
+    {
+        self.literals.first.as_ref()
+    }
+
+    /// Returns the same bytes, unless one of them is common in texts, or a literal is known that
+    /// each match contains: otherwise a search for them skips few lines.
+    pub(super) fn rare_first_bytes(&self) -> Option<&ByteSet>
+        ensures begin { IfSome result
+            (λ bytes. MatchesBeginIn bytes.now (character_program self.now.vm.program)) }
+    {
+        match self.first_bytes() {
+            Some(bytes) if bytes.is_rare() && self.literals.required.is_none() => Some(bytes),
+            _ => None,
+        }
+    }
+
+    /// Returns whether literals or bytes are known that matches begin with.
+    pub(super) fn knows_beginnings(&self) -> bool {
+        self.literals.beginnings.is_some() || self.literals.first.is_some()
+    }
+
     /// The literal that each match is, if it is known and the leftmost match is found.
     pub(super) fn whole_literal(&self) -> Option<&Prefilter>
         ensures first { IfSome result
@@ -335,7 +289,7 @@ impl Strategy {
         if input.is_done() {
             return Ok(Left::Nothing);
         }
-        match self.first_start(input) {
+        match self.first_start(input, kept.may_try()) {
             Start::Nowhere => {
                 kept.note_read(input.end().saturating_sub(input.start()));
                 Ok(Left::Nothing)
@@ -388,11 +342,7 @@ impl Strategy {
     {
         match self.ask_back(kept, input)? {
             Some(left) => Ok(left),
-            None => {
-                let rest = input.get_span();
-                let told = self.ask_automaton(kept, input)?;
-                Ok(told.left_in(rest))
-            }
+            None => starts::ask_forward(self, kept, input),
         }
     }
 
@@ -484,8 +434,9 @@ impl Strategy {
     }
 
     /// Where the match lies, by the literal that each match is, or where it may begin, by those
-    /// that matches begin with. The span must not be done. The position may move.
-    pub(super) fn first_start<C: Cursor>(&self, input: &mut Input<C>) -> Start
+    /// that matches begin with. The span must not be done. The position may move. `tries` says
+    /// whether a match mostly begins at the first byte that matches begin with.
+    fn first_start<C: Cursor>(&self, input: &mut Input<C>, tries: bool) -> Start
         requires { input.old.asked.span.start ≤ input.old.asked.span.end }
         ensures start { IsStart self.now.vm.program (search_by self.now.vm input.old) result }
         ensures asked { input.new.asked ≡ input.old.asked }
@@ -493,13 +444,13 @@ impl Strategy {
     {
         match &self.literals.whole {
             Some(needle) => start_of_literal(needle, input),
-            None => self.first_beginning(input),
+            None => self.first_beginning(input, tries),
         }
     }
 
-    /// Where a match may begin, by the literals that matches begin with, which are looked for
-    /// unless the search is anchored.
-    fn first_beginning<C: Cursor>(&self, input: &mut Input<C>) -> Start
+    /// Returns where a match can begin, by the literals or bytes that matches begin with, which are
+    /// searched for unless the search is anchored.
+    fn first_beginning<C: Cursor>(&self, input: &mut Input<C>, tries: bool) -> Start
         requires { input.old.asked.span.start ≤ input.old.asked.span.end }
         ensures start { IsStart self.now.vm.program (search_by self.now.vm input.old) result }
         ensures asked { input.new.asked ≡ input.old.asked }
@@ -512,7 +463,7 @@ impl Strategy {
                     None => Start::Nowhere,
                 }
             }
-            _ => Start::From(input.start()),
+            _ => first_byte(self, input, tries),
         }
     }
 

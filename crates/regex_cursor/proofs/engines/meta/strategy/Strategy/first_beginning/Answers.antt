@@ -6,7 +6,6 @@ use Rattle.rx_engine.specs.Engines.{Engine}
 use Rattle.rx_chunk.specs.Engines.{Finds}
 use Rattle.rx_literals.specs.Beginnings.{MatchesBeginWith}
 use Rattle.regex_cursor.specs.Strategies.{BeginsFrom, Engines}
-use Rattle.regex_cursor.proofs.LeftLaws.{from_start}
 use Rattle.regex_cursor.proofs.StartLaws.{is_free, begins_from, begins_nowhere}
 use Rattle.rx_literals.proofs.SkipLaws.{matches_come_behind, no_needle_no_match}
 use Rattle.regex_cursor.proofs.engines.meta.strategy.Strategy.first_beginning.Goals as goal
@@ -28,8 +27,3 @@ returns-in-None-clause-start g c =
     let free = is_free i.asked.anchored (ap is_anchored (sym c.get_anchored.ensures) ∙ sym c.is_anchored.ensures ∙ c.if-not-is_anchored.true) in
     subst (λ (x : Engine). Finds x.program (search_of x.utf8_empty i) None) (ap (λ (e : Engines). e.vm) c.self.view_is)
     (begins_nowhere vm.program c.in-Some.prefilter (search_of vm.utf8_empty i) begins free c.find_literal.ensures.needles no_needle_no_match c.in-None.ensures.found)
-
-pub returns-in_default-clause-start : goal.returns-in_default-clause-start
-returns-in_default-clause-start g c =
-    let s = search_of c.args.self.now.vm.utf8_empty c.args.input.now in
-    subst (BeginsFrom c.args.self.now.vm.program s) (sym c.start.ensures) (from_start c.args.self.now.vm.program s c.requires)

@@ -1,0 +1,87 @@
+//! What a regex shares with its clones and its caches.
+
+ghost use Rattle.std.specs.Prelude.{◌≡◌, IfOk};
+ghost use Rattle.rx_engine.specs.Engines.{IsEngine};
+ghost use Rattle.regex_cursor.specs.Cores.{IsCore};
+
+use super::config::Config;
+use super::dense::state_count;
+use rx_chunk::pikevm::PikeVM;
+use rx_dfa::Alphabet;
+use rx_program::Program;
+use std::alloc::{AllocError, Global};
+use std::marker::Model;
+
+/// What a regex shares with its clones and its caches: the engine that serves any search, the
+/// automaton of its program, and its settings.
+#[derive(Debug, Drop)]
+pub(super) struct Core {
+    vm: PikeVM,
+    dfa: Alphabet,
+    config: Config,
+    // How many states the program and the automata of its sets have.
+    states: usize,
+}
+
+impl Model for Core {
+    ghost use Rattle.regex_cursor.specs.Cores.{CoreView, IsCore};
+
+    ghost Value = { CoreView };
+
+    ghost view = { λ c. record { vm = c.vm; dfa = c.dfa; settings = c.config } };
+
+    ghost invariant = { λ c. IsCore (record { vm = c.vm; dfa = c.dfa; settings = c.config }) };
+}
+
+impl Core {
+    /// Returns a PikeVM, the automaton of its program, and the settings.
+    pub(super) fn new(alloc: Global, vm: PikeVM, config: Config) -> Result<Core, AllocError>
+        ensures vm { IfOk result (λ core. core.vm ≡ vm) }
+        ensures settings { IfOk result (λ core. core.settings ≡ config) }
+    {
+        let capacity = config.get_hybrid_cache_capacity();
+        let dfa = Alphabet::new(alloc, vm.program(), vm.utf8_empty(), capacity)?;
+        let states = state_count(vm.program());
+        Ok(Core {
+            vm,
+            dfa,
+            config,
+            states,
+        })
+    }
+
+    /// The engine that serves any search.
+    pub(super) fn vm(&self) -> &PikeVM
+        ensures vm { result.now ≡ self.now.vm }
+        ensures engine { IsEngine self.now.vm }
+    {
+        &self.vm
+    }
+
+    /// The automaton.
+    pub(super) fn dfa(&self) -> &Alphabet
+        ensures dfa { result.now ≡ self.now.dfa }
+        ensures core { IsCore self.now }
+    {
+        &self.dfa
+    }
+
+    /// The settings.
+    pub(super) fn config(&self) -> &Config
+        ensures { result.now ≡ self.now.settings }
+    {
+        &self.config
+    }
+
+    /// The program that both search for.
+    pub(super) fn program(&self) -> &Program
+        ensures { result.now ≡ self.now.vm.program }
+    {
+        self.vm.program()
+    }
+
+    /// How many states the program and the automata of its sets have.
+    pub(super) fn states(&self) -> usize {
+        self.states
+    }
+}
