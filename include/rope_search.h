@@ -43,7 +43,9 @@
  * - replace searches the whole text once, and takes time linear in the matches and in what comes in
  *   their place; next searches up to the match that it finds; groups_at searches one line.
  *   replace_match takes the time of edit and, with a group in what takes the match's place, that of
- *   groups_at.
+ *   groups_at. replace_listed takes time linear in the rows from `from` up to `to`, in their matches
+ *   and in what comes in their place, and O(log n) for each row with a match; with a group also that
+ *   of a search of each line with a match; with many matches it is linear in the text.
  * - count_matches, copy_matches and copy_matches_in take time linear in the rows from `from` up to
  *   `to` and in their matches, and copy_matches_in O(log n) for each row with a match and each match.
  *   Where `from` is not below `to` there are no such rows.
@@ -277,6 +279,18 @@ uint32_t rope_search_replace(rope_search *session, const uint8_t *by, size_t len
  */
 uint32_t rope_search_replace_match(rope_search *session, size_t line, size_t number,
                                    const uint8_t *by, size_t len);
+
+/*
+ * Replaces exactly the matches that the report lists in the lines `from` up to, not including, `to`,
+ * as one step of the history: those that `copy_matches` copies and `count_matches` counts for these
+ * rows. Lines past the last one have none. In what takes their place `$` and a digit are the text of
+ * that group, as the search of the match's line finds it, and `$$` is a dollar. `count` is written
+ * unless the session is closed: how many matches there were, or 0 if this is refused: NONE, UTF8,
+ * SIZE, MEMORY. Without a group other than 0 no line is searched again; else each line with a match
+ * is searched once more, and counted.
+ */
+uint32_t rope_search_replace_listed(rope_search *session, size_t from, size_t to, const uint8_t *by,
+                                    size_t len, size_t *count);
 
 /*
  * Adds a buffer with the chosen one's text, and neither its history nor its pattern. The chosen one

@@ -1,6 +1,6 @@
 //! The matches that a report lists in some lines, by bytes of the text, and the text with them
 //! replaced.
-ghost use Rattle.std.specs.Prelude.{◌≡◌, ℕ, ◌+◌, ◌-◌, ◌^◌, ◌<◌, ◌≤◌, ◌↔◌, ◌⊎◌, List, ◌++◌, All, length, map, take, drop, sum_by, true, chars, Err, OnOk, IfOk, IfErr};
+ghost use Rattle.std.specs.Prelude.{◌≡◌, ℕ, ◌+◌, ◌-◌, ◌^◌, ◌<◌, ◌≤◌, ◌↔◌, ◌⊎◌, List, ◌++◌, All, length, map, min, take, drop, sum_by, true, chars, Err, OnOk, IfOk, IfErr};
 ghost use Rattle.str_indices.specs.Text.{byte_len, units};
 ghost use Rattle.ropey.specs.Chunks.{text_of};
 ghost use Rattle.ropey.specs.Slices.{slice_text};
@@ -19,6 +19,7 @@ ghost use Rattle.rope_search.specs.Searched.{FitIn};
 ghost use Rattle.rope_search.specs.Stretches.{ReplacesIn, lines_spanned};
 
 use crate::encodings::Encoding;
+use crate::laws::reports_have_columns;
 use crate::limits::Limits;
 use crate::line_columns::column_for;
 use crate::search::{Replaced, Search};
@@ -86,6 +87,8 @@ impl Search {
     {
         // Laws, and the text's facts, for the proof alone.
         rope_search_reports::laws::a_row_a_line();
+        rope_search_reports::laws::groups_follow_each_other();
+        reports_have_columns();
         let _ = text.len_bytes();
         let mut spans = Vec::new(alloc);
         for line in from..to.min(self.rows.len()) {
@@ -111,8 +114,8 @@ impl Search {
         ensures fault { IfErr result (λ fault. fault ≡ Fault.Memory) }
         ensures finder { self.new.finder ≡ self.old.finder }
         ensures rows { self.new.rows.items ≡ self.old.rows.items }
-        ensures count { tick.new.count ≤ tick.old.count
-            + sum_by one_if_any (take (to - from) (drop from self.old.rows.items)) }
+        ensures count { tick.new.count ≤ tick.old.count + sum_by one_if_any
+            (take (min to (length self.old.rows.items) - from) (drop from self.old.rows.items)) }
         ensures grows { tick.old.count ≤ tick.new.count }
         ensures wholes { tick.new.wholes ≡ tick.old.wholes }
     {

@@ -5,7 +5,7 @@ use Rattle.regex_cursor.specs.Patterns.{Tree}
 use Rattle.rope_search_reports.specs.Text.{IsText, bytes_of, line_count}
 use Rattle.rope_search_reports.specs.Matches.{AreGroups}
 use Rattle.rope_search_reports.specs.Position.{line_start, line_text}
-use Rattle.rope_search_reports.specs.Replacement.{FollowEachOther, Groups, HasSpansIn, whole}
+use Rattle.rope_search_reports.specs.Replacement.{FollowEachOther, Groups, HasSpansIn, replaced, whole}
 use Rattle.rope_search_reports.specs.Report.{IsRow, columns}
 use Rattle.rope_search_reports.specs.Finders.{AreGroupsOf}
 use Rattle.rope_search_reports.specs.Ticks.{Ticks}
@@ -89,3 +89,9 @@ pub record AddsGroupsOf (tree : Tree) (content : List ℕ) (start : ℕ) (old ne
 abbrev pub LineMatchesFollow : Type 0
 LineMatchesFollow = (text pattern : List ℕ) (line : ℕ) (lists : List (List Groups)) → IsText text
     → AreGroupsOfLines text pattern line lists → FollowEachOther (bytes_of text) 0 (joined lists)
+
+-- a text in which they are replaced is a text
+abbrev pub LineReplacedIsText : Type 0
+LineReplacedIsText = (text pattern template : List ℕ) (line : ℕ) (lists : List (List Groups))
+    → IsText text → IsText template → AreGroupsOfLines text pattern line lists
+    → IsText (replaced (bytes_of text) template 0 (joined lists))

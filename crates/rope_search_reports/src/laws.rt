@@ -2,7 +2,7 @@
 //! contract is the law.
 
 ghost use Rattle.rope_search_reports.specs.Laws.{IsPatternOrNot, IsOneOfThree, FindsOne, HasFind, FindsAreInText, HasOneListOfMatches, HasMatches, HasOneListOfGroups, HasGroups, MatchesAreFew, GroupsFollowEachOther, ReplacedIsText, HasFewMatches, HasOneReport, HasReport, HasARowALine, PlacesAreInLines, HasOnePlace, MatchesStandAtBoundaries, HasLinesInPlace};
-ghost use Rattle.rope_search_reports.specs.LineGroups.{GroupsAreOfRows, LineMatchesFollow};
+ghost use Rattle.rope_search_reports.specs.LineGroups.{GroupsAreOfRows, LineMatchesFollow, LineReplacedIsText};
 ghost use Rattle.rope_search_reports.specs.Splice.{EditsSpliceLines, KeepsRows};
 ghost use Rattle.rope_search_reports.specs.Changes.{ChangesKeepLines, TailsKeepLines};
 ghost use Rattle.rope_search_reports.specs.Replacement.{ReplacementsAreChanges};
@@ -75,6 +75,11 @@ pub fn groups_follow_each_other()
 /// ends at boundaries of the text.
 pub fn line_matches_follow()
     ensures { LineMatchesFollow }
+{}
+
+/// A text in which the matches of lines, each searched by itself, are replaced is a text.
+pub fn line_replaced_is_text()
+    ensures { LineReplacedIsText }
 {}
 
 /// A text in which all matches are replaced is a text.

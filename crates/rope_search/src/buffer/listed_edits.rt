@@ -1,9 +1,7 @@
 //! Replacing the matches that a buffer's report lists in some lines.
 ghost use Rattle.std.specs.Prelude.{◌≡◌, ℕ, ◌+◌, ◌≤◌, ◌↔◌, ◌⊎◌, chars, Err, None, OnOk, OnErr, IfOk, IfErr};
-ghost use Rattle.rope_search_reports.specs.Text.{IsText};
 ghost use Rattle.rope_search.specs.Changed.{Replaces};
 ghost use Rattle.rope_search.specs.ListedReplacing.{GetsTooLongListed, IsListedReplacement, KeepsListed, RowsOfListed, SpansListed};
-ghost use Rattle.rope_search.specs.Session.{current_text};
 ghost use Rattle.rope_search.specs.TextsKept.{TellsText};
 
 use super::Buffer;
@@ -42,7 +40,6 @@ impl Buffer {
     ) -> Result<usize, Fault>
         ensures ok { IfOk result (λ count. IsListedReplacement self.old.state from_line to_line
             (chars template.now) count self.new.state) }
-        ensures scalars { OnOk result (IsText (current_text self.new.state)) }
         ensures kept { OnOk result
             (KeepsListed self.old from_line to_line (chars template.now) self.new) }
         ensures text_changes { OnOk result (TellsText self.old self.new) }
@@ -74,10 +71,9 @@ impl Buffer {
         let (alloc, limits) = (self.alloc, self.limits);
         let old = self.history.current();
         // All that may be refused comes before the first change.
-        let replaced =
-            search.replaced_listed(tick, alloc, limits, old, from_line, to_line, template)?;
-        // The text's facts, for the proof alone.
-        let _ = replaced.text.len_bytes();
+        let replaced = search.replaced_listed(
+            tick, alloc, limits, old, from_line, to_line, template,
+        )?;
         self.history.add(replaced.text, replaced.changes)?;
         self.changed = replaced.patches.changed;
         search.apply(replaced.patches);

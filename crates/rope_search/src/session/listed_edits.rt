@@ -43,6 +43,8 @@ impl Session {
         ensures grows { tick.old.count ≤ tick.new.count }
         ensures wholes { tick.new.wholes ≡ tick.old.wholes }
     {
+        // A law, for the proof alone.
+        rope_search_reports::laws::line_replaced_is_text();
         let Ok(template) = from_utf8(template) else {
             return Err(self.buffer().nothing_or(Fault::Utf8));
         };
