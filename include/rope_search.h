@@ -450,7 +450,7 @@ bool rope_search_list_index(rope_search *session, size_t line, size_t number, si
 
 /*
  * Which rows of the report the last accepted command on the chosen buffer replaced, of those that
- * may: set_text, edit, edit_all, undo, redo, set_pattern, off and replace. An edit adds no more rows
+ * may: set_text, edit and its like, undo, redo, set_pattern, off, replace and its like. An edit adds no more rows
  * than what it inserts has lines; where there is no pattern there are none. What is painted is
  * right again once these rows are, and those behind them moved.
  */
@@ -458,8 +458,8 @@ rope_search_stretch rope_search_changed(rope_search *session);
 
 /*
  * Copies the ranges of bytes in which the last accepted call on the chosen buffer replaced its text
- * to the front of `out`, as many as fit, and returns the number of them: of set_text, edit, edit_all,
- * undo, redo and replace, also without a pattern. The old text with each range replaced by the new
+ * to the front of `out`, as many as fit, and returns the number of them: of set_text, edit, undo,
+ * redo, replace and their like, also without a pattern. The old text with each range replaced by the new
  * text's range is the new text. The ranges ascend; two may touch, and they are never merged. Apply
  * them to a copy of the old text from the last one back, each at its old start. An edit has one
  * range, a replacement one for each match, set_text one, and a new buffer none. Linear in their

@@ -1,11 +1,10 @@
 -- The matches that a report lists in some lines, by offsets of the text.
 use Rattle.std.proofs.Common.{◌≡◌, ◌↔◌, ◌⊎◌, inl, inr, Ok, Err, IfOk, ℕ, zero, suc, ◌+◌, ◌-◌, ◌<◌, ◌≤◌, min, false, true, List, [], ◌∷◌, ◌++◌, Option, None, Some, All, length, map, take, drop, get_or, slice_index_or, refl, sym, ap, subst, ◌∙◌, arith, append-nil}
-use Rattle.std.specs.Prelude.{OnOk, Result, sum_by}
-use Rattle.std.specs.List.{flat_map}
+use Rattle.std.specs.Prelude.{OnOk, Result, max, sum_by}
 use Rattle.std.specs.Str.{IsCharBoundary}
-use Rattle.std.proofs.lemmas.List.{drop_more, length-append, length-drop, length-map, take-take}
-use Rattle.std.proofs.lemmas.List.Concat.{flat_map-append, flat_map-cons}
-use Rattle.std.proofs.lemmas.List.Elements.{All-cons}
+use Rattle.std.proofs.lemmas.List.{drop_more, length-append, length-map, map-append}
+use Rattle.std.proofs.lemmas.List.Concat.{flat_map-append}
+use Rattle.std.proofs.lemmas.List.Elements.{All-append, All-cons}
 use Rattle.std.proofs.lemmas.List.Sums.{sum_by-append, sum_by-cons}
 use Rattle.str_indices.specs.Text.{byte_len, units, units_of}
 use Rattle.regex_cursor.specs.Patterns.{FoundMatch}
@@ -15,7 +14,7 @@ use Rattle.rope_search_io.specs.declared.faults.Fault.TheVariants.{Size}
 use Rattle.rope_search_changes.specs.declared.Change.{Change}
 use Rattle.rope_search_reports.specs.Changes.{AreChanges}
 use Rattle.rope_search_reports.specs.Laws.{GroupsFollowEachOther, HasARowALine, HasOneListOfGroups}
-use Rattle.rope_search_reports.specs.LineGroups.{AreGroupsOfLine, AreGroupsOfLines, LineMatchesFollow, joined, moved, moved_span}
+use Rattle.rope_search_reports.specs.LineGroups.{AddsGroupsOfLine, AreGroupsOfLine, AreGroupsOfLines, LineMatchesFollow, joined, moved, moved_span}
 use Rattle.rope_search_reports.specs.Matches.{AreGroups, groups_of}
 use Rattle.rope_search_reports.specs.Pattern.{span_of}
 use Rattle.rope_search_reports.specs.Position.{line_start, line_text}
@@ -146,7 +145,7 @@ listed-one law text pattern from to lists lists' are are' = lines-one law text p
 
 -- the rows of these lines have a match where the lists do
 pub any-in-rows : HasOneListOfGroups → GroupsFollowEachOther → HasARowALine → (text pattern : List ℕ) → IsText text → (rows : List (List (ℕ × ℕ))) → IsReport text pattern rows
-    → (line : ℕ) (lists : List (List Groups)) → line + length lists ≤ length rows ⊎ (lists ≡ []) → AreGroupsOfLines text pattern line lists
+    → (line : ℕ) (lists : List (List Groups)) → (line + length lists ≤ length rows) ⊎ (lists ≡ []) → AreGroupsOfLines text pattern line lists
     → sum_by one_if_any (take (length lists) (drop line rows)) ≡ sum_by one_if_any lists
 any-in-rows one law count text pattern scalars rows report line [] low are = refl
 any-in-rows one law count text pattern scalars rows report line (g ∷ lists) low are =
@@ -297,3 +296,120 @@ module _ (b : BufferState) (pattern text : List ℕ) (is : b.pattern ≡ Some pa
     are = listed-there rows.lists rows.are;
     rows = rows.rows ∙ ap (λ t. lines_for_groups template rows.lists + searched (bytes_of t) template (joined rows.lists)) (sym here);
   }
+
+-- ---- line by line
+
+-- the spans of the lines from one up to another
+pub record AreSpansSoFar (text pattern : List ℕ) (from end line : ℕ) (spans : List (ℕ × ℕ)) : Type 0 where
+  pub lists : List (List Groups)
+  pub are : AreGroupsOfLines text pattern from lists
+  pub len : from + length lists ≡ line
+  pub within : line ≤ max from end
+  pub spans_are : spans ≡ map whole (joined lists)
+
+pub spans-none : (text pattern : List ℕ) (from end : ℕ) (spans : List (ℕ × ℕ)) → spans ≡ [] → AreSpansSoFar text pattern from end from spans
+spans-none text pattern from end spans none = record { lists = []; are = tt; len = omega arith; within = omega arith; spans_are = none }
+
+pub spans-more : (text pattern : List ℕ) (from end line : ℕ) (row : List (ℕ × ℕ)) (spans spans' : List (ℕ × ℕ)) → line < end → IsListedRow text pattern line row
+    → spans' ≡ spans ++ map (listed_span text line) row → AreSpansSoFar text pattern from end line spans → AreSpansSoFar text pattern from end (line + 1) spans'
+spans-more text pattern from end line row spans spans' low own more so = record {
+  lists = so.lists ++ own.groups ∷ [];
+  are = lines-more text pattern from so.lists own.groups line (sym so.len) so.are own.are;
+  len = omega (arith, so.len, length-append so.lists (own.groups ∷ []));
+  within = omega (arith, low);
+  spans_are = more ∙ ap (λ l. l ++ map (listed_span text line) row) so.spans_are ∙ ap (λ l. map whole (joined so.lists) ++ l) (sym own.spans)
+      ∙ sym (map-append whole (joined so.lists) own.groups) ∙ ap (map whole) (sym (joined-more so.lists own.groups));
+}
+
+pub spans-all : (text pattern : List ℕ) (from to end line : ℕ) (spans : List (ℕ × ℕ)) → end ≡ min to (line_count text) → end ≤ line → AreSpansSoFar text pattern from end line spans
+    → AreListedSpans text pattern from to spans
+spans-all text pattern from to end line spans end_is over so = record {
+  lists = so.lists;
+  are = record { are = so.are; all = omega (arith, end_is, over, so.len, so.within) };
+  spans_are = so.spans_are;
+}
+
+-- and their groups
+pub record AreGroupsSoFar (text pattern : List ℕ) (from end line : ℕ) (groups : List Groups) : Type 0 where
+  pub lists : List (List Groups)
+  pub are : AreGroupsOfLines text pattern from lists
+  pub len : from + length lists ≡ line
+  pub within : line ≤ max from end
+  pub groups_are : groups ≡ joined lists
+  pub spans : All (HasSpansIn (bytes_of text)) groups
+
+pub groups-none : (text pattern : List ℕ) (from end : ℕ) (groups : List Groups) → groups ≡ [] → AreGroupsSoFar text pattern from end from groups
+groups-none text pattern from end groups none = record {
+  lists = [];
+  are = tt;
+  len = omega arith;
+  within = omega arith;
+  groups_are = none;
+  spans = subst (All (HasSpansIn (bytes_of text))) (sym none) (λ k d low. absurd (omega (arith, low)));
+}
+
+pub groups-more : (text pattern : List ℕ) (from end line : ℕ) (groups groups' : List Groups) → line < end → AddsGroupsOfLine text pattern line groups groups'
+    → AreGroupsSoFar text pattern from end line groups → AreGroupsSoFar text pattern from end (line + 1) groups'
+groups-more text pattern from end line groups groups' low adds so = record {
+  lists = so.lists ++ adds.groups ∷ [];
+  are = lines-more text pattern from so.lists adds.groups line (sym so.len) so.are adds.are;
+  len = omega (arith, so.len, length-append so.lists (adds.groups ∷ []));
+  within = omega (arith, low);
+  groups_are = adds.added ∙ ap (λ l. l ++ adds.groups) so.groups_are ∙ sym (joined-more so.lists adds.groups);
+  spans = subst (All (HasSpansIn (bytes_of text))) (sym adds.added) (All-append (HasSpansIn (bytes_of text)) groups adds.groups so.spans adds.spans);
+}
+
+-- a line without a match
+no-groups : (groups : List Groups) → one_if_any groups ≡ 0 → groups ≡ []
+no-groups [] none = refl
+no-groups (g ∷ groups) none = absurd (omega (arith, none))
+
+pub groups-passed : (text pattern : List ℕ) (from end line : ℕ) (row : List (ℕ × ℕ)) (groups : List Groups) → line < end → IsListedRow text pattern line row → one_if_any row ≡ 0
+    → AreGroupsSoFar text pattern from end line groups → AreGroupsSoFar text pattern from end (line + 1) groups
+groups-passed text pattern from end line row groups low own none so =
+    let nothing : own.groups ≡ [] = no-groups own.groups (own.any ∙ none) in
+    record {
+      lists = so.lists ++ own.groups ∷ [];
+      are = lines-more text pattern from so.lists own.groups line (sym so.len) so.are own.are;
+      len = omega (arith, so.len, length-append so.lists (own.groups ∷ []));
+      within = omega (arith, low);
+      groups_are = so.groups_are ∙ sym (append-nil (joined so.lists)) ∙ ap (λ l. joined so.lists ++ l) (sym nothing) ∙ sym (joined-more so.lists own.groups);
+      spans = so.spans;
+    }
+
+pub groups-all : (text pattern : List ℕ) (from to end line : ℕ) (groups : List Groups) → end ≡ min to (line_count text) → end ≤ line → AreGroupsSoFar text pattern from end line groups
+    → AreListedGroups text pattern from to groups
+groups-all text pattern from to end line groups end_is over so = record {
+  lists = so.lists;
+  are = record { are = so.are; all = omega (arith, end_is, over, so.len, so.within) };
+  groups_are = so.groups_are;
+  spans = so.spans;
+}
+
+-- how many of the lines that are left have a match
+abbrev pub lines_left : List (List (ℕ × ℕ)) → ℕ → ℕ → ℕ
+lines_left rows line end = sum_by one_if_any (take (end - line) (drop line rows))
+
+pub left-more : (rows : List (List (ℕ × ℕ))) (line end : ℕ) → line < end → end ≤ length rows
+    → lines_left rows line end ≡ one_if_any (slice_index_or rows line []) + lines_left rows (line + 1) end
+left-more rows line end low within =
+    let row = slice_index_or rows line [] in
+    let rest = drop (line + 1) rows in
+    let count : end - line ≡ suc (end - (line + 1)) = omega (arith, low) in
+    ap (λ l. sum_by one_if_any (take (end - line) l)) (drop_more rows line [] (omega (arith, low, within)))
+    ∙ ap (λ n. sum_by one_if_any (take n (row ∷ rest))) count
+    ∙ sum_by-cons one_if_any row (take (end - (line + 1)) rest)
+
+-- those of all lines, by the lists of their matches
+pub rows-of-lists : HasOneListOfGroups → GroupsFollowEachOther → HasARowALine → (text pattern : List ℕ) → IsText text → (rows : List (List (ℕ × ℕ))) → IsReport text pattern rows
+    → (from to : ℕ) (lists : List (List Groups)) → AreListedIn text pattern from to lists
+    → lines_left rows from (min to (length rows)) ≡ sum_by one_if_any lists
+rows-of-lists one law count text pattern scalars rows report from to lists are =
+    let n : length rows ≡ line_count text = count text pattern rows report in
+    let len : length lists ≡ min to (length rows) - from = omega (arith, are.all, n) in
+    ap (λ k. sum_by one_if_any (take k (drop from rows))) (sym len)
+    ∙ any-in-rows one law count text pattern scalars rows report from lists (within len lists refl) are.are
+  where
+    within : length lists ≡ min to (length rows) - from → (ls : List (List Groups)) → lists ≡ ls → (from + length lists ≤ length rows) ⊎ (lists ≡ [])
+    within len [] none = inr none
+    within len (l ∷ ls) some = inl (omega (arith, len, ap length some))
