@@ -14,7 +14,7 @@ import sys
 from harness import LIBRARY, LIBRARY_FOLDER, PROGRAM, ROOM, SECONDS, SONAME, TOP, VERSION, example_rows, short, test
 from library import replies, reply, rope_search
 from library_changes import wrong_changes
-from library_edits import wrong_with
+from library_edits import wrong_many, wrong_with
 from library_groups import wrong_groups
 from library_lines import wrong_edits, wrong_long, wrong_numbers, wrong_small
 from library_listed import wrong_listed
@@ -328,6 +328,7 @@ def test_edits():
     for front in range(0, EDITED, EDITED // 4):
         wrong = [one for seed in range(front, front + EDITED // 4) for one in wrong_with(seed)]
         test(f"several edits as one, {EDITED // 4} texts at random from {front} on, beside the model", wrong)
+    test("few edits and many of a long text as one", list(wrong_many()))
 
 
 def test_groups():
