@@ -1,13 +1,14 @@
 -- The matches that a report lists in some lines, by offsets of the text.
-use Rattle.std.proofs.Common.{◌≡◌, ◌↔◌, ◌⊎◌, inl, inr, Ok, Err, IfOk, ℕ, zero, suc, ◌+◌, ◌-◌, ◌<◌, ◌≤◌, min, false, true, List, [], ◌∷◌, ◌++◌, Option, None, Some, All, length, map, take, drop, get_or, slice_index_or, refl, sym, ap, subst, ◌∙◌, arith, append-nil}
-use Rattle.std.specs.Prelude.{OnOk, Result, max, sum_by}
-use Rattle.std.specs.Str.{IsCharBoundary}
+use Rattle.std.proofs.Common.{◌≡◌, ◌↔◌, ◌⊎◌, inl, inr, Ok, Err, IfOk, ℕ, suc, ◌+◌, ◌-◌, ◌<◌, ◌≤◌, min, Bool, true, false, ◌==◌, List, [], ◌∷◌, ◌++◌, Some, All, length, map, take, drop, slice_index_or, refl, sym, ap, subst, ◌∙◌, arith, append-nil}
+use Rattle.std.specs.Prelude.{IfSome, if◌then◌else◌, OnOk, Result, max, sum_by}
+use Rattle.std.specs.List.{range_with_len}
+use Rattle.std.specs.Str.{IsCharBoundary, all_scalars}
+use Rattle.std.proofs.lemmas.Bool.Decides.{nat_tests}
 use Rattle.std.proofs.lemmas.List.{drop_more, length-append, length-map, map-append}
 use Rattle.std.proofs.lemmas.List.Concat.{flat_map-append}
 use Rattle.std.proofs.lemmas.List.Elements.{All-append, All-cons}
-use Rattle.std.proofs.lemmas.List.Sums.{sum_by-append, sum_by-cons}
-use Rattle.str_indices.specs.Text.{byte_len, units, units_of}
-use Rattle.regex_cursor.specs.Patterns.{FoundMatch}
+use Rattle.std.proofs.lemmas.List.Sums.{sum_by-cons}
+use Rattle.str_indices.specs.Text.{byte_len, units}
 use Rattle.ropey.specs.Chunks.{text_of}
 use Rattle.rope_search_io.specs.declared.faults.Fault.{Fault}
 use Rattle.rope_search_io.specs.declared.faults.Fault.TheVariants.{Size}
@@ -15,46 +16,28 @@ use Rattle.rope_search_changes.specs.declared.Change.{Change}
 use Rattle.rope_search_reports.specs.Changes.{AreChanges}
 use Rattle.rope_search_reports.specs.Laws.{GroupsFollowEachOther, HasARowALine, HasOneListOfGroups}
 use Rattle.rope_search_reports.specs.LineGroups.{AddsGroupsOfLine, AreGroupsOfLine, AreGroupsOfLines, LineMatchesFollow, joined, moved, moved_span}
-use Rattle.rope_search_reports.specs.Matches.{AreGroups, groups_of}
+use Rattle.rope_search_reports.specs.Matches.{AreGroups, group_of, groups_of}
 use Rattle.rope_search_reports.specs.Pattern.{span_of}
 use Rattle.rope_search_reports.specs.Position.{line_start, line_text}
 use Rattle.rope_search_reports.specs.Replacement.{AreMatchesIn, FollowEachOther, Groups, HasSpansIn, IsSpanIn, ReplacementsAreChanges, alone, changes_of, replaced, searched, whole}
 use Rattle.rope_search_reports.specs.Report.{IsReport, IsRow, column, columns}
 use Rattle.rope_search_reports.specs.Text.{IsText, bytes_of, line_count}
 use Rattle.rope_search_reports.specs.Turned.{listed}
-use Rattle.rope_search_reports.proofs.BoundaryLemmas.{own_scalars}
 use Rattle.rope_search_reports.proofs.ColumnLemmas.{column-is}
-use Rattle.rope_search_reports.proofs.PlaceLemmas.{split_at}
-use Rattle.rope_search_reports.proofs.TextPlaces.{places}
+use Rattle.rope_search_reports.proofs.LineLemmas.{lines-in-place}
+use Rattle.rope_search_reports.proofs.PlaceLemmas.{scalars-parts, split_at}
 use Rattle.rope_search_templates.specs.Laws.{ReplaceAlike, SpansAreEnough}
 use Rattle.rope_search_templates.specs.Templates.{names_explicit_groups}
-use Rattle.rope_search.specs.LineColumns.{IsColumnOf, column_as, columns_as, front_to}
+use Rattle.rope_search.specs.LineColumns.{column_as, columns_as, front_to}
 use Rattle.rope_search.specs.ListedReplacing.{AreEnoughListed, AreListed, AreListedGroups, AreListedIn, AreListedSpans, GetsTooLongListed, GetsTooLongListedIn, IsListedIn, RowsOfListed, RowsOfListedIn, lines_for_groups, listed_span, one_if_any}
 use Rattle.rope_search.specs.Session.{BufferState, current_text}
 use Rattle.rope_search.specs.declared.search.Replaced.{Replaced}
 use Rattle.rope_search.specs.declared.encodings.Encoding.TheVariants.{Utf8}
-use Rattle.rope_search.proofs.FrontLemmas.{front_to-front, front_to-parts}
+use Rattle.rope_search.proofs.FrontLemmas.{front_to-front}
+use Rattle.rope_search.proofs.KeptLemmas.{get_there}
 use Rattle.rope_search.proofs.MatchEditLemmas.{row-at}
-use Rattle.rope_search.proofs.PartLaws.{byte_len-append}
 
 -- ---- columns and bytes
-
--- if each character of a text takes one byte, its columns are offsets
-pub narrow-column : (text : List ℕ) (column : ℕ) → units text ≡ byte_len text → IsColumnOf text column → column ≡ column_as Utf8 text column
-narrow-column text column narrow is =
-    let split = front_to-parts column text in
-    let front = front_to column text in
-    omega (
-      arith,
-      narrow,
-      is,
-      places.few_units front,
-      places.few_units split.0,
-      ap units split.1,
-      ap byte_len split.1,
-      sum_by-append units_of front split.0,
-      byte_len-append front split.0,
-    )
 
 -- the byte of the column of a boundary is that boundary
 column-back : (own : List ℕ) (place : ℕ) → IsText own → IsCharBoundary (bytes_of own) place → column_as Utf8 own (column (bytes_of own) place) ≡ place
@@ -74,6 +57,12 @@ span-back own span scalars starts ends =
 
 -- ---- the matches of a row
 
+own-scalars : (text : List ℕ) → IsText text → (line : ℕ) → line < line_count text → IsText (line_text text line)
+own-scalars text scalars line inside =
+    let own = line_text text line in
+    let h = lines-in-place text line inside in
+    (scalars-parts own h.behind (scalars-parts h.before (own ++ h.behind) (sym (ap all_scalars h.parts) ∙ scalars)).1).0
+
 -- the groups of a row's matches, and what the row shows of them
 pub record IsListedRow (text pattern : List ℕ) (line : ℕ) (row : List (ℕ × ℕ)) : Type 0 where
   pub groups : List Groups
@@ -81,33 +70,43 @@ pub record IsListedRow (text pattern : List ℕ) (line : ℕ) (row : List (ℕ �
   pub spans : map whole groups ≡ map (listed_span text line) row
   pub any : one_if_any groups ≡ one_if_any row
 
-module _ (law : GroupsFollowEachOther) (text pattern : List ℕ) (scalars : IsText text) (line : ℕ) (inside : line < line_count text) where
-  spans-shown : (at : ℕ) (ms : List FoundMatch) → FollowEachOther (bytes_of (line_text text line)) at (map groups_of ms)
-      → map whole (map (moved (line_start text line)) (map groups_of ms)) ≡ map (listed_span text line) (map (columns (bytes_of (line_text text line))) (map span_of ms))
-  spans-shown at [] follow = refl
-  spans-shown at (m ∷ ms) follow =
-      let own = line_text text line in
-      let start = line_start text line in
-      let back = span-back own (span_of m) (own_scalars places text scalars line inside) follow.2 follow.3 in
-      ap (λ s. s ∷ map whole (map (moved start) (map groups_of ms))) (ap (moved_span start) (sym back))
-      ∙ ap (λ l. listed_span text line (columns (bytes_of own) (span_of m)) ∷ l) (spans-shown (whole (groups_of m)).1 ms follow.4)
+module _ (text : List ℕ) (scalars : IsText text) (line : ℕ) (inside : line < line_count text) where
+  abbrev own : List ℕ
+  own = line_text text line
 
-  any-shown : (start : ℕ) (ms : List FoundMatch) → one_if_any (map (moved start) (map groups_of ms)) ≡ one_if_any (map (columns (bytes_of (line_text text line))) (map span_of ms))
-  any-shown start [] = refl
-  any-shown start (m ∷ ms) = refl
+  abbrev start : ℕ
+  start = line_start text line
 
-  pub listed-row : (row : List (ℕ × ℕ)) → IsRow pattern (line_text text line) row → IsListedRow text pattern line row
-  listed-row row is =
-      let own = line_text text line in
+  spans-shown : {A : Type 0} (groups : A → Groups) (span : A → ℕ × ℕ) (rest : A → Groups) → ((a : A) → groups a ≡ Some (span a) ∷ rest a)
+      → (at : ℕ) (ms : List A) → FollowEachOther (bytes_of own) at (map groups ms)
+      → map whole (map (moved start) (map groups ms)) ≡ map (listed_span text line) (map (columns (bytes_of own)) (map span ms))
+  spans-shown groups span rest starts at [] follow = refl
+  spans-shown groups span rest starts at (m ∷ ms) follow =
+      let is : whole (groups m) ≡ span m = ap whole (starts m) in
+      let first = subst (λ (s : ℕ × ℕ). IsCharBoundary (bytes_of own) s.0) is follow.2 in
+      let last = subst (λ (s : ℕ × ℕ). IsCharBoundary (bytes_of own) s.1) is follow.3 in
+      let back = span-back own (span m) (own-scalars text scalars line inside) first last in
+      ap (λ g. whole (moved start g) ∷ map whole (map (moved start) (map groups ms))) (starts m)
+      ∙ ap (λ s. moved_span start s ∷ map whole (map (moved start) (map groups ms))) (sym back)
+      ∙ ap (λ l. listed_span text line (columns (bytes_of own) (span m)) ∷ l) (spans-shown groups span rest starts (whole (groups m)).1 ms follow.4)
+
+  any-shown : {A : Type 0} (groups : A → Groups) (span : A → ℕ × ℕ) (ms : List A)
+      → one_if_any (map (moved start) (map groups ms)) ≡ one_if_any (map (columns (bytes_of own)) (map span ms))
+  any-shown groups span [] = refl
+  any-shown groups span (m ∷ ms) = refl
+
+  pub listed-row : GroupsFollowEachOther → (pattern : List ℕ) (row : List (ℕ × ℕ)) → IsRow pattern own row → IsListedRow text pattern line row
+  listed-row law pattern row is =
       let content = bytes_of own in
       let ms = is.are.matches in
       let are : AreGroups pattern content (map groups_of ms) = record { matches = ms; are = is.are.are; groups_are = refl } in
       let shown : row ≡ map (columns content) (map span_of ms) = is.shown ∙ ap (map (columns content)) is.are.spans_are in
+      let follow = law own pattern (map groups_of ms) (own-scalars text scalars line inside) are in
       record {
-        groups = map (moved (line_start text line)) (map groups_of ms);
+        groups = map (moved start) (map groups_of ms);
         are = record { inside = inside; own = map groups_of ms; are = are; moved_are = refl };
-        spans = spans-shown 0 ms (law own pattern (map groups_of ms) (own_scalars places text scalars line inside) are) ∙ ap (map (listed_span text line)) (sym shown);
-        any = any-shown (line_start text line) ms ∙ ap one_if_any (sym shown);
+        spans = spans-shown groups_of span_of (λ m. map (group_of m) (range_with_len 1 9)) (λ m. refl) 0 ms follow ∙ ap (map (listed_span text line)) (sym shown);
+        any = any-shown groups_of span_of ms ∙ ap one_if_any (sym shown);
       }
 
 -- a row of a report is that of its line
@@ -115,6 +114,24 @@ pub report-row : HasARowALine → (text pattern : List ℕ) (rows : List (List (
     → (line < line_count text) × IsRow pattern (line_text text line) (slice_index_or rows line [])
 report-row law text pattern rows line report low =
     (omega (arith, low, law text pattern rows report), row-at pattern _ rows line report low)
+
+pub told-row : (rows : List (List (ℕ × ℕ))) (line : ℕ) (told : List (ℕ × ℕ)) → line < length rows → told ≡ slice_index_or rows line told → told ≡ slice_index_or rows line []
+told-row rows line told low is = is ∙ get_there rows line told [] low
+
+some-length : (n : ℕ) (b : Bool) → b ≡ (n == 0) → b ≡ false → 0 < n
+some-length n b is off = grind (arith, nat_tests, is, off)
+
+no-length : (n : ℕ) (b : Bool) → b ≡ (n == 0) → b ≡ true → n ≡ 0
+no-length n b is on = grind (arith, nat_tests, is, on)
+
+-- whether a row has a match
+pub some-any : (row : List (ℕ × ℕ)) (b : Bool) → b ≡ (length row == 0) → b ≡ false → one_if_any row ≡ 1
+some-any [] b is off = absurd (omega (arith, some-length 0 b is off))
+some-any (m ∷ row) b is off = refl
+
+pub none-any : (row : List (ℕ × ℕ)) (b : Bool) → b ≡ (length row == 0) → b ≡ true → one_if_any row ≡ 0
+none-any [] b is on = refl
+none-any (m ∷ row) b is on = absurd (omega (arith, no-length (length (m ∷ row)) b is on))
 
 -- ---- lists of lines
 
@@ -156,7 +173,7 @@ any-in-rows one law count text pattern scalars rows report line (g ∷ lists) lo
     let inside : line < length rows = omega (arith, within) in
     let row = slice_index_or rows line [] in
     let is = report-row count text pattern rows line report inside in
-    let l = listed-row law text pattern scalars line is.0 row is.1 in
+    let l = listed-row text scalars line is.0 law pattern row is.1 in
     let own = one pattern (bytes_of (line_text text line)) are.0.own l.are.own are.0.are l.are.are in
     let same : g ≡ l.groups = are.0.moved_are ∙ ap (map (moved (line_start text line))) own ∙ sym l.are.moved_are in
     let later = any-in-rows one law count text pattern scalars rows report (line + 1) lists (inl (omega (arith, within))) are.1 in
@@ -177,7 +194,7 @@ alone-spans : (content : List ℕ) (at : ℕ) (matches : List Groups) → Follow
 alone-spans content at [] follow = λ k d low. absurd (omega (arith, low))
 alone-spans content at (match ∷ matches) follow =
     All-cons (HasSpansIn content) (alone (whole match)) (map alone (map whole matches))
-    (All-cons _ (Some (whole match)) [] (record { ordered = follow.1; starts = follow.2; stops = follow.3 }) (λ k d low. absurd (omega (arith, low))))
+    (All-cons (λ group. IfSome group (IsSpanIn content)) (Some (whole match)) [] (record { ordered = follow.1; starts = follow.2; stops = follow.3 }) (λ k d low. absurd (omega (arith, low))))
     (alone-spans content (whole match).1 matches follow.4)
 
 pub enough-spans : SpansAreEnough → LineMatchesFollow → (text pattern : List ℕ) (from to : ℕ) (template : List ℕ) (spans : List (ℕ × ℕ)) → IsText text
@@ -413,3 +430,7 @@ rows-of-lists one law count text pattern scalars rows report from to lists are =
     within : length lists ≡ min to (length rows) - from → (ls : List (List Groups)) → lists ≡ ls → (from + length lists ≤ length rows) ⊎ (lists ≡ [])
     within len [] none = inr none
     within len (l ∷ ls) some = inl (omega (arith, len, ap length some))
+
+-- what a template asks for
+pub asked-lines : (template : List ℕ) (lists : List (List Groups)) → names_explicit_groups template ≡ true → lines_for_groups template lists ≡ sum_by one_if_any lists
+asked-lines template lists named = ap (λ b. if b then sum_by one_if_any lists else 0) named

@@ -1,5 +1,5 @@
 -- The replacement of listed matches in the chosen buffer of a session.
-use Rattle.std.proofs.Common.{◌≡◌, ◌↔◌, ◌⊎◌, inl, inr, ℕ, ◌+◌, ◌<◌, List, [], ◌∷◌, ◌++◌, None, Some, Ok, Err, IfOk, IfErr, IsUtf8, All, length, map, take, refl, sym, ap, subst, ◌∙◌, chars, slice_index_or, slice_set}
+use Rattle.std.proofs.Common.{◌≡◌, ◌↔◌, ◌⊎◌, inl, inr, ℕ, ◌+◌, List, [], ◌∷◌, None, Some, Ok, Err, IfOk, IfErr, IsUtf8, map, take, refl, sym, ap, subst, ◌∙◌, chars, slice_set}
 use Rattle.std.specs.Prelude.{OnOk, OnErr, Option, Result, MatchOption}
 use Rattle.std.proofs.lemmas.List.Elements.{All-append, All-take}
 use Rattle.rope_search_io.specs.declared.faults.Fault.{Fault}
@@ -10,9 +10,10 @@ use Rattle.rope_search.specs.Changed.{Replaces}
 use Rattle.rope_search.specs.Laws.{HoldsTexts}
 use Rattle.rope_search.specs.ListedReplacing.{GetsTooLongListed, IsListedReplacement, KeepsListed, KeepsListedOf, RowsOfListed, SpansListed, StepByListed, TellsListed}
 use Rattle.rope_search.specs.Replacing.{text_with}
-use Rattle.rope_search.specs.Session.{BufferState, LimitedBuffer, LimitedSession, State, chosen_buffer, current_text, with_edit}
+use Rattle.rope_search.specs.Session.{BufferState, LimitedBuffer, LimitedSession, State, chosen_buffer, current_text, limit_in, with_edit}
 use Rattle.rope_search.specs.TextsKept.{ChangesChosen, TellsText}
 use Rattle.rope_search.proofs.ChangedLemmas.{chosen-with, told-set, told_with}
+use Rattle.rope_search.proofs.GroupsAtLemmas.{session_kept}
 use Rattle.rope_search.proofs.HoldLaws.{one_text, text_holds}
 use Rattle.rope_search.proofs.KeptLemmas.{keeps}
 use Rattle.rope_search.proofs.SessionLemmas.{Chosen, Chosen-kept, Chosen-limit, Chosen-set, Chosen-state, state_with}
@@ -32,6 +33,9 @@ holds-listed law from to template old new spelled h (Ok count) is same =
 holds-listed law from to template old new spelled h (Err fault) is same = subst (λ (b : LimitedBuffer). HoldsTexts b.state) (sym same) h
 
 -- ---- what it is answered
+
+abbrev refused : Fault → Result ℕ Fault
+refused fault = Err fault
 
 module _ (items : List LimitedBuffer) (k limit : ℕ) (old new : LimitedBuffer) (s : LimitedSession) (c : Chosen items k limit old s) (from to : ℕ) where
   too-long-there : (template : List ℕ) → GetsTooLongListed s.limit (chosen_buffer s.state) from to template → GetsTooLongListed old.limit old.state from to template
@@ -73,8 +77,8 @@ module _ (items : List LimitedBuffer) (k limit : ℕ) (old new : LimitedBuffer) 
       kept : state_with items k new ≡ s.state
       kept = Chosen-kept items k limit old new s c same
 
-      told : (fault : Fault) → (fault ≡ Nothing) ⊎ ((fault ≡ Size) ⊎ (fault ≡ Memory)) → (Err {T = ℕ} fault ≡ Err Nothing) ↔ (old.state.pattern ≡ None)
-          → (Err {T = ℕ} fault ≡ Err Size → GetsTooLongListed old.limit old.state from to template)
+      told : (fault : Fault) → (fault ≡ Nothing) ⊎ ((fault ≡ Size) ⊎ (fault ≡ Memory)) → (refused fault ≡ Err Nothing) ↔ (old.state.pattern ≡ None)
+          → (refused fault ≡ Err Size → GetsTooLongListed old.limit old.state from to template)
           → StepByListed s.limit s.state from to bytes (Err fault) (state_with items k new)
       told Nothing which nothing size = (pattern-here (nothing.0 refl), kept)
       told Range (inl e) nothing size = absurd (cc)
@@ -117,3 +121,11 @@ listed-broken limit s b from to bytes fault is broken told = by b.pattern refl t
     by : (pattern : Option (List ℕ)) → b.pattern ≡ pattern → MatchOption pattern (fault ≡ Nothing) (λ pattern. fault ≡ Utf8) → StepByListed limit s from to bytes (Err fault) s
     by None none told = rw told (ap (λ (b : BufferState). b.pattern) is ∙ none, refl)
     by (Some pattern) some told = rw told ((λ none. absurd (let same = sym (ap (λ (b : BufferState). b.pattern) is ∙ some) ∙ none in cc)), broken, refl)
+
+-- ---- where it is refused
+
+pub session-err : (items : List LimitedBuffer) (k : ℕ) (old new : LimitedBuffer) (s : LimitedSession) → Chosen items k (limit_in items k) old s → (result : Result ℕ Fault)
+    → OnErr result (new ≡ old)
+    → OnErr result (record { limit = limit_in (slice_set items k new) k; state = state_with items k new; changed = map (λ (b : LimitedBuffer). b.changed) (slice_set items k new); buffers = slice_set items k new } ≡ s)
+session-err items k old new s c (Ok count) same = tt
+session-err items k old new s c (Err fault) same = session_kept items k old new s c same

@@ -119,8 +119,10 @@ impl Search {
         ensures grows { tick.old.count ≤ tick.new.count }
         ensures wholes { tick.new.wholes ≡ tick.old.wholes }
     {
-        // A law, for the proof alone.
+        // Laws, and the text's facts, for the proof alone.
         rope_search_reports::laws::a_row_a_line();
+        rope_search_reports::laws::groups_follow_each_other();
+        let _ = text.len_bytes();
         let mut groups = Vec::new(alloc);
         for line in from..to.min(self.rows.len()) {
             if !self.rows[line].matches().is_empty() {
@@ -158,7 +160,8 @@ impl Search {
         rope_search_templates::laws::spans_are_enough();
         rope_search_reports::laws::line_matches_follow();
         rope_search_reports::laws::one_list_of_groups();
-        rope_search_reports::laws::one_list_of_matches();
+        rope_search_reports::laws::groups_follow_each_other();
+        rope_search_reports::laws::a_row_a_line();
         let _ = text.len_bytes();
         if template.names_explicit_groups() {
             let groups = self.listed_groups(tick, alloc, text, from, to)?;

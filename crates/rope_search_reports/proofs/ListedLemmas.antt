@@ -8,8 +8,7 @@ use Rattle.str_indices.specs.Text.{byte_len}
 use Rattle.std.proofs.lemmas.Str.{IsCharBoundary-start}
 use Rattle.regex_cursor.specs.Patterns.{FoundMatch, SpellsTree, Tree, search_from}
 use Rattle.regex_cursor.specs.PatternLaws.{HasFinds, StandsAtBoundaries}
-use Rattle.rope_search_reports.specs.Finders.{AreGroupsOf}
-use Rattle.rope_search_reports.specs.LineGroups.{AddsGroupsOf, AddsGroupsOfLine, AreGroupsOfLine, AreGroupsOfLines, LineMatchesFollow, LineReplacedIsText, joined, moved, moved_span}
+use Rattle.rope_search_reports.specs.LineGroups.{AddsGroupsOf, AddsGroupsOfLine, AreGroupsOfLines, LineMatchesFollow, LineReplacedIsText, joined, moved, moved_span}
 use Rattle.rope_search_reports.specs.Matches.{groups_of}
 use Rattle.rope_search_reports.specs.Position.{line_start, line_text, text_end}
 use Rattle.rope_search_reports.specs.Replacement.{FollowEachOther, Groups, HasSpansIn, IsSpanIn, whole}

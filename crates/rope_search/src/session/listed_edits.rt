@@ -1,5 +1,5 @@
 //! Replacing the matches that the chosen buffer's report lists in some lines.
-ghost use Rattle.std.specs.Prelude.{◌≡◌, ℕ, ◌+◌, ◌≤◌, ◌⊎◌, ¬, IsUtf8, chars, None, OnOk, OnErr};
+ghost use Rattle.std.specs.Prelude.{◌≡◌, ℕ, ◌+◌, ◌≤◌, ◌⊎◌, IsUtf8, chars, None, OnOk, OnErr};
 ghost use Rattle.rope_search.specs.ListedReplacing.{KeepsListedOf, RowsOfListed, StepByListed, TellsListed};
 ghost use Rattle.rope_search.specs.Session.{chosen_buffer};
 ghost use Rattle.rope_search.specs.TextsKept.{ChangesChosen};

@@ -1,4 +1,5 @@
-use Rattle.std.proofs.Common.{◌≡◌, ◌+◌, ◌<◌, ◌∷◌, [], ◌++◌, All, length, map, take, get_or, slice_index_or, refl, ap, sym, subst, ◌∙◌, append_assoc, append-nil, arith}
+use Rattle.std.proofs.Common.{◌≡◌, ◌==◌, true, List, ◌+◌, ◌∷◌, [], ◌++◌, length, map, take, slice_index_or, refl, ap, sym, subst, ◌∙◌, append_assoc, append-nil, arith}
+use Rattle.std.proofs.lemmas.Bool.Decides.{nat_tests}
 use Rattle.std.proofs.lemmas.List.{map-append, take_all, take_more}
 use Rattle.str_indices.specs.Text.{byte_len}
 use Rattle.ropey.specs.Chunks.{text_of}
@@ -11,8 +12,15 @@ use Rattle.rope_search.specs.declared.encodings.Encoding.TheVariants.{Utf8}
 use Rattle.rope_search.proofs.PartLaws.{byte_len-append}
 use Rattle.rope_search.proofs.listed_matches.add_spans.Goals as goal
 
+empty-map : {A : Type 0} {B : Type 0} (f : A → B) (row : List A) → true ≡ (length row == 0) → map f row ≡ []
+empty-map {A} {B} f row is = by row (grind (arith, nat_tests, is))
+  where
+    by : (row : List A) → length row ≡ 0 → map f row ≡ []
+    by [] none = refl
+    by (a ∷ row) none = absurd (omega (arith, none))
+
 pub returns-then-is_empty-clause-spans : goal.returns-then-is_empty-clause-spans
-returns-then-is_empty-clause-spans c = ?
+returns-then-is_empty-clause-spans c = sym (ap (λ l. c.args.spans.now.items ++ l) (empty-map _ c.args.row.now c.if-is_empty.ensures) ∙ append-nil c.args.spans.now.items)
 
 pub loop-columns-init : goal.loop-columns-init
 loop-columns-init c = sym (append-nil _)

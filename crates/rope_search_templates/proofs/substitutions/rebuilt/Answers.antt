@@ -1,4 +1,4 @@
-use Rattle.std.proofs.Common.{◌≡◌, ℕ, ◌+◌, ◌-◌, ◌<◌, List, [], ◌++◌, length, take, drop, map, slice_index_or, ap, sym, subst, ◌∙◌, arith, chars}
+use Rattle.std.proofs.Common.{◌≡◌, ℕ, ◌+◌, ◌-◌, List, [], ◌++◌, take, drop, map, slice_index_or, ap, sym, subst, ◌∙◌, arith, chars}
 use Rattle.std.specs.Str.{IsCharBoundary}
 use Rattle.std.proofs.lemmas.List.{drop-drop}
 use Rattle.ropey.specs.Chunks.{text_of}
@@ -8,7 +8,7 @@ use Rattle.rope_search_templates.specs.declared.substitutions.Substitution.{Subs
 use Rattle.rope_search_templates.specs.Substitutions.{substituted, told}
 use Rattle.rope_search_templates.proofs.ContentLemmas.{text-utf8}
 use Rattle.rope_search_templates.proofs.LeftLemmas.{boundary-left}
-use Rattle.rope_search_templates.proofs.SubstitutionLemmas.{IsBuiltUpTo, all-ahead, built-last, built-more, built-next}
+use Rattle.rope_search_templates.proofs.SubstitutionLemmas.{IsBuiltUpTo, all-ahead, built-more, built-next}
 use Rattle.rope_search_templates.proofs.substitutions.rebuilt.Goals as goal
 
 abbrev nothing : Given

@@ -1,7 +1,9 @@
-use Rattle.std.proofs.Common.{◌≡◌, ◌≤◌, sym, ap, ◌∙◌, subst}
+use Rattle.std.proofs.Common.{◌≡◌, ◌≤◌, Err, sym, ap, ◌∙◌, subst}
 use Rattle.std.specs.Prelude.{Option, Some, option_map}
 use Rattle.std.specs.Str.{chars}
+use Rattle.std.proofs.lemmas.Result.{err_from_is_err_and}
 use Rattle.ropey.specs.Chunks.{text_of}
+use Rattle.rope_search_io.specs.declared.faults.Fault.TheVariants.{Size}
 use Rattle.rope_search_reports.specs.LineGroups.{joined}
 use Rattle.rope_search_reports.specs.Replacement.{changes_of, replaced}
 use Rattle.rope_search_reports.specs.Text.{bytes_of}
@@ -58,7 +60,22 @@ returns-clause-rows c = λ n rows.
     c.replaced_listed.ensures.count n (rows-there c.args.self.now.state finder (text_of c.current-old.result.now) is here c.args.from_line c.args.to_line (chars c.args.template.now) n rows)
 
 pub returns-in_err-replaced-clause-size : goal.returns-in_err-replaced-clause-size
-returns-in_err-replaced-clause-size c = ?
+returns-in_err-replaced-clause-size c = λ told.
+    let history = c.self.inside.history in
+    let finder = c.in-Some.search.finder in
+    let state : BufferState = record { texts = history.texts; current = history.current; pattern = Some finder } in
+    let one : c.self.inside.search ≡ Some c.in-Some.search = c.in-Some.is in
+    let same : state ≡ c.args.self.now.state =
+    ap (λ (o : Option Search). record { texts = history.texts; current = history.current; pattern = option_map (λ (s : Search). s.finder) o }) (sym one)
+    ∙ ap (λ (v : LimitedBuffer). v.state) c.self.view_is in
+    let is : c.args.self.now.state.pattern ≡ Some finder = ap (λ (b : BufferState). b.pattern) (sym same) in
+    let here : text_of c.current-old.result.now ≡ current_text c.args.self.now.state = c.current-old.ensures.text ∙ ap current_text same in
+    let limit : c.self.inside.limits.text ≡ c.args.self.now.limit = ap (λ (v : LimitedBuffer). v.limit) c.self.view_is in
+    let p = err_from_is_err_and c.from_residual.result c.from_residual.ensures.1 in
+    let fault : c.in_err-replaced.field-0.0 ≡ Size = cc in
+    subst (λ n. GetsTooLongListed n c.args.self.now.state c.args.from_line c.args.to_line (chars c.args.template.now)) limit
+    (long-here c.args.self.now.state finder (text_of c.current-old.result.now) is here c.args.from_line c.args.to_line c.self.inside.limits.text (chars c.args.template.now)
+    (c.in_err-replaced.ensures.size (ap Err fault)))
 
 pub returns-clause-fits : goal.returns-clause-fits
 returns-clause-fits c = λ gets.

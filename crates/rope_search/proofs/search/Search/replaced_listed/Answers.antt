@@ -1,8 +1,6 @@
-use Rattle.std.proofs.Common.{◌≡◌, ◌+◌, ℕ, ap, sym, subst, ◌∙◌, arith}
+use Rattle.std.proofs.Common.{IfOk, ap, subst, arith}
 use Rattle.std.specs.Str.{chars}
 use Rattle.ropey.specs.Chunks.{text_of}
-use Rattle.rope_search_reports.specs.Text.{bytes_of}
-use Rattle.rope_search_reports.specs.Replacement.{searched}
 use Rattle.rope_search_templates.specs.Matches.{matched}
 use Rattle.rope_search.specs.ListedReplacing.{lines_for_groups}
 use Rattle.rope_search.specs.Stretches.{ReplacesIn}
@@ -39,3 +37,8 @@ returns-in_err-matches-clause-count c = λ n rows.
     let own = c.listed_matches.ensures.count rows.lists rows.are in
     let given = ap (λ t. lines_for_groups t rows.lists) c.new-template.ensures in
     omega (arith, own, given, rows.rows)
+
+pub returns-clause-changed : goal.returns-clause-changed
+returns-clause-changed c =
+    subst (λ f. IfOk c.with_matches_replaced.result (λ new. ReplacesIn (text_of c.args.old.now) (text_of new.text) f new.patches.changed)) c.listed_matches.ensures.finder
+    c.with_matches_replaced.ensures.changed

@@ -1,11 +1,7 @@
-use Rattle.std.proofs.Common.{◌≡◌, Ok, Err, sym, subst, ◌∙◌, arith}
-use Rattle.std.proofs.lemmas.Bool.{true≢false}
 use Rattle.ropey.specs.Chunks.{text_of}
-use Rattle.rope_search_reports.specs.Changes.{AreChanges}
-use Rattle.rope_search_reports.specs.Replacement.{changes_of, searched}
+use Rattle.rope_search_reports.specs.Replacement.{searched}
 use Rattle.rope_search_reports.specs.Text.{IsText, bytes_of}
 use Rattle.rope_search_templates.specs.Matches.{matched}
-use Rattle.rope_search.specs.Stretches.{ReplacesIn}
 use Rattle.rope_search.proofs.ListedReplacingLemmas.{changes-made}
 use Rattle.rope_search.proofs.PartLaws.{cutting_scalars}
 use Rattle.rope_search.proofs.search.Search.with_matches_replaced.Goals as goal

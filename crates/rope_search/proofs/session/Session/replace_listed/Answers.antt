@@ -1,10 +1,10 @@
-use Rattle.std.proofs.Common.{◌≡◌, ◌<◌, ◌⊎◌, inl, inr, IsUtf8, length, refl, sym, ap, subst, ◌∙◌, arith}
+use Rattle.std.proofs.Common.{◌<◌, inl, inr, length, refl, sym, ap, subst, ◌∙◌, arith}
 use Rattle.std.specs.Str.{chars}
 use Rattle.rope_search_reports.specs.Text.{IsText}
-use Rattle.rope_search.specs.ListedReplacing.{GetsTooLongListed, IsListedReplacement, KeepsListed, RowsOfListed, SpansListed}
+use Rattle.rope_search.specs.ListedReplacing.{RowsOfListed}
 use Rattle.rope_search.specs.Session.{limit_in}
 use Rattle.rope_search.proofs.HoldLemmas.{AllKept, kept_holds, kept_limit, kept_set}
-use Rattle.rope_search.proofs.ListedSessions.{holds-listed, listed-broken, listed-step, pattern-there, rows-there, tells-listed, texts-listed}
+use Rattle.rope_search.proofs.ListedSessions.{holds-listed, listed-broken, listed-step, pattern-there, rows-there, session-err, tells-listed, texts-listed}
 use Rattle.rope_search.proofs.SessionLemmas.{Chosen}
 use Rattle.rope_search.proofs.TextLemmas.{Encodes-chars}
 use Rattle.rope_search.proofs.session.Session.replace_listed.Goals as goal
@@ -26,7 +26,7 @@ invariant_of-self c =
 
 pub returns-in_default-clause-step : goal.returns-in_default-clause-step
 returns-in_default-clause-step c =
-    listed-broken c.args.self.now.limit c.args.self.now.state c.buffer.result.now.state c.args.from_line c.args.to_line c.args.template.now c.nothing_or.result (sym c.buffer.ensures.state) ? c.nothing_or.ensures
+    listed-broken c.args.self.now.limit c.args.self.now.state c.buffer.result.now.state c.args.from_line c.args.to_line c.args.template.now c.nothing_or.result (sym c.buffer.ensures.state) c.in_default.ensures.cases.0 c.nothing_or.ensures
 
 pub returns-clause-step : goal.returns-clause-step
 returns-clause-step c =
@@ -64,7 +64,13 @@ returns-clause-texts c =
     c.replace_listed.result refl refl refl told.kept told.text_changes)
 
 pub returns-clause-err : goal.returns-clause-err
-returns-clause-err c = ?
+returns-clause-err c =
+    let inside = c.self.inside in
+    let old = c.index_mut.result.now in
+    let limit = limit_in inside.buffers.items inside.chosen in
+    let chosen : Chosen inside.buffers.items inside.chosen limit old c.args.self.now =
+    record { inside = omega (arith, inside.buffers.ok.0); is = c.index_mut.ensures.value; all = c.self.invariant.1.0; seen = c.self.view_is } in
+    session-err inside.buffers.items inside.chosen old c.replace_listed.new.self c.args.self.now chosen c.replace_listed.result c.replace_listed.ensures.err
 
 pub returns-clause-rows : goal.returns-clause-rows
 returns-clause-rows c = λ n rows.

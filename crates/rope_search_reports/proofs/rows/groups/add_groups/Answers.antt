@@ -1,11 +1,10 @@
-use Rattle.std.proofs.Common.{◌≡◌, ℕ, [], ◌∷◌, ◌++◌, List, IsUtf8, length, map, refl, ap, sym, subst, ◌∙◌, arith}
+use Rattle.std.proofs.Common.{◌≡◌, ℕ, [], ◌∷◌, ◌++◌, List, IsUtf8, length, refl, ap, sym, subst, ◌∙◌, arith}
 use Rattle.ropey.specs.Slices.{slice_bytes, slice_pieces, slice_text}
 use Rattle.regex_cursor.specs.Regexes.{IsRegexOf}
 use Rattle.regex_cursor.proofs.TreeLaws.{finds_of_trees, regexes_have_trees}
 use Rattle.regex_cursor.specs.NextMatches.{TreeFindsNext}
 use Rattle.rope_search_reports.specs.Finders.{FinderTells}
 use Rattle.rope_search_reports.specs.LineGroups.{moved}
-use Rattle.rope_search_reports.specs.Matches.{groups_of}
 use Rattle.rope_search_reports.specs.Replacement.{HasSpansIn}
 use Rattle.rope_search_reports.proofs.AmongLemmas.{next-spans}
 use Rattle.rope_search_reports.proofs.ListedLemmas.{added-all, added-more, added-none}

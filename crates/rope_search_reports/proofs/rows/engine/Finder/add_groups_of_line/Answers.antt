@@ -1,4 +1,4 @@
-use Rattle.std.proofs.Common.{◌≡◌, ◌++◌, ℕ, List, sym, subst, ◌∙◌, arith, ap}
+use Rattle.std.proofs.Common.{◌++◌, ℕ, List, sym, subst, ◌∙◌, arith, ap}
 use Rattle.std.specs.Prelude.{OnOk}
 use Rattle.std.proofs.lemmas.Result.{on_ok_weaker}
 use Rattle.ropey.specs.Chunks.{text_of}
