@@ -6,6 +6,8 @@ import random
 import re
 import shutil
 import statistics
+import sys
+import time
 
 from processes import (
     OURS,
@@ -266,6 +268,47 @@ def build_patterns(patterns, folder, tiny):
         yield of, "time", nanos([run[0] for run in runs]), unit_of(is_right)
         if tells_peak():
             yield of, "memory", f"{peak_of([PROGRAM], session) - bare}", "kB"
+
+
+def whole_texts(folder, tiny):
+    """Calls that change many places of a text at once, by bindings/python, and the ranges that they changed."""
+    sys.path.insert(0, os.path.join(TOP, "bindings", "python"))
+    import rope_search
+
+    lines, edits = (4_000, 500) if tiny else (400_000, 50_000)
+
+    def taking(session, call, due, is_undone=True):
+        """The nanoseconds of a call, which is undone before it is timed again, and whether it answers as is due."""
+        times, is_right = [], True
+        for _ in range(RUNS):
+            start = time.perf_counter_ns()
+            is_right &= call() == due
+            times.append(time.perf_counter_ns() - start)
+            if is_undone:
+                session.undo()
+        return nanos(times), unit_of(is_right)
+
+    with rope_search.Session() as session:
+        session.set_text(marked(lines, 4))
+        for pattern, template in (("marker", "bookmarks"), ("(mark)(er)", "$2$1$$")):
+            session.set_pattern(pattern)
+            due, of = session.count_matches(), by_template(pattern, template)
+            yield of, "`replace`", *taking(session, lambda: session.replace(template), due)
+            yield of, "`replace_listed` of all lines", *taking(session, lambda: session.replace_listed(0, lines, template), due)
+            yield of, "matches", f"{due}", ""
+        session.replace(template)
+        out, calls = (rope_search._TextChange * due)(), rope_search.library()
+        ranges = lambda: calls.rope_search_text_changes(session._handle, out, due)
+        yield f"`text_changes` of {due:,} matches", "in C", *taking(session, ranges, due, False)
+
+    with rope_search.Session() as session:
+        session.set_text(b"let x = 1; // ok\n" * (edits + edits // 5))
+        made, texts = (rope_search._TextEdit * edits)(), b"ab" * edits
+        for line, edit in enumerate(made):
+            at = rope_search._Position(line, 4)
+            edit.start, edit.stop, edit.len = at, at, 2
+        all_of_them = lambda: calls.rope_search_edit_all(session._handle, made, edits, texts, len(texts))
+        yield f"`edit_all` of {edits:,} edits, in {session.text_len / 1e6:.1f} MB", "in C", *taking(session, all_of_them, 0)
 
 
 def count_instructions(folder, tiny):

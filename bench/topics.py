@@ -177,6 +177,13 @@ TOPICS = {
         left_out=": matches",
         in_the_way="with groups the PikeVM reads each match once more",
     ),
+    "places": Topic(
+        "calls that change many places of a text at once: in 400,000 lines `replace_listed` of all lines beside `replace`, "
+        "and `text_changes` after it; `edit_all` of 50,000 edits, without a pattern",
+        [sessions.whole_texts],
+        left_out=": matches",
+        built=("bin/librope_search.so",),
+    ),
     "next": Topic(
         "`next` from the start of 13 MB to the only match, in the last line, a byte",
         [sessions.reach_last],

@@ -43,7 +43,9 @@
  * - replace searches the whole text once, and takes time linear in the matches and in what comes in
  *   their place; next searches up to the match that it finds; groups_at searches one line.
  *   replace_match takes the time of edit and, with a group in what takes the match's place, that of
- *   groups_at.
+ *   groups_at. replace_listed takes time linear in the rows from `from` up to `to`, in their matches
+ *   and in what comes in their place, and O(log n) for each row with a match; with a group also that
+ *   of a search of each line with a match; with many matches it is linear in the text.
  * - count_matches, copy_matches and copy_matches_in take time linear in the rows from `from` up to
  *   `to` and in their matches, and copy_matches_in O(log n) for each row with a match and each match.
  *   Where `from` is not below `to` there are no such rows.
@@ -279,6 +281,18 @@ uint32_t rope_search_replace_match(rope_search *session, size_t line, size_t num
                                    const uint8_t *by, size_t len);
 
 /*
+ * Replaces exactly the matches that the report lists in the lines `from` up to, not including, `to`,
+ * as one step of the history: those that `copy_matches` copies and `count_matches` counts for these
+ * rows. Lines past the last one have none. In what takes their place `$` and a digit are the text of
+ * that group, as the search of the match's line finds it, and `$$` is a dollar. `count` is written
+ * unless the session is closed: how many matches there were, or 0 if this is refused: NONE, UTF8,
+ * SIZE, MEMORY. Without a group other than 0 no line is searched again; else each line with a match
+ * is searched once more, and counted.
+ */
+uint32_t rope_search_replace_listed(rope_search *session, size_t from, size_t to, const uint8_t *by,
+                                    size_t len, size_t *count);
+
+/*
  * Adds a buffer with the chosen one's text, and neither its history nor its pattern. The chosen one
  * stays chosen. `number` is written unless the session is closed: the new one's number, or 0 where
  * this is refused: MEMORY.
@@ -436,7 +450,7 @@ bool rope_search_list_index(rope_search *session, size_t line, size_t number, si
 
 /*
  * Which rows of the report the last accepted command on the chosen buffer replaced, of those that
- * may: set_text, edit, edit_all, undo, redo, set_pattern, off and replace. An edit adds no more rows
+ * may: set_text, edit and its like, undo, redo, set_pattern, off, replace and its like. An edit adds no more rows
  * than what it inserts has lines; where there is no pattern there are none. What is painted is
  * right again once these rows are, and those behind them moved.
  */
@@ -444,8 +458,8 @@ rope_search_stretch rope_search_changed(rope_search *session);
 
 /*
  * Copies the ranges of bytes in which the last accepted call on the chosen buffer replaced its text
- * to the front of `out`, as many as fit, and returns the number of them: of set_text, edit, edit_all,
- * undo, redo and replace, also without a pattern. The old text with each range replaced by the new
+ * to the front of `out`, as many as fit, and returns the number of them: of set_text, edit, undo,
+ * redo, replace and their like, also without a pattern. The old text with each range replaced by the new
  * text's range is the new text. The ranges ascend; two may touch, and they are never merged. Apply
  * them to a copy of the old text from the last one back, each at its old start. An edit has one
  * range, a replacement one for each match, set_text one, and a new buffer none. Linear in their

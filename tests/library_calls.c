@@ -46,7 +46,10 @@ static void refusals(rope_search *s)
     IS(rope_search_next(s, at(0, 0), &match), ROPE_SEARCH_NONE);
     IS(match.found, false);
     IS(rope_search_replace(s, bytes("a"), 1, &count), ROPE_SEARCH_NONE);
+    IS(count, 0);
     IS(rope_search_replace_match(s, 0, 0, bytes("\377"), 1), ROPE_SEARCH_NONE);
+    count = 9;
+    IS(rope_search_replace_listed(s, 0, 1, bytes("\377"), 1, &count), ROPE_SEARCH_NONE);
     IS(count, 0);
     IS(rope_search_set_text(s, bytes("\xff"), 1), ROPE_SEARCH_UTF8);
     IS(rope_search_set_text(s, bytes("12345678901234567"), 17), ROPE_SEARCH_SIZE);
@@ -223,6 +226,7 @@ static void matches(rope_search *s)
 {
     rope_search_text_change change;
     uint8_t text[32];
+    size_t count = 9;
     IS(rope_search_set_text(s, bytes("ab abc\rab"), 9), ROPE_SEARCH_DONE);
     IS(rope_search_set_pattern(s, bytes("(a)(b)(c)?$"), 11), ROPE_SEARCH_DONE);
     IS(rope_search_replace_match(s, 0, 1, bytes("\377"), 1), ROPE_SEARCH_RANGE);
@@ -239,6 +243,19 @@ static void matches(rope_search *s)
     IS(rope_search_undo_steps(s), 2);
     IS(rope_search_undo(s), ROPE_SEARCH_DONE);
     IS(rope_search_undo(s), ROPE_SEARCH_DONE);
+    IS(rope_search_count_matches(s, 0, 2), 2);
+    IS(rope_search_replace_listed(s, 0, 2, bytes("\377"), 1, &count), ROPE_SEARCH_UTF8);
+    IS(count, 0);
+    IS(rope_search_replace_listed(s, 1, SIZE_MAX, bytes("$2$1"), 4, &count), ROPE_SEARCH_DONE);
+    IS(count, 1);
+    IS(rope_search_replace_listed(s, 1, 1, bytes("x"), 1, &count), ROPE_SEARCH_DONE);
+    IS(count, 0);
+    IS(rope_search_replace_listed(s, 0, 2, bytes("<$3>"), 4, &count), ROPE_SEARCH_DONE);
+    IS(count, 1);
+    IS(rope_search_copy_text(s, 0, 9, text, sizeof text), 1);
+    IS(memcmp(text, "ab <c>\rba", 9), 0);
+    for (count = 0; count < 3; count++)
+        IS(rope_search_undo(s), ROPE_SEARCH_DONE);
     IS(rope_search_count_matches(s, 0, 2), 2);
     IS(rope_search_off(s), ROPE_SEARCH_DONE);
 }

@@ -121,3 +121,24 @@ def wrong_ways(session, texts, pattern):
         if session.text != text or [(m.line, m.start, m.stop) for m in session.matches()] != spans_of(rows):
             return [f"a redo leads to {session.text!r}, not {text!r}, or to another report"]
     return []
+
+
+def wrong_many():
+    """What is wrong with edits of a long text, one in each of some lines: where they are few it is edited, else rebuilt."""
+    lines = [f"line {number} of\tthe text 🐸" for number in range(4_000)]
+    for count in (0, 1, 50, 70, 4_000):
+        chosen, new = random.Random(f"many edits {count}"), list(lines)
+        edits = [((line, 2), (line, chosen.randint(2, 8)), chosen.choice(("", "é", "x\ny"))) for line in sorted(chosen.sample(range(len(lines)), count))]
+        for (line, first), (_, last), text in edits:
+            new[line] = new[line][:first] + text + new[line][last:]
+        with rope_search.Session() as session:
+            session.set_text("\n".join(lines))
+            session.set_pattern("of|x")
+            session.edit_all(edits)
+            if session.text != "\n".join(new) or len(session.text_changes) != count:
+                yield f"{count} edits leave another text, or {len(session.text_changes)} ranges"
+            if [(m.line, m.start, m.stop) for m in session.matches()] != spans_of(rows_of("\n".join(new), "of|x")):
+                yield f"{count} edits leave another report"
+            session.undo()
+            if session.text != "\n".join(lines):
+                yield f"an undo of {count} edits leaves another text"

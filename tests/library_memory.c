@@ -53,7 +53,8 @@ static void see(rope_search *s, struct seen *seen)
 }
 
 enum kind {
-    SET_TEXT, EDIT, EDIT_ALL, EDIT_BYTES, UNDO, REDO, SET_PATTERN, OFF, NEXT, REPLACE, REPLACE_MATCH, FORK, CHOOSE, FORGET, KEEP,
+    SET_TEXT, EDIT, EDIT_ALL, EDIT_BYTES, UNDO, REDO, SET_PATTERN, OFF, NEXT, REPLACE, REPLACE_MATCH,
+    REPLACE_LISTED, FORK, CHOOSE, FORGET, KEEP,
     JOIN, GROUPS_AT, PATTERN_ERROR
 };
 
@@ -93,6 +94,7 @@ static uint32_t carry_out(rope_search *s, const struct call *call)
     case NEXT: return rope_search_next(s, from, &match);
     case REPLACE: return rope_search_replace(s, text, len, &number);
     case REPLACE_MATCH: return rope_search_replace_match(s, call->line, call->column, text, len);
+    case REPLACE_LISTED: return rope_search_replace_listed(s, call->line, call->to_line, text, len, &number);
     case FORK: return rope_search_fork(s, &number);
     case FORGET: return rope_search_forget(s);
     case KEEP: return rope_search_keep(s, call->line);
@@ -118,7 +120,8 @@ static const struct call calls[] = {
     CALL(UNDO), CALL(REDO), AT(JOIN, 2, 0), CALL(UNDO), CALL(REDO), TEXT(REPLACE, "<$1\n$0>"), CALL(UNDO), AT(KEEP, 5, 0), CALL(FORK),
     AT(CHOOSE, 1, 0), TEXT(EDIT, "a letter"), TEXT(SET_PATTERN, "\\be"), CALL(UNDO), CALL(OFF),
     CALL(REDO), AT(CHOOSE, 0, 0), TEXT(EDIT, "one\n"), {REPLACE_MATCH, 1, 0, 0, 0, "<$1\n$0>"}, CALL(UNDO),
-    {REPLACE_MATCH, 1, 0, 0, 0, "two"}, AT(KEEP, 1, 0), AT(GROUPS_AT, 0, 0), CALL(FORGET),
+    {REPLACE_MATCH, 1, 0, 0, 0, "two"}, {REPLACE_LISTED, 0, 0, 2, 0, "<$1\n$0>"}, CALL(UNDO),
+    {REPLACE_LISTED, 1, 0, 9, 0, "two"}, AT(KEEP, 1, 0), AT(GROUPS_AT, 0, 0), CALL(FORGET),
 };
 
 static int may_ask(enum kind kind)

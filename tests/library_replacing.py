@@ -1,5 +1,5 @@
-"""Single matches of a report replaced by the library, beside the model: the text, the report, the range and the rows after
-each, why one is refused, and the way back."""
+"""Matches of a report replaced by the library, one alone or all of some lines, beside the model: the text, the report, the
+ranges and the rows after each, why it is refused, and the way back."""
 import random
 
 from library import rope_search
@@ -91,6 +91,79 @@ def wrong_replacements(seed):
             wrong, new = wrong_replacement(session, texts[-1], pattern, line, number, template)
             if wrong:
                 return [f"{pattern!r} in {texts[-1]!r}, match {number} of line {line} by {template}: {one}" for one in wrong]
+            texts += [new] if session.undo_steps == len(texts) else []
+        for text in reversed(texts[:-1]):
+            session.undo()
+            if session.text != text:
+                return [f"an undo leads to {session.text!r}, not {text!r}"]
+    return []
+
+
+# ---- all matches of some lines
+
+def listed_places(text, pattern, first, last):
+    """The listed matches of some lines, a list for each: where each starts and ends, and the texts of its groups."""
+    rows = rows_of(text, pattern)
+    return [[places_of_match(text, line, pattern, number) for number in range(len(rows[line]))]
+            for line in range(first, min(last, len(rows)))]
+
+
+def replaced_listed(text, pattern, first, last, template):
+    """The text with the matches of some lines replaced, their ranges, and how many rows may be made; or why it is refused."""
+    if pattern is None:
+        return rope_search.Nothing
+    if not is_utf8(template):
+        return rope_search.Utf8
+    lists, data, new, at, ranges = listed_places(text, pattern, first, last), text.encode(), b"", 0, []
+    named = any(f"${number}" in template.decode().replace("$$", "") for number in range(1, 10))
+    most = sum(1 for places in lists if places) if named else 0
+    for start, end, texts in (place for places in lists for place in places):
+        by = expanded(template.decode(), texts)
+        new += data[at:start]
+        ranges.append((start, end, len(new), len(new) + len(by.encode())))
+        new, at, most = new + by.encode(), end, most + len(lines_of(by))
+    new += data[at:]
+    return rope_search.Size if len(new) > LIMIT else (new.decode(), ranges, most)
+
+
+def wrong_listed_replacement(session, text, pattern, first, last, template):
+    """What is wrong with the matches of some lines that are replaced; and the text that is left."""
+    due, counted, told = replaced_listed(text, pattern, first, last, template), session.counted, session.text_changes
+    count = session.count_matches(first, last)
+    got = answered(session.replace_listed, first, last, template)
+    if isinstance(due, type):
+        most = 0 if due is not rope_search.Size else session.rows
+        if got is not due or session.text != text or session.text_changes != told or session.counted.rows > counted.rows + most:
+            return [f"it is answered {got}, not {due}, and leaves {session.text!r}"], text
+        return [], text
+    new, ranges, most = due
+    if got != len(ranges) or got != count or session.text != new:
+        return [f"it is answered {got}, not {len(ranges)} or {count}, and leaves {session.text!r}, not {new!r}"], text
+    wrong = [f"more than {most} rows are made"] if session.counted.rows > counted.rows + most else []
+    wrong += ["a whole text is searched"] if session.counted.wholes != counted.wholes else []
+    report = [(row, *match) for row, matches in enumerate(rows_of(new, pattern)) for match in matches]
+    wrong += [] if [tuple(span) for span in session.matches()] == report else ["the report is another"]
+    return wrong + list(wrong_ranges(text.encode(), new.encode(), [tuple(change) for change in session.text_changes], ranges)), new
+
+
+def wrong_listed_replacements(seed):
+    """What is wrong with the matches of some lines that are replaced, again and again, and with the way back."""
+    chosen = random.Random(f"replace listed {seed}")
+    text = some_text(chosen, 14)
+    pattern = chosen.choice(PATTERNS) if chosen.random() < 0.5 else spelled(Maker(chosen, most_nodes=20).tree())
+    pattern = None if chosen.random() < 0.03 else pattern
+    with rope_search.Session(LIMIT) as session:
+        session.set_text(text)
+        if pattern is not None:
+            session.set_pattern(pattern)
+        texts = [text]
+        for _ in range(5):
+            lines = len(lines_of(texts[-1]))
+            first, last = chosen.choice((0, 0, 1, lines - 1, LAST)), chosen.choice((0, 1, 2, lines, lines, LAST))
+            template = b"\xff" if chosen.random() < 0.04 else chosen.choice(TEMPLATES).encode()
+            wrong, new = wrong_listed_replacement(session, texts[-1], pattern, first, last, template)
+            if wrong:
+                return [f"{pattern!r} in {texts[-1]!r}, lines {first} to {last} by {template}: {one}" for one in wrong]
             texts += [new] if session.undo_steps == len(texts) else []
         for text in reversed(texts[:-1]):
             session.undo()

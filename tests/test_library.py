@@ -14,11 +14,11 @@ import sys
 from harness import LIBRARY, LIBRARY_FOLDER, PROGRAM, ROOM, SECONDS, SONAME, TOP, VERSION, example_rows, short, test
 from library import replies, reply, rope_search
 from library_changes import wrong_changes
-from library_edits import wrong_with
+from library_edits import wrong_many, wrong_with
 from library_groups import wrong_groups
 from library_lines import wrong_edits, wrong_long, wrong_numbers, wrong_small
 from library_listed import wrong_listed
-from library_replacing import wrong_replacements
+from library_replacing import wrong_listed_replacements, wrong_replacements
 from library_text_changes import small_changes, small_joins, wrong_after_edits, wrong_text_changes
 from protocol import Session, lines_of, place_of, position_at, positions_of, read_commands, spelled, units
 from random_patterns import Maker
@@ -328,6 +328,7 @@ def test_edits():
     for front in range(0, EDITED, EDITED // 4):
         wrong = [one for seed in range(front, front + EDITED // 4) for one in wrong_with(seed)]
         test(f"several edits as one, {EDITED // 4} texts at random from {front} on, beside the model", wrong)
+    test("few edits and many of a long text as one", list(wrong_many()))
 
 
 def test_groups():
@@ -345,6 +346,8 @@ def test_lines():
 def test_replacing():
     wrong = [one for seed in range(GROUPED) for one in wrong_replacements(seed)]
     test(f"single matches replaced, in {GROUPED} texts at random, beside the model", wrong)
+    wrong = [one for seed in range(GROUPED) for one in wrong_listed_replacements(seed)]
+    test(f"the matches of some lines replaced, in {GROUPED} texts at random, beside the model", wrong)
 
 
 def test_listed():
@@ -381,7 +384,7 @@ def test_closed():
         "column_in": (8, origin, ctypes.c_size_t(7)), "position_in": (8, 0, 0, rope_search._Position()),
         "forget": (), "keep": (1,), "join": (1,), "byte_of": (origin, ctypes.c_size_t(7)), "position_of": (0, rope_search._Position()),
         "groups_at": (0, 0, (rope_search._Group * 10)(), 10), "edit_bytes": (0, 0, b"a", 1),
-        "replace_match": (0, 0, b"a", 1),
+        "replace_match": (0, 0, b"a", 1), "replace_listed": (0, 9, b"a", 1, ctypes.c_size_t(7)),
         "clamp": (8, 0, 0, rope_search._Position(7, 7)), "line_len": (0, 8, ctypes.c_size_t(7)),
     }
     read_only = {
@@ -409,11 +412,11 @@ def test_closed():
     counts = calls.rope_search_counted(handle)
     if (counts.rows, counts.wholes, handle.is_open) != (0, 0, False):
         wrong.append("counted, or the handle, is something")
-    kept = [refused[name][-1].value for name in ("replace", "fork", "byte_of", "column_in", "line_len")]
+    kept = [refused[name][-1].value for name in ("replace", "replace_listed", "fork", "byte_of", "column_in", "line_len")]
     kept.append(refused["clamp"][-1].line)
     kept += [read_only[name][1].line for name in ("listed_from", "listed_before")]
     kept += [count.value for count in read_only["list_index"][2:]]
-    if kept != [7] * 10 or not refused["next"][1].found:
+    if kept != [7] * 11 or not refused["next"][1].found:
         wrong.append(f"a call of a closed session writes: {kept}, {refused['next'][1].found}")
     if any(group.found for group in refused["groups_at"][2]):
         wrong.append("groups of a closed session are told")

@@ -43,6 +43,7 @@ uint32_t rope_search_off(rope_search *);
 uint32_t rope_search_next(rope_search *, rope_search_position, rope_search_match *);
 uint32_t rope_search_replace(rope_search *, const uint8_t *, size_t, size_t *);
 uint32_t rope_search_replace_match(rope_search *, size_t, size_t, const uint8_t *, size_t);
+uint32_t rope_search_replace_listed(rope_search *, size_t, size_t, const uint8_t *, size_t, size_t *);
 uint32_t rope_search_fork(rope_search *, size_t *);
 uint32_t rope_search_choose(rope_search *, uint64_t);
 uint32_t rope_search_forget(rope_search *);
@@ -242,6 +243,14 @@ end
 -- that the search of the line finds: "range" where no such match is listed.
 function Session:replace_match(line, number, template)
   return told(calls.rope_search_replace_match(self.handle, line, number, template, #template))
+end
+
+-- Replaces the matches that the report lists in the lines `from` up to, not including, `to`, with the
+-- groups that the search of each line finds, and returns their number.
+function Session:replace_listed(from, to, template)
+  local count = ffi.new("size_t[1]")
+  local status = calls.rope_search_replace_listed(self.handle, from, to, template, #template, count)
+  return told(status, tonumber(count[0]))
 end
 
 -- Adds a buffer with this text alone, and tells its number.

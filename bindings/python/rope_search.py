@@ -220,6 +220,7 @@ _CALLS = {
     "next": (_STATUS, _HANDLE, _Position, ctypes.POINTER(_Match)),
     "replace": (_STATUS, _HANDLE, _BYTES, _SIZE, ctypes.POINTER(_SIZE)),
     "replace_match": (_STATUS, _HANDLE, _SIZE, _SIZE, _BYTES, _SIZE),
+    "replace_listed": (_STATUS, _HANDLE, _SIZE, _SIZE, _BYTES, _SIZE, ctypes.POINTER(_SIZE)),
     "fork": (_STATUS, _HANDLE, ctypes.POINTER(_SIZE)),
     "choose": (_STATUS, _HANDLE, ctypes.c_uint64),
     "forget": (_STATUS, _HANDLE),
@@ -397,6 +398,13 @@ class Session:
         line finds. Refused: Nothing, Range, where no such match is listed; Utf8, Size, Memory."""
         template = _bytes_of(template)
         _check(self._calls.rope_search_replace_match(self._handle, line, number, template, len(template)))
+
+    def replace_listed(self, first: int, last: int, template: Text) -> int:
+        """Replaces the matches that the report lists in the lines `first` up to, not including, `last`, with the groups that
+        the search of each line finds, and returns their number. Refused: Nothing, Utf8, Size, Memory."""
+        template, count = _bytes_of(template), ctypes.c_size_t()
+        _check(self._calls.rope_search_replace_listed(self._handle, first, last, template, len(template), count))
+        return count.value
 
     def fork(self) -> int:
         """Adds a buffer with this text alone, and tells its number. Refused: Memory."""

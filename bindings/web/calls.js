@@ -52,6 +52,7 @@ export const CALLS = {
   keep: ["size", status()],
   join: ["size", status()],
   replace_match: ["size size text", status()],
+  replace_listed: ["size size text", status("size")],
   buffers: ["", value("size")],
   chosen: ["", value("size")],
   can_undo: ["", value("bool")],

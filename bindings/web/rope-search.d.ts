@@ -182,6 +182,11 @@ export class Session {
   replace(template: Text): number;
   /** Replaces the match of a number in a line's row. Refused: Nothing, Range, Utf8, Size, Memory. */
   replaceMatch(line: number, number: number, template: Text): void;
+  /**
+   * Replaces the matches that the report lists in the lines `from` up to, not including, `to`, and returns their
+   * number. Refused: Nothing, Utf8, Size, Memory.
+   */
+  replaceListed(from: number, to: number, template: Text): number;
   /** Adds a buffer with the chosen one's text, and returns its number. Refused: Memory. */
   fork(): number;
   /** Chooses a buffer. Refused: Nothing. */

@@ -1,9 +1,9 @@
 //! Calls of the library as data, and what they answer.
 use std::fmt;
 
-/// The calls of include/rope_search.h, but for `join` and `replace_match`, and for `changed` and
-/// `counted`, which are asked after each command. The comments name their numbers; a call's `bytes`
-/// are its text.
+/// The calls of include/rope_search.h, but for `join`, `replace_match` and `replace_listed`, and for
+/// `changed` and `counted`, which are asked after each command. The comments name their numbers; a
+/// call's `bytes` are its text.
 #[derive(Debug, Clone, Copy, PartialEq, Eq)]
 pub enum Kind {
     /// The limit.

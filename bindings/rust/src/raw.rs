@@ -96,6 +96,14 @@ extern "C" {
         by: *const u8,
         len: usize,
     ) -> u32;
+    fn rope_search_replace_listed(
+        session: *mut RawSession,
+        from: usize,
+        to: usize,
+        by: *const u8,
+        len: usize,
+        count: *mut usize,
+    ) -> u32;
     fn rope_search_fork(session: *mut RawSession, number: *mut usize) -> u32;
     fn rope_search_choose(session: *mut RawSession, number: u64) -> u32;
     fn rope_search_forget(session: *mut RawSession) -> u32;
@@ -305,6 +313,12 @@ impl Handle {
     pub fn replace_match(&mut self, line: usize, number: usize, template: &[u8]) -> Result<()> {
         let (by, len) = (template.as_ptr(), template.len());
         check(unsafe { rope_search_replace_match(self.ptr(), line, number, by, len) })
+    }
+
+    pub fn replace_listed(&mut self, from: usize, to: usize, template: &[u8]) -> Result<usize> {
+        let (by, len, mut count) = (template.as_ptr(), template.len(), 0);
+        check(unsafe { rope_search_replace_listed(self.ptr(), from, to, by, len, &mut count) })?;
+        Ok(count)
     }
 
     pub fn fork(&mut self) -> Result<usize> {

@@ -252,6 +252,35 @@ impl Session {
         self.handle.replace_match(line, number, template.as_ref())
     }
 
+    /// Replaces exactly the matches that the report lists in a range of lines, as one step of the history, and
+    /// returns their number: those of [`Session::matches`] for these rows.
+    ///
+    /// In the template, `$` and a digit are that group's text, as the search of the match's line finds it; `$$`
+    /// is a dollar. Without a group other than 0, no line is searched again.
+    ///
+    /// # Errors
+    ///
+    /// [`Error::Nothing`] without a pattern; [`Error::Utf8`], [`Error::Size`], [`Error::Memory`].
+    ///
+    /// ```
+    /// use rope_search::{Error, Session};
+    ///
+    /// let mut session = Session::new()?;
+    /// session.set_text("a-b c-d\re-f\ng-h")?;
+    /// session.set_pattern("(.)-(.)$")?;
+    /// assert_eq!(session.replace_listed(0..2, "$2-$1")?, 2);
+    /// assert_eq!(session.text(..)?, "a-b d-c\rf-e\ng-h");
+    /// # Ok::<(), Error>(())
+    /// ```
+    pub fn replace_listed(
+        &mut self,
+        rows: impl RangeBounds<usize>,
+        template: impl AsRef<[u8]>,
+    ) -> Result<usize> {
+        let (from, to) = rows_of(&rows);
+        self.handle.replace_listed(from, to, template.as_ref())
+    }
+
     /// Adds a buffer with the chosen buffer's text, and neither its history nor its pattern, and returns its
     /// number. The chosen buffer stays chosen.
     ///

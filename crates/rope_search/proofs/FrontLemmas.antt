@@ -155,3 +155,20 @@ pub is-column : (text front back : List ℕ) (column : ℕ) → text ≡ front +
 is-column text front back column parts is =
     ap (λ t. units (front_to column t)) parts ∙ ap (λ n. units (front_to n (front ++ back))) is
     ∙ ap units (front_to-front front back) ∙ sym is
+
+-- if each character of a text takes one byte, its columns are offsets
+pub narrow-column : (text : List ℕ) (column : ℕ) → units text ≡ byte_len text → IsColumnOf text column → column ≡ byte_len (front_to column text)
+narrow-column text column narrow is =
+    let split = front_to-parts column text in
+    let front = front_to column text in
+    omega (
+      arith,
+      narrow,
+      is,
+      places.few_units front,
+      places.few_units split.0,
+      ap units split.1,
+      ap byte_len split.1,
+      sum_by-append units_of front split.0,
+      byte_len-append front split.0,
+    )

@@ -58,3 +58,5 @@ pub mod JoinedSessions
 pub mod PlacedLemmas
 pub mod MatchEditLemmas
 pub mod MatchAnswerLemmas
+pub mod ListedReplacingLemmas
+pub mod ListedSessions

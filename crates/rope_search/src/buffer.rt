@@ -24,6 +24,8 @@ ghost use Rattle.rope_search.specs.UndoSteps.{changes_with_steps, redo_count, un
 ghost use Rattle.rope_search.specs.JoinedSteps.{JoinsChanges, with_joined};
 ghost use Rattle.rope_search.specs.Edits.{AcceptsEdits, AreEdits, IsFirstAgainst, KeepsEdits, RefusesEdits, SpansEdits, in_full, rows_of_edits};
 
+mod listed_edits;
+
 use crate::edits::{Edit, edited};
 use crate::history::History;
 use crate::limits::Limits;

@@ -16,6 +16,7 @@ pub mod laws;
 mod limits;
 mod line_columns;
 mod listed;
+mod listed_matches;
 mod listings;
 mod match_edits;
 mod parts;

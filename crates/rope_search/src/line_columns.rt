@@ -47,12 +47,13 @@ pub(crate) fn chars_up_to(line: &RopeSlice<'_>, encoding: Encoding, column: usiz
 ///
 /// # Complexity
 ///
-/// `O(log n)`
+/// `O(log n)`; `O(1)` for bytes if each character of the line takes one.
 pub fn column_for(line: &RopeSlice<'_>, encoding: Encoding, column: usize) -> usize
     requires { IsColumnOf (slice_text line.now) column }
     ensures { result ≡ column_as encoding (slice_text line.now) column }
 {
     match encoding {
+        Encoding::Utf8 if line.len_utf16_cu() == line.len_bytes() => column,
         Encoding::Utf8 => line.char_to_byte(line.utf16_cu_to_char(column)),
         Encoding::Utf16 => column,
         Encoding::Utf32 => line.utf16_cu_to_char(column),

@@ -14,6 +14,7 @@ mod line_calls;
 mod lines;
 mod listed;
 mod listed_calls;
+mod listed_edits;
 mod look_ups;
 mod match_edits;
 mod matches;
@@ -39,6 +40,7 @@ pub use listed::Listed;
 pub use listed_calls::{
     rope_search_list_index, rope_search_listed_before, rope_search_listed_from,
 };
+pub use listed_edits::rope_search_replace_listed;
 pub use look_ups::{
     Counted, rope_search_buffers, rope_search_byte_of, rope_search_can_redo, rope_search_can_undo,
     rope_search_changed, rope_search_chosen, rope_search_column_in, rope_search_copy_matches,

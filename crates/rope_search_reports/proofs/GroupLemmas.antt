@@ -120,7 +120,7 @@ spans-alone tree content ms has utf8 are =
 -- ---- what takes their places is a text
 
 -- both places of a group are boundaries, whichever of them is the first
-abbrev StandsIn : List ℕ → Option (ℕ × ℕ) → Type 0
+abbrev pub StandsIn : List ℕ → Option (ℕ × ℕ) → Type 0
 StandsIn content group = IfSome group (λ span. IsCharBoundary content span.0 × IsCharBoundary content span.1)
 
 stands-in : (content : List ℕ) (t : FoundMatch) (k : ℕ) → StandsAtBoundaries content t → StandsIn content (group_of t k)
@@ -131,7 +131,7 @@ stands-in content t k stands = by (slot_of t.notes (2 * k)) (slot_of t.notes (2 
     by (Some start) None starts stops = tt
     by (Some start) (Some end) starts stops = (stands.slots (2 * k) start starts, stands.slots (2 * k + 1) end stops)
 
-groups-stand : (content : List ℕ) (t : FoundMatch) → StandsAtBoundaries content t → All (StandsIn content) (groups_of t)
+pub groups-stand : (content : List ℕ) (t : FoundMatch) → StandsAtBoundaries content t → All (StandsIn content) (groups_of t)
 groups-stand content t stands =
     All-cons (StandsIn content) (Some (span_of t)) (map (group_of t) (range_with_len 1 9)) (stands.start, stands.end)
     (All-map (StandsIn content) (group_of t) (range_with_len 1 9) (λ i d inside. stands-in content t (slice_index_or (range_with_len 1 9) i d) stands))
@@ -175,7 +175,7 @@ expand-text content groups (c ∷ d ∷ rest) utf8 stand is =
     later
     (either-text ((c == 36) && is_digit d) (group_text content groups number ++ expand content groups rest) (c ∷ expand content groups (d ∷ rest)) grouped itself)
 
-replaced-text : (content template : List ℕ) (at : ℕ) (matches : List Groups) → IsUtf8 content → IsText template → IsCharBoundary content at → FollowEachOther content at matches
+pub replaced-text : (content template : List ℕ) (at : ℕ) (matches : List Groups) → IsUtf8 content → IsText template → IsCharBoundary content at → FollowEachOther content at matches
     → All (λ groups. All (StandsIn content) groups) matches → IsText (replaced content template at matches)
 replaced-text content template at [] utf8 is here follow stand = scalars-chars (drop at content) (IsUtf8-drop content at utf8 here)
 replaced-text content template at (match ∷ matches) utf8 is here follow stand =

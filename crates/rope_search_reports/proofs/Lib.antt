@@ -40,3 +40,4 @@ mod AcrossLemmas
 mod KeptLemmas
 mod BackLemmas
 mod FurtherLemmas
+mod ListedLemmas

@@ -2,7 +2,7 @@
 //! contract is the law.
 
 ghost use Rattle.rope_search_reports.specs.Laws.{IsPatternOrNot, IsOneOfThree, FindsOne, HasFind, FindsAreInText, HasOneListOfMatches, HasMatches, HasOneListOfGroups, HasGroups, MatchesAreFew, GroupsFollowEachOther, ReplacedIsText, HasFewMatches, HasOneReport, HasReport, HasARowALine, PlacesAreInLines, HasOnePlace, MatchesStandAtBoundaries, HasLinesInPlace};
-ghost use Rattle.rope_search_reports.specs.LineGroups.{GroupsAreOfRows};
+ghost use Rattle.rope_search_reports.specs.LineGroups.{GroupsAreOfRows, LineMatchesFollow, LineReplacedIsText};
 ghost use Rattle.rope_search_reports.specs.Splice.{EditsSpliceLines, KeepsRows};
 ghost use Rattle.rope_search_reports.specs.Changes.{ChangesKeepLines, TailsKeepLines};
 ghost use Rattle.rope_search_reports.specs.Replacement.{ReplacementsAreChanges};
@@ -69,6 +69,17 @@ pub fn groups_are_of_rows()
 /// In a text the matches follow each other, and each starts and ends at boundaries of the text.
 pub fn groups_follow_each_other()
     ensures { GroupsFollowEachOther }
+{}
+
+/// The matches of lines, each searched by itself, follow each other in the text, and each starts and
+/// ends at boundaries of the text.
+pub fn line_matches_follow()
+    ensures { LineMatchesFollow }
+{}
+
+/// A text in which the matches of lines, each searched by itself, are replaced is a text.
+pub fn line_replaced_is_text()
+    ensures { LineReplacedIsText }
 {}
 
 /// A text in which all matches are replaced is a text.

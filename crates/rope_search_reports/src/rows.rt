@@ -1,13 +1,13 @@
 //! Patterns made ready to search, what their searches find in a line or in a whole text, and the
 //! count of these searches.
-ghost use Rattle.std.specs.Prelude.{◌≡◌, ◌+◌, ◌-◌, ◌^◌, ◌<◌, ◌≤◌, ℕ, List, map, min, IfOk, IfErr};
+ghost use Rattle.std.specs.Prelude.{◌≡◌, ◌+◌, ◌-◌, ◌^◌, ◌<◌, ◌≤◌, ℕ, List, map, min, IfOk, IfErr, OnOk};
 ghost use Rattle.std.specs.Str.{IsCharBoundary};
 ghost use Rattle.ropey.specs.Chunks.{text_of};
 ghost use Rattle.ropey.specs.Slices.{slice_text};
 ghost use Rattle.rope_search_reports.specs.Text.{bytes_of, line_count};
 ghost use Rattle.rope_search_reports.specs.Pattern.{FindsSpan};
 ghost use Rattle.rope_search_reports.specs.Position.{line_text};
-ghost use Rattle.rope_search_reports.specs.LineGroups.{TellsGroups};
+ghost use Rattle.rope_search_reports.specs.LineGroups.{AddsGroupsOfLine, TellsGroups};
 ghost use Rattle.rope_search_reports.specs.Report.{IsRow};
 ghost use Rattle.rope_search_reports.specs.Matches.{AreGroups, IsMatches};
 ghost use Rattle.rope_search_reports.specs.Replacement.{AreMatchesIn, alone};
@@ -224,6 +224,42 @@ pub fn groups_at(
     // The text's facts, for the proof alone.
     let _ = text.len_bytes();
     finder.groups_at(tick, without_break(text.line(line_idx)), number)
+}
+
+/// Appends the groups 0 to 9 of all matches in a line of a text, as `search_line` finds them: of
+/// each the byte indices of the text where it starts and where it ends. Group 0 is the whole match;
+/// one that the pattern doesn't have, or that takes no part in the match, is `None`. That line
+/// alone is searched, once, and one row is counted, also after an error.
+///
+/// # Errors
+///
+/// `Fault::Memory`; the list may then have some of the matches, and the finder remains usable.
+///
+/// # Requires
+///
+/// `line_idx < len_lines()`
+///
+/// # Complexity
+///
+/// Linear in the line, times the pattern's weight, and `O(log n)`.
+pub fn add_groups_of_line(
+    tick: &mut Lines,
+    finder: &mut Finder,
+    text: &Rope,
+    line_idx: usize,
+    groups: &mut Vec<Groups>,
+) -> Result<(), Fault>
+    requires { line_idx < line_count (text_of text.now) }
+    ensures groups { OnOk result (AddsGroupsOfLine (text_of text.now) finder.old line_idx
+        groups.old.items groups.new.items) }
+    ensures fault { IfErr result (λ fault. fault ≡ Fault.Memory) }
+    ensures finder { finder.new ≡ finder.old }
+    ensures count { tick.new.count ≡ min (tick.old.count + 1) (2 ^ 64 - 1) }
+    ensures grows { tick.old.count ≤ tick.new.count }
+    ensures wholes { tick.new.wholes ≡ tick.old.wholes }
+    ensures looked { tick.new.looked ≡ tick.old.looked }
+{
+    finder.add_groups_of_line(tick, text, line_idx, groups)
 }
 
 /// Returns the first match in a whole text from a byte index on, as the byte indices of its start

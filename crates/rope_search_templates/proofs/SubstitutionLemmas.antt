@@ -232,3 +232,31 @@ module _ (content : List ℕ) (utf8 : IsUtf8 content) (one : Substitution) (ones
       let all = scalars-parts (edit.front ++ edit.gone) edit.back (sym (ap all_scalars edit.old_is) ∙ scalars) in
       let fronts = scalars-parts edit.front edit.gone all.0 in
       ap all_scalars edit.new_is ∙ scalars-joined (edit.front ++ text) edit.back (scalars-joined edit.front text fronts.0 own) all.1
+
+-- ---- in one pass, from the first to the last
+
+-- what was built, and what those that are left make of what is behind a place, are the whole text
+pub record IsBuiltUpTo (content : List ℕ) (at : ℕ) (ones : List Substitution) (built all : List ℕ) : Type 0 where
+  pub ahead : AreAhead content at ones
+  pub text_is : built ++ substituted content at ones ≡ all
+
+-- at the next of them
+pub built-next : (content : List ℕ) (at : ℕ) (given : List Given) (i : ℕ) (one : Given) (built all : List ℕ) → i < length given
+    → IsBuiltUpTo content at (drop i (map told given)) built all → IsBuiltUpTo content at (told (get_or given i one) ∷ drop (i + 1) (map told given)) built all
+built-next content at given i one built all inside is = subst (λ os. IsBuiltUpTo content at os built all) (given-next given i one inside) is
+
+-- behind the last
+pub built-last : (content : List ℕ) (at : ℕ) (given : List Given) (i : ℕ) (built all : List ℕ) → length given ≤ i
+    → IsBuiltUpTo content at (drop i (map told given)) built all → IsBuiltUpTo content at [] built all
+built-last content at given i built all none is =
+    subst (λ os. IsBuiltUpTo content at os built all) (drop_all i (map told given) (omega (arith, none, length-map given told))) is
+
+pub built-more : (content : List ℕ) (at : ℕ) (one : Substitution) (ones : List Substitution) (built all : List ℕ) → IsBuiltUpTo content at (one ∷ ones) built all
+    → IsBuiltUpTo content one.end ones ((built ++ between content at one.start) ++ one.text) all
+built-more content at one ones built all is = record {
+  ahead = ahead-behind content at one ones is.ahead;
+  text_is = regroup built (between content at one.start) one.text (substituted content one.end ones) ∙ is.text_is;
+}
+  where
+    regroup : (a b c d : List ℕ) → ((a ++ b) ++ c) ++ d ≡ a ++ ((b ++ c) ++ d)
+    regroup a b c d = simp append_assoc

@@ -16,9 +16,9 @@ use rope_search_io::Fault;
 use ropey::{Rope, RopeBuilder};
 use std::alloc::Global;
 
-/// A text is edited where it has so many bytes or more for each match, and else built anew. An edit
-/// costs about as much as building so much text.
-const BYTES_PER_EDIT: usize = 2048;
+/// A text is edited if it has at least this number of bytes for each part to replace, and else
+/// rebuilt. An edit costs about as much as building that much text.
+pub(crate) const BYTES_PER_EDIT: usize = 2048;
 
 /// A text whose matches are replaced.
 #[derive(Drop)]

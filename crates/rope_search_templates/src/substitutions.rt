@@ -5,10 +5,11 @@ ghost use Rattle.ropey.specs.Chunks.{text_of};
 ghost use Rattle.rope_search_changes.specs.Text.{bytes_of};
 ghost use Rattle.rope_search_templates.specs.Substitutions.{AreUtf8, SubstitutionsFollow, changes_by, substituted, told};
 
-use crate::replacing::Replacement;
+use crate::left::Left;
+use crate::replacing::{BYTES_PER_EDIT, Replacement};
 use rope_search_changes::Change;
 use rope_search_io::Fault;
-use ropey::Rope;
+use ropey::{Rope, RopeBuilder};
 use std::alloc::Global;
 
 /// A part of a text, and its replacement.
@@ -91,6 +92,60 @@ fn edited(text: &Rope, substitutions: &[Substitution<'_>]) -> Result<Rope, Fault
     Ok(new)
 }
 
+/// Returns the text with all substitutions, built from its start to its end.
+fn rebuilt(alloc: Global, text: &Rope, substitutions: &[Substitution<'_>]) -> Result<Rope, Fault>
+    requires follow { SubstitutionsFollow (bytes_of (text_of text.now)) 0
+        (map told substitutions.now) }
+    requires utf8 { AreUtf8 substitutions.now }
+    requires fits { byte_len (substituted (bytes_of (text_of text.now)) 0
+        (map told substitutions.now)) < 2 ^ 63 }
+    ensures text { IfOk result (λ new. text_of new ≡
+        substituted (bytes_of (text_of text.now)) 0 (map told substitutions.now)) }
+    ensures fault { IfErr result (λ fault. fault ≡ Fault.Memory) }
+{
+    // Needed by the proof only.
+    let _ = text.len_bytes();
+    let mut left = Left::of(text);
+    let mut builder = RopeBuilder::new(alloc);
+    // The end of the last part.
+    let mut at = 0;
+    for substitution in substitutions {
+        left.copy(substitution.start - at, &mut builder)?;
+        let Ok(()) = builder.append(substitution.text) else {
+            return Err(Fault::Memory);
+        };
+        left.skip(substitution.end - substitution.start);
+        at = substitution.end;
+    }
+    left.copy(text.len_bytes() - at, &mut builder)?;
+    match builder.finish() {
+        Ok(new) => Ok(new),
+        Err(_) => Err(Fault::Memory),
+    }
+}
+
+/// Returns the text with all substitutions: edited at each if they are few, else rebuilt in one
+/// pass.
+fn with_substitutions(
+    alloc: Global,
+    text: &Rope,
+    substitutions: &[Substitution<'_>],
+) -> Result<Rope, Fault>
+    requires follow { SubstitutionsFollow (bytes_of (text_of text.now)) 0
+        (map told substitutions.now) }
+    requires utf8 { AreUtf8 substitutions.now }
+    requires fits { byte_len (substituted (bytes_of (text_of text.now)) 0
+        (map told substitutions.now)) < 2 ^ 63 }
+    ensures text { IfOk result (λ new. text_of new ≡
+        substituted (bytes_of (text_of text.now)) 0 (map told substitutions.now)) }
+    ensures fault { IfErr result (λ fault. fault ≡ Fault.Memory) }
+{
+    if substitutions.len() <= text.len_bytes() / BYTES_PER_EDIT {
+        return edited(text, substitutions);
+    }
+    rebuilt(alloc, text, substitutions)
+}
+
 /// Returns a text with all substitutions, and the changes.
 ///
 /// # Requires
@@ -105,7 +160,8 @@ fn edited(text: &Rope, substitutions: &[Substitution<'_>]) -> Result<Rope, Fault
 ///
 /// # Complexity
 ///
-/// `O(log n)` for each substitution, plus the bytes of the replacements.
+/// `O(log n)` for each substitution, plus the bytes of the replacements; if there are more than one
+/// in 2,048 bytes of the text, linear in the text instead.
 pub fn substitute_all(
     alloc: Global,
     limit: usize,
@@ -127,6 +183,6 @@ pub fn substitute_all(
     ensures fault { IfErr result (λ fault. (fault ≡ Fault.Size) ⊎ (fault ≡ Fault.Memory)) }
 {
     let changes = changes_by(alloc, limit, text, substitutions)?;
-    let text = edited(text, substitutions)?;
+    let text = with_substitutions(alloc, text, substitutions)?;
     Ok(Replacement { text, changes })
 }

@@ -1,13 +1,14 @@
 //! A pattern that is ready to search, and what its searches tell: rows, matches, groups, and the
 //! lines in which no match can begin.
-ghost use Rattle.std.specs.Prelude.{◌≡◌, ◌+◌, ◌-◌, ◌^◌, ◌<◌, ◌≤◌, ◌⊎◌, ℕ, List, [], length, map, min, chars, IfOk, IfErr, IfSome, Err};
+ghost use Rattle.std.specs.Prelude.{◌≡◌, ◌+◌, ◌-◌, ◌^◌, ◌<◌, ◌≤◌, ◌⊎◌, ℕ, List, [], length, map, min, chars, IfOk, IfErr, IfSome, Err, OnOk};
 ghost use Rattle.std.specs.Str.{IsCharBoundary};
 ghost use Rattle.str_indices.specs.Text.{byte_len};
 ghost use Rattle.ropey.specs.Chunks.{text_of};
 ghost use Rattle.ropey.specs.Slices.{slice_bytes, slice_text};
 ghost use Rattle.rope_search_reports.specs.Text.{bytes_of, line_count};
 ghost use Rattle.rope_search_reports.specs.Pattern.{IsPattern, IsTooHeavy, SpellsNone, FindsSpan, pattern_limit};
-ghost use Rattle.rope_search_reports.specs.LineGroups.{TellsGroups};
+ghost use Rattle.rope_search_reports.specs.Position.{line_start, line_text};
+ghost use Rattle.rope_search_reports.specs.LineGroups.{AddsGroupsOfLine, TellsGroups};
 ghost use Rattle.rope_search_reports.specs.Report.{IsRow};
 ghost use Rattle.rope_search_reports.specs.Matches.{AreGroups, IsMatches};
 ghost use Rattle.rope_search_reports.specs.Replacement.{AreMatchesIn, alone};
@@ -16,11 +17,12 @@ ghost use Rattle.rope_search_reports.specs.Drafts.{HaveNoMatches, FindsNoneBetwe
 
 use super::Lines;
 use super::counted::{BuildError, CountedRegex, RopeyCursor};
-use super::groups::groups_of_match;
+use super::groups::{add_groups, groups_of_match};
 use super::matches::Found;
 use super::searching::{all_groups, all_spans, columns_in_line};
 use crate::columns::groups_by_columns;
 use crate::line::Line;
+use crate::line_texts::line_text;
 use crate::pattern_text::PatternText;
 use crate::walk::Walk;
 use rope_search_changes::Groups;
@@ -303,6 +305,34 @@ impl Finder {
             None => Ok(None),
             Some(groups) => Ok(Some(groups_by_columns(&line, &groups))),
         }
+    }
+
+    /// Appends the groups of all matches in a line of a text, by offsets of the text. One row is
+    /// counted, also after an error.
+    ///
+    /// Errors: `Fault::Memory`; the finder serves on.
+    pub(super) fn add_groups_of_line(
+        &mut self,
+        tick: &mut Lines,
+        text: &Rope,
+        line_idx: usize,
+        groups: &mut Vec<Groups>,
+    ) -> Result<(), Fault>
+        requires { line_idx < line_count (text_of text.now) }
+        ensures groups { OnOk result (AddsGroupsOfLine (text_of text.now) self.old line_idx
+            groups.old.items groups.new.items) }
+        ensures fault { IfErr result (λ fault. fault ≡ Fault.Memory) }
+        ensures finder { self.new ≡ self.old }
+        ensures count { tick.new.count ≡ min (tick.old.count + 1) (2 ^ 64 - 1) }
+        ensures grows { tick.old.count ≤ tick.new.count }
+        ensures wholes { tick.new.wholes ≡ tick.old.wholes }
+        ensures looked { tick.new.looked ≡ tick.old.looked }
+    {
+        // The text's facts, for the proof alone.
+        let _ = text.len_bytes();
+        let start = text.line_to_byte(line_idx);
+        let line = line_text(text, line_idx);
+        add_groups(tick, &mut self.regex, line, start, groups)
     }
 
     /// The spans of all matches in a whole text. One search of a whole text is counted, also after

@@ -1,9 +1,10 @@
-//! The groups of one match in a line.
-ghost use Rattle.std.specs.Prelude.{◌≡◌, ℕ, ◌+◌, ◌-◌, ◌^◌, ◌≤◌, min, List, IfOk, IfErr, IfSome};
-ghost use Rattle.ropey.specs.Slices.{slice_bytes};
+//! The groups of one match in a line, and those of all its matches.
+ghost use Rattle.std.specs.Prelude.{◌≡◌, ℕ, ◌+◌, ◌-◌, ◌^◌, ◌<◌, ◌≤◌, min, option_map, List, IfOk, IfErr, IfSome, OnOk};
+ghost use Rattle.str_indices.specs.Text.{byte_len};
+ghost use Rattle.ropey.specs.Slices.{slice_bytes, slice_text};
 ghost use Rattle.regex_cursor.specs.Regexes.{IsRegexOf};
-ghost use Rattle.rope_search_reports.specs.Replacement.{HasSpansIn};
-ghost use Rattle.rope_search_reports.specs.LineGroups.{IsAmongGroups};
+ghost use Rattle.rope_search_reports.specs.Replacement.{HasSpansIn, IsSpanIn};
+ghost use Rattle.rope_search_reports.specs.LineGroups.{AddsGroupsOf, IsAmongGroups, moved, moved_span};
 
 use super::Lines;
 use super::counted::{CountedRegex, RopeyCursor};
@@ -43,4 +44,59 @@ pub fn groups_of_match(
         left -= 1;
     }
     Ok(None)
+}
+
+/// A span in a line that starts at an offset of its text, by offsets of the text.
+fn moved_span(start: usize, span: Option<(usize, usize)>) -> Option<(usize, usize)>
+    requires { IfSome span (λ span. (start + span.0 < 2 ^ 64) × (start + span.1 < 2 ^ 64)) }
+    ensures { result ≡ option_map (moved_span start) span }
+{
+    match span {
+        Some((from, to)) => Some((start + from, start + to)),
+        None => None,
+    }
+}
+
+/// Groups in a line that starts at an offset of its text, by offsets of the text.
+fn moved(line: &RopeSlice<'_>, start: usize, groups: &Groups) -> Groups
+    requires spans { HasSpansIn (slice_bytes line.now) groups.now }
+    requires fits { start + byte_len (slice_text line.now) < 2 ^ 63 }
+    ensures { result ≡ moved start groups.now }
+{
+    // The slice's facts, for the proof alone.
+    let _ = line.len_bytes();
+    let mut told = [None; 10];
+    for k in 0..10 {
+        told[k] = moved_span(start, groups[k]);
+    }
+    told
+}
+
+/// Appends the groups of all matches in a line, by offsets of the text in which the line starts at
+/// an offset. One row is counted as the search begins.
+pub fn add_groups(
+    tick: &mut Lines,
+    regex: &mut CountedRegex,
+    line: RopeSlice<'_>,
+    start: usize,
+    groups: &mut Vec<Groups>,
+) -> Result<(), Fault>
+    requires built { (text : List ℕ) × IsRegexOf text regex.old }
+    requires fits { start + byte_len (slice_text line) < 2 ^ 63 }
+    ensures groups { (pattern : List ℕ) → (built : IsRegexOf pattern regex.old)
+        → OnOk result (AddsGroupsOf built.tree (slice_bytes line.entry) start groups.old.items
+        groups.new.items) }
+    ensures same { regex.new ≡ regex.old }
+    ensures fault { IfErr result (λ fault. fault ≡ Fault.Memory) }
+    ensures count { tick.new.count ≡ min (tick.old.count + 1) (2 ^ 64 - 1) }
+    ensures grows { tick.old.count ≤ tick.new.count }
+    ensures wholes { tick.new.wholes ≡ tick.old.wholes }
+    ensures looked { tick.new.looked ≡ tick.old.looked }
+{
+    let mut pass = regex.in_line(tick, RopeyCursor::new(line), line.len_bytes());
+    let mut slots = [None; SLOT_COUNT];
+    while let Some(_) = regex.next(&mut pass, &mut slots)? {
+        groups.push(moved(&line, start, &groups_in(&slots)))?;
+    }
+    Ok(())
 }
