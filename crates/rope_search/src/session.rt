@@ -18,6 +18,8 @@ ghost use Rattle.rope_search.specs.UndoSteps.{undo_count, with_steps};
 ghost use Rattle.rope_search.specs.JoinedSteps.{KeepsJoined, with_joined};
 ghost use Rattle.rope_search.specs.Edits.{RefusesEdits, StepByEdits, TellsEdits, in_full, rows_of_edits};
 
+mod pending;
+
 use crate::buffer::Buffer;
 use crate::commands::{Command, Payload, Reply};
 use crate::edits::Edit;
