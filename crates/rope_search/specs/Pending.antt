@@ -1,9 +1,8 @@
 -- A pending pattern. A buffer keeps it beside its own pattern, and searches its text for it in
 -- slices. Once all lines are done, it takes the place of the buffer's pattern.
-use Rattle.std.specs.Prelude.{◌≡◌, ℕ, ◌+◌, ◌-◌, ◌<◌, ◌≤◌, List, [], ◌∷◌, ◌++◌, take, drop, min, Bool, true, false, if◌then◌else◌, Option, None, Some, is_some, option_map, MatchOption, IfSome}
-use Rattle.rope_search_reports.specs.Pattern.{IsPattern}
+use Rattle.std.specs.Prelude.{◌≡◌, ℕ, ◌+◌, ◌-◌, ◌^◌, ◌<◌, ◌≤◌, List, [], ◌∷◌, ◌++◌, take, drop, min, Bool, true, false, if◌then◌else◌, Option, None, Some, is_some, option_map, MatchOption, IfSome}
 use Rattle.rope_search_reports.specs.Position.{line_at}
-use Rattle.rope_search_reports.specs.Report.{line_texts, AreRows, IsReport}
+use Rattle.rope_search_reports.specs.Report.{line_texts, AreRows, IsReport, match_count}
 use Rattle.rope_search_reports.specs.Text.{line_count}
 use Rattle.rope_search.specs.declared.text_changes.TextChange.{TextChange}
 use Rattle.rope_search.specs.Session.{BufferState, LimitedBuffer, PendingPattern, State, chosen_buffer, current_text, with_chosen, with_pattern}
@@ -35,6 +34,11 @@ CompletesWindow buffer from to made = (pending : PendingPattern) (rows : List (L
     → buffer.pending ≡ Some pending → ArePendingRows buffer rows
     → AreRows pending.pattern (take (to - from) (drop from (line_texts (current_text buffer.state))))
     (take (to - from) (drop from rows) ++ made)
+
+-- They have fewer matches than 2 ^ 64.
+abbrev pub HasFewInWindow : LimitedBuffer → ℕ → ℕ → List (List (ℕ × ℕ)) → Type 0
+HasFewInWindow buffer from to made = (rows : List (List (ℕ × ℕ))) → ArePendingRows buffer rows
+    → match_count (take (to - from) (drop from rows) ++ made) < 2 ^ 64
 
 -- ---- calls for the pending pattern
 

@@ -6,7 +6,7 @@ ghost use Rattle.rope_search_reports.specs.Report.{AreRows, line_texts, match_co
 ghost use Rattle.rope_search_reports.specs.Text.{line_count};
 ghost use Rattle.rope_search_reports.specs.Ticks.{MakesAsMany, MakesAtMost};
 ghost use Rattle.rope_search.specs.Histories.{text_at};
-ghost use Rattle.rope_search.specs.Pending.{Advances, AreFirstRows, ArePendingRows, Begins, Cancels, CompletesWindow, done_before, lines_left};
+ghost use Rattle.rope_search.specs.Pending.{Advances, AreFirstRows, ArePendingRows, Begins, Cancels, CompletesWindow, HasFewInWindow, done_before, lines_left};
 ghost use Rattle.rope_search.specs.Searched.{HoldsPending, shown_pending};
 ghost use Rattle.rope_search.specs.Session.{PendingPattern, current_text};
 ghost use Rattle.rope_search.specs.TextChanges.{AreTextChanges, ranges_in};
@@ -191,7 +191,7 @@ impl Buffer {
     /// Linear in the lines that are searched, times the pattern's weight, and `O(log n)`.
     pub fn window(&mut self, tick: &mut Lines, from: usize, to: usize) -> Result<Vec<Row>, Fault>
         ensures rows { IfOk result (λ made. CompletesWindow self.old from to made.items) }
-        ensures few { IfOk result (λ made. match_count made.items < 2 ^ 64) }
+        ensures few { IfOk result (λ made. HasFewInWindow self.old from to made.items) }
         ensures nothing { (result ≡ Err Fault.Nothing) ↔ (self.old.pending ≡ None) }
         ensures fault { IfErr result (λ fault.
             (fault ≡ Fault.Nothing) ⊎ (fault ≡ Fault.Memory)) }

@@ -1,9 +1,8 @@
 //! A pending pattern of a session's chosen buffer.
-ghost use Rattle.std.specs.Prelude.{◌≡◌, ◌-◌, ◌^◌, ◌<◌, ◌↔◌, ◌⊎◌, length, min, chars, None, Err, IfOk, IfErr, OnOk, OnErr};
-ghost use Rattle.rope_search_reports.specs.Report.{match_count};
+ghost use Rattle.std.specs.Prelude.{◌≡◌, ◌-◌, ◌↔◌, ◌⊎◌, length, min, chars, None, Err, IfOk, IfErr, OnOk, OnErr};
 ghost use Rattle.rope_search_reports.specs.Ticks.{MakesAsMany, MakesAtMost};
 ghost use Rattle.rope_search.specs.Order.{SetPattern};
-ghost use Rattle.rope_search.specs.Pending.{Advances, Begins, Cancels, CompletesWindow, StateAdvances, lines_left};
+ghost use Rattle.rope_search.specs.Pending.{Advances, Begins, Cancels, CompletesWindow, HasFewInWindow, StateAdvances, lines_left};
 ghost use Rattle.rope_search.specs.Session.{chosen_in};
 ghost use Rattle.rope_search.specs.Step.{Accepts, IsFirstRefusal};
 ghost use Rattle.rope_search.specs.TextsKept.{ChangesChosen};
@@ -76,7 +75,7 @@ impl Session {
     pub fn window(&mut self, tick: &mut Lines, from: usize, to: usize) -> Result<Vec<Row>, Fault>
         ensures rows { IfOk result (λ made.
             CompletesWindow (chosen_in self.old) from to made.items) }
-        ensures few { IfOk result (λ made. match_count made.items < 2 ^ 64) }
+        ensures few { IfOk result (λ made. HasFewInWindow (chosen_in self.old) from to made.items) }
         ensures nothing { (result ≡ Err Fault.Nothing) ↔ ((chosen_in self.old).pending ≡ None) }
         ensures fault { IfErr result (λ fault.
             (fault ≡ Fault.Nothing) ⊎ (fault ≡ Fault.Memory)) }
