@@ -18,6 +18,7 @@ from library_edits import wrong_with
 from library_groups import wrong_groups
 from library_lines import wrong_edits, wrong_long, wrong_numbers, wrong_small
 from library_listed import wrong_listed
+from library_pending import small_pending, wrong_pending
 from library_replacing import wrong_replacements
 from library_text_changes import small_changes, small_joins, wrong_after_edits, wrong_text_changes
 from protocol import Session, lines_of, place_of, position_at, positions_of, read_commands, spelled, units
@@ -347,6 +348,19 @@ def test_replacing():
     test(f"single matches replaced, in {GROUPED} texts at random, beside the model", wrong)
 
 
+def test_pending():
+    """Sessions at random, between whose commands a pending pattern is searched in slices."""
+    for kind, weights in (("of all kinds", OF_ALL_KINDS), ("back and forward", BACK_AND_FORWARD)):
+        wrong = []
+        for seed in range(SESSIONS // SESSIONS_IN_RUN // 4):
+            name = ("pending", kind, seed).__repr__()
+            with rope_search.Session() as session:
+                wrong += wrong_pending(session, some_sessions(name, SESSIONS_IN_RUN, weights).commands, random.Random(name))
+        test(f"pending patterns, {SESSIONS // 4} sessions at random {kind}, beside the model", wrong)
+    for length in range(5):
+        test(f"pending rows after edits of all texts of {length} characters over CR, LF and a", small_pending(length))
+
+
 def test_listed():
     wrong = [one for seed in range(LISTED) for one in wrong_listed(seed)]
     test(f"listed matches looked up, in {LISTED} texts at random, beside the model", wrong)
@@ -381,7 +395,9 @@ def test_closed():
         "column_in": (8, origin, ctypes.c_size_t(7)), "position_in": (8, 0, 0, rope_search._Position()),
         "forget": (), "keep": (1,), "join": (1,), "byte_of": (origin, ctypes.c_size_t(7)), "position_of": (0, rope_search._Position()),
         "groups_at": (0, 0, (rope_search._Group * 10)(), 10), "edit_bytes": (0, 0, b"a", 1),
-        "replace_match": (0, 0, b"a", 1),
+        "replace_match": (0, 0, b"a", 1), "begin_pattern": (b"a", 1), "advance": (1, ctypes.c_bool(True)), "cancel": (),
+        "window": (0, 9, (rope_search._Span * 1)(), 1, ctypes.c_size_t(7)), "count_pending": (0, 9, ctypes.c_size_t(7)),
+        "copy_pending": (0, 9, (rope_search._Span * 1)(), 1, ctypes.c_size_t(7)),
         "clamp": (8, 0, 0, rope_search._Position(7, 7)), "line_len": (0, 8, ctypes.c_size_t(7)),
     }
     read_only = {
@@ -393,6 +409,7 @@ def test_closed():
         "copy_line": (0, ctypes.create_string_buffer(4), 4),
         "listed_from": (origin, rope_search._Listed(7)),
         "listed_before": (origin, rope_search._Listed(7)), "list_index": (0, 0, ctypes.c_size_t(7), ctypes.c_size_t(7)),
+        "pending": (ctypes.c_size_t(7),),
     }
     # Two calls take no session.
     named = {"version", "open", "close", "counted", "changed", "pattern_error", *refused, *read_only}
@@ -409,11 +426,11 @@ def test_closed():
     counts = calls.rope_search_counted(handle)
     if (counts.rows, counts.wholes, handle.is_open) != (0, 0, False):
         wrong.append("counted, or the handle, is something")
-    kept = [refused[name][-1].value for name in ("replace", "fork", "byte_of", "column_in", "line_len")]
+    kept = [refused[name][-1].value for name in ("replace", "fork", "byte_of", "column_in", "line_len", "window", "count_pending", "copy_pending")]
     kept.append(refused["clamp"][-1].line)
     kept += [read_only[name][1].line for name in ("listed_from", "listed_before")]
-    kept += [count.value for count in read_only["list_index"][2:]]
-    if kept != [7] * 10 or not refused["next"][1].found:
+    kept += [count.value for count in (*read_only["list_index"][2:], *read_only["pending"])]
+    if kept != [7] * 14 or not refused["next"][1].found or not refused["advance"][1].value:
         wrong.append(f"a call of a closed session writes: {kept}, {refused['next'][1].found}")
     if any(group.found for group in refused["groups_at"][2]):
         wrong.append("groups of a closed session are told")
@@ -576,6 +593,7 @@ def test_all():
     test_groups()
     test_replacing()
     test_listed()
+    test_pending()
     test_explanations()
     test_programs()
     test_lua()

@@ -13,6 +13,8 @@ pub mod HistoryLaws
 pub mod HistoryLemmas
 pub mod KeepLemmas
 pub mod StretchLemmas
+pub mod WindowLemmas
+pub mod PendingLemmas
 pub mod ChangedLemmas
 pub mod LineLaws
 pub mod MatchLemmas

@@ -4,6 +4,7 @@ use Rattle.std.specs.Global.{Vec}
 use Rattle.rope_search_reports.specs.declared.patches.Patch.{Patch}
 use Rattle.rope_search_reports.specs.Patches.{patched, AreInTurn, growth_by}
 use Rattle.rope_search_reports.specs.Pattern.{IsPattern}
+use Rattle.rope_search_reports.specs.Text.{IsText}
 use Rattle.rope_search.specs.Pending.{AreFirstRows}
 use Rattle.rope_search.specs.Session.{PendingPattern}
 use Rattle.rope_search.specs.declared.search.Patches.{Patches}
@@ -31,5 +32,5 @@ shown_pending pending = option_map (λ (s : Search). record {
 
 -- it is a pattern, and its rows are those of the first lines of the text
 abbrev pub HoldsPending : List ℕ → Option Search → Type 0
-HoldsPending text pending = IfSome pending (λ s. IsPattern s.finder
+HoldsPending text pending = IfSome pending (λ s. IsText s.finder × IsPattern s.finder
     × AreFirstRows text s.finder (length s.rows.items) s.rows.items)

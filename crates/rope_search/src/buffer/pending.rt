@@ -3,7 +3,7 @@ ghost use Rattle.std.specs.Prelude.{◌≡◌, ◌×◌, ℕ, ◌+◌, ◌-◌, 
 ghost use Rattle.ropey.specs.Chunks.{text_of};
 ghost use Rattle.rope_search_reports.specs.Pattern.{IsPattern, IsTooHeavy, SpellsNone, pattern_limit};
 ghost use Rattle.rope_search_reports.specs.Report.{AreRows, line_texts, match_count};
-ghost use Rattle.rope_search_reports.specs.Text.{line_count};
+ghost use Rattle.rope_search_reports.specs.Text.{IsText, line_count};
 ghost use Rattle.rope_search_reports.specs.Ticks.{MakesAsMany, MakesAtMost};
 ghost use Rattle.rope_search.specs.Histories.{text_at};
 ghost use Rattle.rope_search.specs.Pending.{Advances, AreFirstRows, ArePendingRows, Begins, Cancels, CompletesWindow, HasFewInWindow, done_before, lines_left};
@@ -127,7 +127,8 @@ impl Buffer {
     /// searched whole. The last slice also drops the old report, in time linear in its rows.
     pub fn advance(&mut self, tick: &mut Lines, max_lines: usize) -> Result<bool, Fault>
         ensures advances { IfOk result (λ is_done. Advances max_lines is_done self.old self.new) }
-        ensures is_pattern { IfSome self.old.pending (λ pending. IsPattern pending.pattern) }
+        ensures is_pattern { IfSome self.old.pending (λ pending.
+            IsText pending.pattern × IsPattern pending.pattern) }
         ensures nothing { (result ≡ Err Fault.Nothing) ↔ (self.old.pending ≡ None) }
         ensures fault { IfErr result (λ fault.
             (fault ≡ Fault.Nothing) ⊎ (fault ≡ Fault.Memory)) }
