@@ -1,16 +1,24 @@
 """A pending pattern by the library, beside a model of it: the lines that are done, their rows, windows, the counts, and the
 report once all lines are done."""
+import functools
 import itertools
 
 from library import reply, rope_search
 from library_text_changes import CHANGING, SMALL, Mirror, edits_of
-from protocol import lines_of, position_at, refused_pattern, rows_of
+import protocol
+from protocol import lines_of, position_at, refused_pattern
 from random_patterns import Maker
 from test_edits import PATTERNS
 from walks import spelled
 
 MOST = (1 << 64) - 1
 BROKEN = ("(", "[", "a{2", "\\")
+
+
+@functools.lru_cache(maxsize=1_000)
+def rows_of(text, pattern):
+    """The rows of a text, which are asked for again and again."""
+    return protocol.rows_of(text, pattern)
 
 
 def spans_of(rows, first=0):

@@ -57,6 +57,7 @@ pub mod StayLemmas
 pub mod JoinSteps
 pub mod JoinedLemmas
 pub mod JoinedSessions
+pub mod PendingSessions
 pub mod PlacedLemmas
 pub mod MatchEditLemmas
 pub mod MatchAnswerLemmas
