@@ -87,6 +87,10 @@ impl Buffer {
     /// Until then the buffer's pattern and its report stay, and follow all edits. Nothing is
     /// searched yet.
     ///
+    /// A call that changes the text keeps the rows that are done before the first line that it
+    /// changes, drops the others, and searches nothing for the pending pattern. `set_pattern` and
+    /// `off` drop it, and a fork has none.
+    ///
     /// `set_text`, `undo` and `redo` make the report of the buffer's pattern before they return. To
     /// search a new text in slices too, call `off` before them and `begin_pattern` after them.
     ///
