@@ -18,6 +18,7 @@ from library_edits import wrong_with
 from library_groups import wrong_groups
 from library_lines import wrong_edits, wrong_long, wrong_numbers, wrong_small
 from library_listed import wrong_listed
+from library_pane import wrong_document
 from library_pending import small_pending, wrong_pending
 from library_replacing import wrong_replacements
 from library_text_changes import small_changes, small_joins, wrong_after_edits, wrong_text_changes
@@ -544,6 +545,7 @@ def test_pane():
             except ValueError:
                 pass
     test("the client of the pane that goes by calls", wrong)
+    test("its rows, made in slices", [one for seed in range(GROUPED) for one in wrong_document(seed)])
 
 
 def test_readme():
