@@ -19,11 +19,14 @@ Matches are those of the report: of each line by itself. Where there is none, En
 lines. All replaced are those of the whole text, which may be others: docs/protocol.md tells how.
 
 The pane goes by the library that `make lib` builds, where it is built, and else, or where one is named, by the program.
+By the library it searches a pattern in slices of some thousand lines between keys: the lines that are shown at once, and
+`+` stands behind a number of matches until all are done. A line is searched whole, however long it is.
 """
 import os
 import signal
 import sys
 import termios
+import time
 import tty
 
 sys.dont_write_bytecode = True
@@ -34,6 +37,7 @@ from pane_parts.keys import Keys
 from pane_parts.pane import Left, Pane
 
 SECONDS = 30  # for a reply of the program
+MOMENT = 0.1  # seconds between two pictures while lines are left to be searched
 BEGIN = "\x1b[?1049h\x1b[?7l\x1b[?2004h"  # another screen, on which nothing is wrapped, and pasted text told as such
 END = "\x1b[?2004l\x1b[?7h\x1b[?1049l"
 
@@ -71,6 +75,15 @@ class Session:
         except Ended as ended:
             self.begin_anew(ended)
 
+    def search_on(self, is_waiting):
+        """Searches the lines that are left, slice by slice, until a key is typed or the terminal has another size."""
+        drawn = time.monotonic()
+        while self.pane.document.is_pending and not is_waiting():
+            self.guarded(self.pane.document.advance)
+            if not self.pane.document.is_pending or time.monotonic() > drawn + MOMENT:
+                self.pane.draw()
+                drawn = time.monotonic()
+
     def run(self):
         """Takes keys and shows what they do, until one of them leaves, or the terminal goes."""
         keys, (resized, told) = Keys(0), os.pipe()
@@ -81,6 +94,7 @@ class Session:
             if not keys.is_waiting():
                 self.guarded(self.pane.follow)
                 self.pane.draw()
+            self.search_on(lambda: keys.is_waiting(0, resized))
             if not keys.wait(resized):
                 self.pane.resize()
                 continue

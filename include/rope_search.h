@@ -36,6 +36,9 @@
  *
  * - set_text and set_pattern take time linear in what they are given and, with a pattern, search the
  *   text line by line: linear in it, times the pattern's weight.
+ * - begin_pattern takes time linear in what it is given. advance and window search the lines that
+ *   aren't done, at most as many as they are asked for: linear in these lines, times the pattern's
+ *   weight. The last slice of advance also drops the old report.
  * - edit, edit_bytes and edit_all take O(log n) for each edit, and time linear in what they insert;
  *   with a pattern they search the lines that they touch, and move the rows behind them where the
  *   number of lines changes. undo and redo do the same for what comes back; without a pattern they
@@ -466,6 +469,71 @@ rope_search_stretch rope_search_changed(rope_search *session);
  * number. The rest of `out` is not changed.
  */
 size_t rope_search_text_changes(rope_search *session, rope_search_text_change *out, size_t out_len);
+
+/* ---- a pending pattern of the chosen buffer ---- */
+
+/*
+ * A pattern whose report is made in slices, so that no call takes longer than one slice. Until all
+ * lines are done, the buffer's pattern and its report stay, and follow all edits:
+ *
+ *     bool done = false;
+ *     if (rope_search_begin_pattern(&session, pattern, len) != ROPE_SEARCH_DONE) ...
+ *     rope_search_window(&session, first, last, spans, room, &count);   (paint these)
+ *     while (!done) {
+ *         ...                                                          (the editor's own events)
+ *         if (rope_search_advance(&session, 4000, &done) != ROPE_SEARCH_DONE) ...
+ *     }
+ *
+ * The rows that are done are at all times the first rows of the report of the current text under the
+ * pending pattern. A call that changes the text keeps those before the first line that it changed,
+ * and drops the others; it searches nothing for the pending pattern. set_pattern and off drop the
+ * pending pattern, unless they are refused; a fork has none.
+ *
+ * set_text, undo and redo make the report of the buffer's pattern before they return. To make it in
+ * slices too, call off, then one of them, then begin_pattern.
+ */
+
+/*
+ * Makes a pattern pending, in place of any other that is, with no line done. Nothing is searched.
+ * Refused: UTF8, PATTERN, LIMIT, MEMORY; what was pending then stays.
+ */
+uint32_t rope_search_begin_pattern(rope_search *session, const uint8_t *pattern, size_t len);
+
+/*
+ * Searches up to `max_lines` further lines, from the first that is not done. Each is searched whole,
+ * however long it is. If all lines are then done, the session is as set_pattern of the same bytes
+ * would have left it, and `changed` returns all rows; else the report, `changed` and `text_changes`
+ * stay. `done` is written unless the session is closed: whether all lines are done, or false if this
+ * is refused: NONE, MEMORY.
+ */
+uint32_t rope_search_advance(rope_search *session, size_t max_lines, bool *done);
+
+/* Drops the pending pattern, if there is one. The pattern and the report stay. */
+uint32_t rope_search_cancel(rope_search *session);
+
+/*
+ * Returns whether a pattern is pending. `lines` is then the number of lines that are done, and else
+ * as it was.
+ */
+bool rope_search_pending(rope_search *session, size_t *lines);
+
+/*
+ * Return the matches of the lines `from` up to `to` that are done: their number, and copied to the
+ * front of `out`, as many as fit. `count` is written unless the session is closed: how many there
+ * are, or 0 if this is refused: NONE. The rest of `out` is not changed.
+ */
+uint32_t rope_search_count_pending(rope_search *session, size_t from, size_t to, size_t *count);
+uint32_t rope_search_copy_pending(rope_search *session, size_t from, size_t to,
+                                  rope_search_span *out, size_t out_len, size_t *count);
+
+/*
+ * Copies the matches of lines `from` up to `to` of the current text under the pending pattern to the
+ * front of `out`, as many as fit. Those of the lines that are not done are searched: each is counted
+ * as one row, and not kept. `count` is written unless the session is closed: how many there are, or 0
+ * if this is refused: NONE, MEMORY. The rest of `out` is not changed.
+ */
+uint32_t rope_search_window(rope_search *session, size_t from, size_t to, rope_search_span *out,
+                            size_t out_len, size_t *count);
 
 /* What the session counted. */
 rope_search_counts rope_search_counted(rope_search *session);

@@ -260,6 +260,60 @@ static void matches(rope_search *s)
     IS(rope_search_off(s), ROPE_SEARCH_DONE);
 }
 
+/* A pending pattern of the text "ab\nb\nab", under another pattern. */
+static void pending(rope_search *s)
+{
+    rope_search_span spans[2] = {{7, 7, 7}, {7, 7, 7}};
+    rope_search_stretch changed;
+    size_t lines = 77, count = 77;
+    bool done = true;
+    IS(rope_search_set_text(s, bytes("ab\nb\nab"), 7), ROPE_SEARCH_DONE);
+    IS(rope_search_set_pattern(s, bytes("a"), 1), ROPE_SEARCH_DONE);
+    IS(rope_search_pending(s, &lines), 0);
+    IS(lines, 77);
+    IS(rope_search_advance(s, 9, &done), ROPE_SEARCH_NONE);
+    IS(done, 0);
+    IS(rope_search_count_pending(s, 0, 9, &count), ROPE_SEARCH_NONE);
+    IS(count, 0);
+    IS(rope_search_copy_pending(s, 0, 9, spans, 2, &count), ROPE_SEARCH_NONE);
+    IS(rope_search_window(s, 0, 9, spans, 2, &count), ROPE_SEARCH_NONE);
+    IS(rope_search_cancel(s), ROPE_SEARCH_DONE);
+    IS(rope_search_begin_pattern(s, bytes("("), 1), ROPE_SEARCH_PATTERN);
+    IS(rope_search_begin_pattern(s, bytes("\377"), 1), ROPE_SEARCH_UTF8);
+    IS(rope_search_begin_pattern(s, bytes("b"), 1), ROPE_SEARCH_DONE);
+    IS(rope_search_begin_pattern(s, bytes("("), 1), ROPE_SEARCH_PATTERN);
+    IS(rope_search_set_pattern(s, bytes("("), 1), ROPE_SEARCH_PATTERN);
+    IS(rope_search_pending(s, &lines), 1);
+    IS(lines, 0);
+    IS(rope_search_advance(s, 1, &done), ROPE_SEARCH_DONE);
+    IS(done, 0);
+    IS(rope_search_window(s, 0, 2, spans, 1, &count), ROPE_SEARCH_DONE);
+    IS(count, 2);
+    IS(spans[0].line == 0 && spans[0].start == 1 && spans[1].line == 7, 1);
+    IS(rope_search_window(s, 2, SIZE_MAX, spans, 2, &count), ROPE_SEARCH_DONE);
+    IS(count == 1 && spans[0].line == 2 && spans[1].line == 7, 1);
+    IS(rope_search_window(s, 2, 1, spans, 2, &count), ROPE_SEARCH_DONE);
+    IS(count, 0);
+    IS(rope_search_count_matches(s, 0, 9), 2);
+    IS(rope_search_edit(s, at(1, 0), at(1, 0), bytes("b"), 1), ROPE_SEARCH_DONE);
+    IS(rope_search_pending(s, &lines) && lines == 1, 1);
+    IS(rope_search_advance(s, 1, &done), ROPE_SEARCH_DONE);
+    IS(rope_search_copy_pending(s, 1, 9, spans, 1, &count), ROPE_SEARCH_DONE);
+    IS(count == 2 && spans[0].line == 1 && spans[0].stop == 1 && spans[1].line == 7, 1);
+    IS(rope_search_advance(s, SIZE_MAX, &done), ROPE_SEARCH_DONE);
+    IS(done, 1);
+    IS(rope_search_pending(s, &lines), 0);
+    IS(rope_search_count_matches(s, 0, 9), 4);
+    changed = rope_search_changed(s);
+    IS(changed.first == 0 && changed.removed == 3 && changed.added == 3, 1);
+    IS(rope_search_begin_pattern(s, bytes("a"), 1), ROPE_SEARCH_DONE);
+    IS(rope_search_cancel(s), ROPE_SEARCH_DONE);
+    IS(rope_search_pending(s, &lines), 0);
+    IS(rope_search_count_matches(s, 0, 9), 4);
+    IS(rope_search_undo(s), ROPE_SEARCH_DONE);
+    IS(rope_search_off(s), ROPE_SEARCH_DONE);
+}
+
 /* Lines, and edits by bytes, of the text "hi ho\r\nh\303\251 \360\237\220\270", under a pattern, undone at the end. */
 static void lines(rope_search *s)
 {
@@ -401,6 +455,7 @@ int main(void)
     several(&s);
     lines(&s);
     matches(&s);
+    pending(&s);
     rope_search_close(&s);
     return wrong != 0;
 }

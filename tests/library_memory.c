@@ -30,12 +30,13 @@ void *__wrap_realloc(void *old, size_t bytes)
     return is_refused() ? NULL : __real_realloc(old, bytes);
 }
 
-/* What can be seen of a session: of the chosen buffer the text, the matches, the steps back and forward, and the ranges
- * that were replaced last. */
+/* What can be seen of a session: of the chosen buffer the text, the matches, the steps back and forward, the ranges that
+ * were replaced last, and the lines and the matches that are done for a pending pattern. */
 struct seen {
-    size_t len, rows, count, undo, redo, changes;
+    size_t len, rows, count, undo, redo, changes, lines, pending;
+    bool is_pending;
     uint8_t text[4096];
-    rope_search_span spans[512];
+    rope_search_span spans[512], done[512];
     rope_search_text_change ranges[64];
 };
 
@@ -50,12 +51,14 @@ static void see(rope_search *s, struct seen *seen)
     seen->undo = rope_search_undo_steps(s);
     seen->redo = rope_search_redo_steps(s);
     seen->changes = rope_search_text_changes(s, seen->ranges, 64);
+    seen->is_pending = rope_search_pending(s, &seen->lines);
+    if (seen->is_pending && rope_search_copy_pending(s, 0, SIZE_MAX, seen->done, 512, &seen->pending) != ROPE_SEARCH_DONE)
+        wrong++;
 }
 
 enum kind {
     SET_TEXT, EDIT, EDIT_ALL, EDIT_BYTES, UNDO, REDO, SET_PATTERN, OFF, NEXT, REPLACE, REPLACE_MATCH,
-    REPLACE_LISTED, FORK, CHOOSE, FORGET, KEEP,
-    JOIN, GROUPS_AT, PATTERN_ERROR
+    REPLACE_LISTED, FORK, CHOOSE, FORGET, KEEP, JOIN, GROUPS_AT, PATTERN_ERROR, BEGIN, ADVANCE, WINDOW, CANCEL
 };
 
 struct call {
@@ -72,6 +75,8 @@ static uint32_t carry_out(rope_search *s, const struct call *call)
     rope_search_group groups[10];
     rope_search_pattern_reason reason;
     rope_search_text_edit edits[2];
+    rope_search_span spans[8];
+    bool done;
     const uint8_t *text = (const uint8_t *)(call->text ? call->text : "");
     from.line = call->line;
     from.column = call->column;
@@ -101,6 +106,10 @@ static uint32_t carry_out(rope_search *s, const struct call *call)
     case JOIN: return rope_search_join(s, call->line);
     case GROUPS_AT: return rope_search_groups_at(s, call->line, call->column, groups, 10);
     case PATTERN_ERROR: return rope_search_pattern_error(text, len, &reason);
+    case BEGIN: return rope_search_begin_pattern(s, text, len);
+    case ADVANCE: return rope_search_advance(s, call->line, &done);
+    case WINDOW: return rope_search_window(s, call->line, call->column, spans, 8, &number);
+    case CANCEL: return rope_search_cancel(s);
     default: return rope_search_choose(s, call->line);
     }
 }
@@ -122,11 +131,14 @@ static const struct call calls[] = {
     CALL(REDO), AT(CHOOSE, 0, 0), TEXT(EDIT, "one\n"), {REPLACE_MATCH, 1, 0, 0, 0, "<$1\n$0>"}, CALL(UNDO),
     {REPLACE_MATCH, 1, 0, 0, 0, "two"}, {REPLACE_LISTED, 0, 0, 2, 0, "<$1\n$0>"}, CALL(UNDO),
     {REPLACE_LISTED, 1, 0, 9, 0, "two"}, AT(KEEP, 1, 0), AT(GROUPS_AT, 0, 0), CALL(FORGET),
+    TEXT(BEGIN, "(?i)on"), AT(WINDOW, 0, 9), AT(ADVANCE, 2, 0), AT(WINDOW, 1, 9), AT(ADVANCE, 1, 0),
+    {EDIT, 1, 0, 2, 0, "one on\n"}, AT(ADVANCE, 2, 0), CALL(UNDO), TEXT(BEGIN, "n\\w"), AT(ADVANCE, 1, 0), TEXT(SET_PATTERN, "on"),
+    TEXT(BEGIN, "\\w+"), AT(ADVANCE, 3, 0), CALL(CANCEL), TEXT(BEGIN, "n(e)"), AT(ADVANCE, 99, 0), AT(GROUPS_AT, 0, 0),
 };
 
 static int may_ask(enum kind kind)
 {
-    return kind != OFF && kind != CHOOSE && kind != FORGET && kind != KEEP;
+    return kind != OFF && kind != CHOOSE && kind != FORGET && kind != KEEP && kind != CANCEL;
 }
 
 /* The calls in turn, where one request is refused; how many requests there were. */

@@ -123,7 +123,50 @@ local function walked()
   assert(not done and why == "a group isn't closed, at byte 1")
 end
 
+-- A pattern in many lines: no call makes more rows than a slice, also where keys come between the
+-- slices; and once all are done the marks are those of a search anew.
+local function in_slices()
+  vim.cmd("enew!")
+  local buffer, lines = vim.api.nvim_get_current_buf(), {}
+  for line = 1, 30000 do
+    lines[line] = line % 3 == 0 and "one two" or "a line"
+  end
+  vim.api.nvim_buf_set_lines(buffer, 0, -1, true, lines)
+  local session = assert(rope_search.open())
+  local calls, most = getmetatable(session), 0
+  session:close()
+  for _, name in ipairs({ "set_text", "edit_bytes", "begin_pattern", "advance", "window", "off" }) do
+    local call = calls[name]
+    calls[name] = function(self, ...)
+      local rows = self:counted().rows
+      local answer, why = call(self, ...)
+      most = math.max(most, self:counted().rows - rows)
+      return answer, why
+    end
+  end
+  assert(live.search(buffer, "one"))
+  assert(live.pending(buffer))
+  local _, count, is_more = live.count(0)
+  assert(is_more and count > 0 and count < 10000)
+  see_window(buffer, "a pattern that is pending")
+  most = 0
+  assert(live.search(buffer, "two"))
+  assert(live.pending(buffer))
+  press("ggitwo <Esc>")
+  live.paint_windows(buffer)
+  live.next(0)
+  assert(vim.wait(20000, function()
+    return not live.pending(buffer)
+  end))
+  assert(most == live.slice, ("%d rows at once"):format(most))
+  _, count, is_more = live.count(0)
+  assert(not is_more and count == 10001, count)
+  see(buffer, "two", "all slices")
+  live.stop(buffer)
+end
+
 walked()
+in_slices()
 for seed = 1, 4 do
   typed({ "one two", "a line of one word", "", "none\rone\r" }, "one", seed)
   typed({ "" }, "\\bo\\w*$|^", 100 + seed)

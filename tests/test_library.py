@@ -18,6 +18,8 @@ from library_edits import wrong_many, wrong_with
 from library_groups import wrong_groups
 from library_lines import wrong_edits, wrong_long, wrong_numbers, wrong_small
 from library_listed import wrong_listed
+from library_pane import wrong_document
+from library_pending import small_pending, wrong_pending
 from library_replacing import wrong_listed_replacements, wrong_replacements
 from library_text_changes import small_changes, small_joins, wrong_after_edits, wrong_text_changes
 from protocol import Session, lines_of, place_of, position_at, positions_of, read_commands, spelled, units
@@ -350,6 +352,19 @@ def test_replacing():
     test(f"the matches of some lines replaced, in {GROUPED} texts at random, beside the model", wrong)
 
 
+def test_pending():
+    """Sessions at random, between whose commands a pending pattern is searched in slices."""
+    for kind, weights in (("of all kinds", OF_ALL_KINDS), ("back and forward", BACK_AND_FORWARD)):
+        wrong = []
+        for seed in range(SESSIONS // SESSIONS_IN_RUN // 4):
+            name = ("pending", kind, seed).__repr__()
+            with rope_search.Session() as session:
+                wrong += wrong_pending(session, some_sessions(name, SESSIONS_IN_RUN, weights).commands, random.Random(name))
+        test(f"pending patterns, {SESSIONS // 4} sessions at random {kind}, beside the model", wrong)
+    for length in range(5):
+        test(f"pending rows after edits of all texts of {length} characters over CR, LF and a", small_pending(length))
+
+
 def test_listed():
     wrong = [one for seed in range(LISTED) for one in wrong_listed(seed)]
     test(f"listed matches looked up, in {LISTED} texts at random, beside the model", wrong)
@@ -385,6 +400,9 @@ def test_closed():
         "forget": (), "keep": (1,), "join": (1,), "byte_of": (origin, ctypes.c_size_t(7)), "position_of": (0, rope_search._Position()),
         "groups_at": (0, 0, (rope_search._Group * 10)(), 10), "edit_bytes": (0, 0, b"a", 1),
         "replace_match": (0, 0, b"a", 1), "replace_listed": (0, 9, b"a", 1, ctypes.c_size_t(7)),
+        "begin_pattern": (b"a", 1), "advance": (1, ctypes.c_bool(True)), "cancel": (),
+        "window": (0, 9, (rope_search._Span * 1)(), 1, ctypes.c_size_t(7)), "count_pending": (0, 9, ctypes.c_size_t(7)),
+        "copy_pending": (0, 9, (rope_search._Span * 1)(), 1, ctypes.c_size_t(7)),
         "clamp": (8, 0, 0, rope_search._Position(7, 7)), "line_len": (0, 8, ctypes.c_size_t(7)),
     }
     read_only = {
@@ -396,6 +414,7 @@ def test_closed():
         "copy_line": (0, ctypes.create_string_buffer(4), 4),
         "listed_from": (origin, rope_search._Listed(7)),
         "listed_before": (origin, rope_search._Listed(7)), "list_index": (0, 0, ctypes.c_size_t(7), ctypes.c_size_t(7)),
+        "pending": (ctypes.c_size_t(7),),
     }
     # Two calls take no session.
     named = {"version", "open", "close", "counted", "changed", "pattern_error", *refused, *read_only}
@@ -412,11 +431,11 @@ def test_closed():
     counts = calls.rope_search_counted(handle)
     if (counts.rows, counts.wholes, handle.is_open) != (0, 0, False):
         wrong.append("counted, or the handle, is something")
-    kept = [refused[name][-1].value for name in ("replace", "replace_listed", "fork", "byte_of", "column_in", "line_len")]
+    kept = [refused[name][-1].value for name in ("replace", "replace_listed", "fork", "byte_of", "column_in", "line_len", "window", "count_pending", "copy_pending")]
     kept.append(refused["clamp"][-1].line)
     kept += [read_only[name][1].line for name in ("listed_from", "listed_before")]
-    kept += [count.value for count in read_only["list_index"][2:]]
-    if kept != [7] * 11 or not refused["next"][1].found:
+    kept += [count.value for count in (*read_only["list_index"][2:], *read_only["pending"])]
+    if kept != [7] * 15 or not refused["next"][1].found or not refused["advance"][1].value:
         wrong.append(f"a call of a closed session writes: {kept}, {refused['next'][1].found}")
     if any(group.found for group in refused["groups_at"][2]):
         wrong.append("groups of a closed session are told")
@@ -494,7 +513,7 @@ def test_page():
     page = read("docs", "embedding.md")
     blocks = re.findall(r"```(c|python|lua|sh)\n(.*?)```\n\nIt prints\n\n```text\n(.*?)```", page, flags=re.S)
     kinds = [kind for kind, _, _ in blocks]
-    test("docs/embedding.md has code in four languages", [] if kinds == ["c", "python", "lua", "sh"] else [f"in {kinds}"])
+    test("docs/embedding.md has code in four languages", [] if kinds == ["c", "python", "lua", "python", "c", "sh"] else [f"in {kinds}"])
     for kind, code, due in blocks:
         file = os.path.join(ROOM, "embedded." + kind.replace("python", "py"))
         with open(file, "w", encoding="utf-8") as out:
@@ -530,6 +549,7 @@ def test_pane():
             except ValueError:
                 pass
     test("the client of the pane that goes by calls", wrong)
+    test("its rows, made in slices", [one for seed in range(GROUPED) for one in wrong_document(seed)])
 
 
 def test_readme():
@@ -579,6 +599,7 @@ def test_all():
     test_groups()
     test_replacing()
     test_listed()
+    test_pending()
     test_explanations()
     test_programs()
     test_lua()

@@ -79,6 +79,33 @@ def wrong_search(page):
     return wrong + ([] if "column 3: a group isn't closed" in told else [f"of no pattern it says {told!r}"])
 
 
+# Sets a pattern at once, and keeps what the page then says of its matches.
+WATCHED = """((pattern) => {
+  const place = document.getElementById("place");
+  window.said = [];
+  new MutationObserver(() => window.said.push(place.textContent)).observe(place, { childList: true });
+  const field = document.getElementById("pattern");
+  field.value = pattern;
+  field.dispatchEvent(new Event("input"));
+})(PATTERN)"""
+
+
+def wrong_slices(page):
+    """The report comes in slices of 4,000 lines, with the marks of the lines in sight from the first on."""
+    set_pattern(page, "x")
+    page.value(WATCHED.replace("PATTERN", json.dumps(ARROWS)))
+    page.wait("window.said.some((text) => / lines$/.test(text))")
+    wrong = wrong_marks(page, ARROWS)
+    settled(page)
+    said = page.value("window.said")
+    done = [re.fullmatch(r"[\d,]+ match(?:es)? in ([\d,]+) of ([\d,]+) lines", text) for text in said]
+    pairs = [tuple(int(number.replace(",", "")) for number in found.groups()) for found in done if found]
+    lines = pairs[0][1] if pairs else 0
+    due = [(first, lines) for first in range(0, lines, 4000)]
+    wrong += [] if pairs and sorted(set(pairs)) == due else [f"the slices are {pairs}"]
+    return wrong + ([] if re.fullmatch(r"[\d,]+ matches", said[-1]) else [f"at last: {said[-1]}"])
+
+
 def wrong_edits(page):
     """Letters that are typed, undone and redone, with the keyboard only."""
     set_pattern(page, ARROWS)
@@ -176,5 +203,5 @@ def wrong_released(top):
     return in_browser(top, os.path.join(top, "bin", "rope_search.wasm"), [wrong_search])[0]
 
 
-PARTS_OF_PAGE = {"a pattern and its matches": wrong_search, "edits": wrong_edits, "replacement": wrong_replacement,
-                 "a pattern on which RegExp hangs": wrong_hanging, "files": wrong_files}
+PARTS_OF_PAGE = {"a pattern and its matches": wrong_search, "a report in slices": wrong_slices, "edits": wrong_edits,
+                 "replacement": wrong_replacement, "a pattern on which RegExp hangs": wrong_hanging, "files": wrong_files}

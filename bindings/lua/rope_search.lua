@@ -75,6 +75,13 @@ bool rope_search_listed_before(rope_search *, rope_search_position, rope_search_
 bool rope_search_list_index(rope_search *, size_t, size_t, size_t *, size_t *);
 rope_search_stretch rope_search_changed(rope_search *);
 size_t rope_search_text_changes(rope_search *, rope_search_text_change *, size_t);
+uint32_t rope_search_begin_pattern(rope_search *, const uint8_t *, size_t);
+uint32_t rope_search_advance(rope_search *, size_t, bool *);
+uint32_t rope_search_cancel(rope_search *);
+bool rope_search_pending(rope_search *, size_t *);
+uint32_t rope_search_count_pending(rope_search *, size_t, size_t, size_t *);
+uint32_t rope_search_copy_pending(rope_search *, size_t, size_t, rope_search_span *, size_t, size_t *);
+uint32_t rope_search_window(rope_search *, size_t, size_t, rope_search_span *, size_t, size_t *);
 rope_search_counts rope_search_counted(rope_search *);
 ]])
 
@@ -145,6 +152,16 @@ end
 
 local function spot(of)
   return { line = tonumber(of.line), column = tonumber(of.column) }
+end
+
+-- The first matches of a buffer, each with its line and its two columns.
+local function spans(out, count)
+  local matches = {}
+  for i = 0, count - 1 do
+    local span = out[i]
+    matches[i + 1] = { line = tonumber(span.line), start = tonumber(span.start), stop = tonumber(span.stop) }
+  end
+  return matches
 end
 
 local ALL = ffi.cast("size_t", -1)
@@ -399,12 +416,7 @@ function Session:matches(start, stop, encoding)
     local bits = BITS[encoding] or 0
     count = tonumber(calls.rope_search_copy_matches_in(self.handle, bits, start or 0, stop or ALL, out, count))
   end
-  local matches = {}
-  for i = 0, count - 1 do
-    local span = out[i]
-    matches[i + 1] = { line = tonumber(span.line), start = tonumber(span.start), stop = tonumber(span.stop) }
-  end
-  return matches
+  return spans(out, count)
 end
 
 -- The groups of match `number` in row `line`, both from 0: [0] is the match, [1] to [9] are nil where
@@ -479,6 +491,65 @@ function Session:text_changes()
     }
   end
   return changes
+end
+
+-- Makes a pattern pending: `advance` makes its report in slices. Until then the pattern and the report
+-- stay.
+function Session:begin_pattern(pattern)
+  return told(calls.rope_search_begin_pattern(self.handle, pattern, #pattern))
+end
+
+-- Searches up to so many further lines for the pending pattern, and returns whether all are done: then
+-- it is the pattern, as if it had been set.
+function Session:advance(max_lines)
+  local done = ffi.new("bool[1]")
+  local status = calls.rope_search_advance(self.handle, max_lines, done)
+  return told(status, done[0])
+end
+
+-- Drops the pending pattern, if there is one.
+function Session:cancel()
+  return told(calls.rope_search_cancel(self.handle))
+end
+
+-- How many lines are done for the pending pattern; nil without one.
+function Session:pending()
+  local lines = ffi.new("size_t[1]")
+  return calls.rope_search_pending(self.handle, lines) and tonumber(lines[0]) or nil
+end
+
+-- How many matches the lines from one to another have that are done, and these matches; all, where no
+-- lines are given.
+function Session:count_pending(start, stop)
+  local count = ffi.new("size_t[1]")
+  local status = calls.rope_search_count_pending(self.handle, start or 0, stop or ALL, count)
+  return told(status, tonumber(count[0]))
+end
+
+function Session:pending_matches(start, stop)
+  local room, why = self:count_pending(start, stop)
+  if not room then
+    return nil, why
+  end
+  local out, count = ffi.new("rope_search_span[?]", math.max(1, room)), ffi.new("size_t[1]")
+  local status = calls.rope_search_copy_pending(self.handle, start or 0, stop or ALL, out, room, count)
+  return told(status, spans(out, room))
+end
+
+-- The matches of the lines from one to another under the pending pattern. Those that are not done are
+-- searched: once more, if there are more matches than `room`, 1024 where it isn't given.
+function Session:window(start, stop, room)
+  room = math.max(1, room or 1024)
+  local count = ffi.new("size_t[1]")
+  while true do
+    local out = ffi.new("rope_search_span[?]", room)
+    local status = calls.rope_search_window(self.handle, start, stop, out, room, count)
+    local found = tonumber(count[0])
+    if found <= room then
+      return told(status, spans(out, found))
+    end
+    room = found
+  end
 end
 
 -- The rows that were made so far, and the searches of a whole text.

@@ -87,7 +87,7 @@ class Fault(Exception):
 
 
 class Nothing(Fault):
-    """There is no such buffer, no pattern, or no text to go back or forward to."""
+    """There is no such buffer, no pattern, none pending, or no text to go back or forward to."""
 
 
 class Range(Fault):
@@ -252,6 +252,13 @@ _CALLS = {
     "list_index": (ctypes.c_bool, _HANDLE, _SIZE, _SIZE, ctypes.POINTER(_SIZE), ctypes.POINTER(_SIZE)),
     "changed": (_Stretch, _HANDLE),
     "text_changes": (_SIZE, _HANDLE, ctypes.POINTER(_TextChange), _SIZE),
+    "begin_pattern": (_STATUS, _HANDLE, _BYTES, _SIZE),
+    "advance": (_STATUS, _HANDLE, _SIZE, ctypes.POINTER(ctypes.c_bool)),
+    "cancel": (_STATUS, _HANDLE),
+    "pending": (ctypes.c_bool, _HANDLE, ctypes.POINTER(_SIZE)),
+    "count_pending": (_STATUS, _HANDLE, _SIZE, _SIZE, ctypes.POINTER(_SIZE)),
+    "copy_pending": (_STATUS, _HANDLE, _SIZE, _SIZE, ctypes.POINTER(_Span), _SIZE, ctypes.POINTER(_SIZE)),
+    "window": (_STATUS, _HANDLE, _SIZE, _SIZE, ctypes.POINTER(_Span), _SIZE, ctypes.POINTER(_SIZE)),
     "counted": (_Counts, _HANDLE),
 }
 # What is handed over where the header has such a number.
@@ -593,6 +600,56 @@ class Session:
         out = (_TextChange * max(1, count))()
         self._calls.rope_search_text_changes(self._open(), out, count)
         return [TextChange(one.old_start, one.old_end, one.new_start, one.new_end) for one in out[:count]]
+
+    # ---- a pending pattern
+
+    def begin_pattern(self, pattern: Text) -> None:
+        """Makes a pattern pending: advance makes its report in slices. Until then the pattern and the report stay. Refused:
+        Utf8, Pattern, Limit, Memory."""
+        pattern = _bytes_of(pattern)
+        _check(self._calls.rope_search_begin_pattern(self._handle, pattern, len(pattern)))
+
+    def advance(self, max_lines: int) -> bool:
+        """Searches up to so many further lines for the pending pattern, and returns whether all are done: then it is the
+        pattern, as if it had been set. Refused: Nothing, Memory."""
+        done = ctypes.c_bool()
+        _check(self._calls.rope_search_advance(self._handle, max_lines, done))
+        return done.value
+
+    def cancel(self) -> None:
+        """Drops the pending pattern, if there is one."""
+        _check(self._calls.rope_search_cancel(self._handle))
+
+    @property
+    def pending(self) -> Optional[int]:
+        """The number of lines that are done for the pending pattern; None without one."""
+        lines = ctypes.c_size_t()
+        return lines.value if self._calls.rope_search_pending(self._open(), lines) else None
+
+    def count_pending(self, start: int = 0, stop: Optional[int] = None) -> int:
+        """How many matches the lines from one to another have that are done. Refused: Nothing."""
+        count = ctypes.c_size_t()
+        _check(self._calls.rope_search_count_pending(self._handle, start, _ALL if stop is None else stop, count))
+        return count.value
+
+    def pending_matches(self, start: int = 0, stop: Optional[int] = None) -> List[Span]:
+        """These matches. Refused: Nothing."""
+        stop = _ALL if stop is None else stop
+        room, count = self.count_pending(start, stop), ctypes.c_size_t()
+        out = (_Span * max(1, room))()
+        _check(self._calls.rope_search_copy_pending(self._handle, start, stop, out, room, count))
+        return [Span(span.line, span.start, span.stop) for span in out[:room]]
+
+    def window(self, start: int, stop: int, room: int = 1_024) -> List[Span]:
+        """The matches of the lines from one to another under the pending pattern. Those that are not done are searched: once
+        more, if there are more matches than `room`. Refused: Nothing, Memory."""
+        count = ctypes.c_size_t(room)
+        while True:
+            room = max(1, count.value)
+            out = (_Span * room)()
+            _check(self._calls.rope_search_window(self._handle, start, stop, out, room, count))
+            if count.value <= room:
+                return [Span(span.line, span.start, span.stop) for span in out[:count.value]]
 
     @property
     def counted(self) -> Counts:

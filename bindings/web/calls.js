@@ -79,6 +79,13 @@ export const CALLS = {
   list_index: ["size size", found("index", "count")],
   changed: ["", structure("stretch")],
   text_changes: ["", copies("text_change")],
+  begin_pattern: ["text", status()],
+  advance: ["size", status("bool")],
+  cancel: ["", status()],
+  pending: ["", found("size")],
+  count_pending: ["size size", status("size")],
+  copy_pending: ["size size", copies("span", "status")],
+  window: ["size size", copies("span", "status")],
   counted: ["", structure("counts")],
 };
 

@@ -255,5 +255,19 @@ export class Session {
   changed(): Stretch;
   /** The ranges in which the last accepted command on the chosen buffer replaced its text. Refused: Memory. */
   textChanges(): TextChange[];
+  /** Makes a pattern pending: `advance` makes its report in slices. Refused: Utf8, Pattern, Limit, Memory. */
+  beginPattern(pattern: Text): void;
+  /** Searches further lines for the pending pattern, and returns whether all are done. Refused: Nothing, Memory. */
+  advance(maxLines: number): boolean;
+  /** Drops the pending pattern. */
+  cancel(): void;
+  /** The number of lines that are done for the pending pattern. */
+  pending(): number | null;
+  /** The number of matches in lines that are done. Refused: Nothing. */
+  countPending(from: number, to: number): number;
+  /** The matches in lines that are done. Refused: Nothing, Memory. */
+  copyPending(from: number, to: number): Span[];
+  /** The matches of lines under the pending pattern. Lines that are not done are searched. Refused: Nothing, Memory. */
+  window(from: number, to: number): Span[];
   counted(): Counts;
 }

@@ -61,8 +61,9 @@ class Keys:
     def __init__(self, number):
         self.number, self.typed, self.decoder = number, "", codecs.getincrementaldecoder("utf-8")("ignore")
 
-    def is_waiting(self, seconds=0):
-        return bool(select.select([self.number], [], [], seconds)[0])
+    def is_waiting(self, seconds=0, *others):
+        """Whether something was typed, or there is something to read from other files."""
+        return bool(select.select([self.number, *others], [], [], seconds)[0])
 
     def wait(self, other):
         """Waits until a key is typed, and tells whether one was, or till there is something to read from another file,

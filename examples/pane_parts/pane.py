@@ -74,20 +74,22 @@ class Pane:
         the one that comes next."""
         if self.spelled() != self.asked:
             self.set_pattern()
-            rows = self.document.rows
+            self.document.show(self.shown())
+            rows, is_pending = self.document.rows, self.document.is_pending
             if self.document.count and not any(rows[line] for line in self.shown() if line < len(rows)):
-                match = self.document.match_behind(self.top, (-1, -1)) or self.document.match_behind(0, (-1, -1))
-                self.top = match[0]
+                match = self.document.match_behind(self.top, (-1, -1))
+                match = match or (None if is_pending else self.document.match_behind(0, (-1, -1)))
+                self.top = match[0] if match else self.top
 
     def report(self):
         """Which match was gone to, and how many there are."""
-        count = self.document.count
+        count, more = self.document.count, "+" * self.document.is_pending
         if not self.document.has_pattern:
             return ""
         if self.found and self.found[0][0] == self.found[1][0] and count:
             (line, start), (_, end) = self.found
-            return f"{self.document.number_of(line, start, end)} of {count}"
-        return f"{count} match{'es' * (count != 1)}" + ", and one over lines" * bool(self.found)
+            return f"{self.document.number_of(line, start, end)} of {count}{more}"
+        return f"{count}{more} match{'es' * (count != 1 or bool(more))}" + ", and one over lines" * bool(self.found)
 
     def go_to_match(self, is_back):
         """Goes to the match behind the one that was gone to, or before it, or else that is nearest to the cursor; from
@@ -97,6 +99,9 @@ class Pane:
         rows = self.document.rows
         line, column = self.found[0] if self.found else self.place_shown()
         if not self.document.has_pattern:
+            return
+        if not self.document.count and self.document.is_pending:
+            self.told = "still searching"
             return
         if not self.document.count:
             self.find_over_lines()
@@ -346,6 +351,7 @@ class Pane:
 
     def draw(self):
         """Shows the head, and below it the lines from `top` on."""
+        self.document.show(self.shown())
         lines, (_, width) = self.document.text.lines, self.size()
         out = f"\x1b[H\x1b[K{self.head()}"
         for row, line in enumerate(self.shown()):

@@ -51,15 +51,16 @@ worker.onmessage = ({ data }) => {
     $("fault").textContent = `The session can't go on: ${data.broken}. Load the page anew.`;
     return;
   }
-  answered = data.number;
+  // A slice of the report comes without a number.
+  answered = data.number ?? answered;
   show(data.view);
   flush();
   noteIdle();
 };
 
-/** Whether all that was sent is shown: tests wait for it. */
+/** Whether all that was sent is shown, and no line is left to search: tests wait for it. */
 function noteIdle() {
-  document.documentElement.dataset.idle = String(answered === sent && waiting.size === 0);
+  document.documentElement.dataset.idle = String(answered === sent && waiting.size === 0 && view?.done === null);
 }
 
 // ---- painting
@@ -78,16 +79,19 @@ function show(next) {
   showFault();
   $("undo").disabled = !view.canUndo;
   $("redo").disabled = !view.canRedo;
-  for (const id of ["previous", "next", "replace", "replaceAll"]) $(id).disabled = view.all === 0;
-  $("hereAll").textContent = milliseconds(view.times.all);
+  for (const id of ["previous", "next", "replace", "replaceAll"]) $(id).disabled = view.all === 0 || view.done !== null;
+  $("hereWindow").textContent = milliseconds(view.times.window);
+  $("hereAll").textContent = view.times.all === null ? "–" : `${milliseconds(view.times.all)}, at most ${milliseconds(view.times.slice)} in one slice`;
   const rows = view.changed.added;
   $("hereEdit").textContent = view.times.edit === null ? "–" : `${milliseconds(view.times.edit)}, ${number(rows)} ${rows === 1 ? "row" : "rows"}`;
-  $("hereCount").textContent = view.hasPattern ? number(view.all) : "–";
+  $("hereCount").textContent = view.hasPattern && view.done === null ? number(view.all) : "–";
 }
 
 function showPlace() {
   const all = number(view.all);
-  const text = view.index === null ? `${all} ${view.all === 1 ? "match" : "matches"}` : `${number(view.index + 1)} of ${all}`;
+  const counted = `${all} ${view.all === 1 ? "match" : "matches"}`;
+  const text = view.done !== null ? `${counted} in ${number(view.done)} of ${number(view.count)} lines`
+    : view.index === null ? counted : `${number(view.index + 1)} of ${all}`;
   $("place").textContent = view.hasPattern ? text : "no pattern";
 }
 

@@ -7,13 +7,17 @@ import { linesOf } from "./sample.js";
 
 /** A longer line is shown up to here. */
 const SHOWN = 1000;
+/** The number of lines that are searched between two commands. */
+const SLICE = 4000;
 let session;
 let caret = { line: 0, column: 0 };
 /** The column that moves up and down aim at. */
 let aim = 0;
 let shown = { first: 0, count: 60 };
 let fault = null;
-const times = { all: null, edit: null };
+/** The pattern that is set or pending, or null. */
+let pattern = null;
+const times = { window: null, all: null, slice: null, edit: null };
 
 const start = async (module) => {
   const library = await load(module);
@@ -115,26 +119,55 @@ function timed(what, call) {
   times[what] = performance.now() - began;
 }
 
+// ---- the report, in slices
+
+/** Makes the pattern pending, and searches the lines that the window shows. The others follow in slices. */
+function begin() {
+  session.off();
+  session.beginPattern(pattern);
+  Object.assign(times, { all: 0, slice: 0 });
+  timed("window", () => session.window(shown.first, Math.min(session.textLines(), shown.first + shown.count)));
+}
+
+/** Searches further lines of the text for the pending pattern. */
+function slice() {
+  const began = performance.now();
+  session.advance(SLICE);
+  const time = performance.now() - began;
+  times.all += time;
+  times.slice = Math.max(times.slice, time);
+}
+
+function drop() {
+  session.off();
+  pattern = null;
+  Object.assign(times, { window: null, all: null, slice: null });
+}
+
 const commands = {
   start: ({ module }) => start(module),
   load({ bytes }) {
-    session.setText(new Uint8Array(bytes));
-    place([0, 0]);
-  },
-  pattern({ pattern }) {
-    fault = null;
-    if (pattern === "") {
-      session.off();
-      times.all = null;
-      return;
-    }
+    // Without a pattern no line is searched before the text is there.
+    if (pattern !== null) session.off();
     try {
-      timed("all", () => session.setPattern(pattern));
+      session.setText(new Uint8Array(bytes));
+      place([0, 0]);
+    } finally {
+      if (pattern !== null) begin();
+    }
+  },
+  pattern(given) {
+    fault = null;
+    if (given.pattern === "") return drop();
+    try {
+      pattern = given.pattern;
+      begin();
     } catch (error) {
-      session.off();
+      drop();
       if (!(error instanceof Refused)) throw error;
       // The place is in bytes; what is shown counts code units.
-      const at = error instanceof Pattern ? new TextDecoder().decode(new TextEncoder().encode(pattern).slice(0, error.place)).length : null;
+      const bytes = new TextEncoder().encode(given.pattern);
+      const at = error instanceof Pattern ? new TextDecoder().decode(bytes.slice(0, error.place)).length : null;
       fault = { message: error.reason ?? error.message, at };
     }
   },
@@ -170,6 +203,8 @@ const commands = {
     shown = { first, count };
   },
 };
+/** Commands for the listed matches, which are ignored until all lines are searched. */
+const OF_MATCHES = ["go", "replace", "replaceAll"];
 /** Commands after which the window shows the caret. */
 const REVEALING = ["insert", "remove", "move", "go", "undo", "redo", "replace", "load"];
 
@@ -189,24 +224,33 @@ function view(reveal, refused) {
   const last = Math.min(count, shown.first + shown.count);
   const lines = [];
   for (let line = shown.first; line < last; line++) lines.push({ text: lineShown(line), spans: [] });
-  for (const { line, start, stop } of session.matches(shown.first, last)) {
+  const done = session.pending();
+  const spans = done === null ? session.matches(shown.first, last) : session.window(shown.first, last);
+  for (const { line, start, stop } of spans) {
     if (start <= SHOWN) lines[line - shown.first].spans.push([start, Math.min(stop, SHOWN)]);
   }
-  const match = current();
-  const { index, count: all } = match === null ? { index: null, count: session.countMatches(0, session.rows()) }
-    : session.listIndex(match.line, match.number);
   return {
-    first: shown.first, lines, count, caret, match, index, all, fault, refused, reveal, times,
-    hasPattern: session.rows() > 0, canUndo: session.canUndo(), canRedo: session.canRedo(),
+    first: shown.first, lines, count, caret, done, fault, refused, reveal, times, ...placeAmong(done),
+    hasPattern: pattern !== null, canUndo: session.canUndo(), canRedo: session.canRedo(),
     changed: session.changed(), memory: session.library.memoryBytes,
   };
+}
+
+/** The match at the caret, its number, and how many there are: among the lines that are done, if not all are. */
+function placeAmong(done) {
+  if (done !== null) return { match: null, index: null, all: session.countPending(0, done) };
+  const match = current();
+  if (match === null) return { match, index: null, all: session.countMatches(0, session.rows()) };
+  const { index, count: all } = session.listIndex(match.line, match.number);
+  return { match, index, all };
 }
 
 /** Carries out a command, and gives the view after it. A refusal is shown; the session is as it was. */
 async function answered(data) {
   let refused = null;
   try {
-    await commands[data.do](data);
+    const isIgnored = OF_MATCHES.includes(data.do) && session.pending() !== null;
+    if (!isIgnored) await commands[data.do](data);
   } catch (error) {
     if (!(error instanceof Refused)) throw error;
     refused = error.message;
@@ -222,6 +266,7 @@ async function carryOut(data) {
     } else {
       postMessage({ view: await answered(data), number: data.number });
     }
+    slices();
   } catch (error) {
     postMessage({ broken: String(error), number: data.number });
   }
@@ -229,6 +274,33 @@ async function carryOut(data) {
 
 /** Commands are carried out in their order, also those that come while the library is loaded. */
 let last = Promise.resolve();
+/** Whether a slice waits for its turn. */
+let isSliceDue = false;
+
+/** Has a slice made after the commands that have come by then, if lines are left. */
+function slices() {
+  if (isSliceDue || session.pending() === null) return;
+  isSliceDue = true;
+  setTimeout(() => {
+    last = last.then(sliceInTurn);
+  });
+}
+
+function sliceInTurn() {
+  isSliceDue = false;
+  if (session.pending() === null) return;
+  try {
+    slice();
+    postMessage({ view: view(false, null) });
+    slices();
+  } catch (error) {
+    if (!(error instanceof Refused)) return postMessage({ broken: String(error) });
+    drop();
+    fault = { message: error.message, at: null };
+    postMessage({ view: view(false, null) });
+  }
+}
+
 onmessage = ({ data }) => {
   last = last.then(() => carryOut(data));
 };

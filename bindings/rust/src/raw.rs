@@ -209,6 +209,32 @@ extern "C" {
         out: *mut TextChange,
         out_len: usize,
     ) -> usize;
+    fn rope_search_begin_pattern(session: *mut RawSession, pattern: *const u8, len: usize) -> u32;
+    fn rope_search_advance(session: *mut RawSession, max_lines: usize, done: *mut bool) -> u32;
+    fn rope_search_cancel(session: *mut RawSession) -> u32;
+    fn rope_search_pending(session: *mut RawSession, lines: *mut usize) -> bool;
+    fn rope_search_count_pending(
+        session: *mut RawSession,
+        from: usize,
+        to: usize,
+        count: *mut usize,
+    ) -> u32;
+    fn rope_search_copy_pending(
+        session: *mut RawSession,
+        from: usize,
+        to: usize,
+        out: *mut Span,
+        out_len: usize,
+        count: *mut usize,
+    ) -> u32;
+    fn rope_search_window(
+        session: *mut RawSession,
+        from: usize,
+        to: usize,
+        out: *mut Span,
+        out_len: usize,
+        count: *mut usize,
+    ) -> u32;
     fn rope_search_counted(session: *mut RawSession) -> Counts;
 }
 
@@ -482,6 +508,45 @@ impl Handle {
 
     pub fn text_changes(&self, out: &mut [TextChange]) -> usize {
         unsafe { rope_search_text_changes(self.ptr(), out.as_mut_ptr(), out.len()) }
+    }
+
+    pub fn begin_pattern(&mut self, pattern: &[u8]) -> Result<()> {
+        let (pattern, len) = (pattern.as_ptr(), pattern.len());
+        check(unsafe { rope_search_begin_pattern(self.ptr(), pattern, len) })
+    }
+
+    pub fn advance(&mut self, max_lines: usize) -> Result<bool> {
+        let mut done = false;
+        check(unsafe { rope_search_advance(self.ptr(), max_lines, &mut done) })?;
+        Ok(done)
+    }
+
+    pub fn cancel(&mut self) -> Result<()> {
+        check(unsafe { rope_search_cancel(self.ptr()) })
+    }
+
+    pub fn pending(&self) -> Option<usize> {
+        let mut lines = 0;
+        let is_pending = unsafe { rope_search_pending(self.ptr(), &mut lines) };
+        is_pending.then_some(lines)
+    }
+
+    pub fn count_pending(&self, from: usize, to: usize) -> Result<usize> {
+        let mut count = 0;
+        check(unsafe { rope_search_count_pending(self.ptr(), from, to, &mut count) })?;
+        Ok(count)
+    }
+
+    pub fn copy_pending(&self, from: usize, to: usize, out: &mut [Span]) -> Result<usize> {
+        let (out, len, mut count) = (out.as_mut_ptr(), out.len(), 0);
+        check(unsafe { rope_search_copy_pending(self.ptr(), from, to, out, len, &mut count) })?;
+        Ok(count)
+    }
+
+    pub fn window(&self, from: usize, to: usize, out: &mut [Span]) -> Result<usize> {
+        let (out, len, mut count) = (out.as_mut_ptr(), out.len(), 0);
+        check(unsafe { rope_search_window(self.ptr(), from, to, out, len, &mut count) })?;
+        Ok(count)
     }
 
     pub fn counted(&self) -> Counts {

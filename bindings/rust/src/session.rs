@@ -196,12 +196,7 @@ impl Session {
     /// or too heavy; [`Error::Memory`].
     pub fn set_pattern(&mut self, pattern: impl AsRef<[u8]>) -> Result<()> {
         let pattern = pattern.as_ref();
-        match self.handle.set_pattern(pattern) {
-            Err(Error::Pattern(unplaced)) => {
-                Err(Error::Pattern(pattern_error(pattern)?.unwrap_or(unplaced)))
-            }
-            done => done,
-        }
+        placed(self.handle.set_pattern(pattern), pattern)
     }
 
     /// Drops the pattern, if there is one.
@@ -716,9 +711,105 @@ impl Session {
         out
     }
 
+    /// Makes a pattern pending, in place of any other that is: [`Session::advance`] makes its report in slices, so
+    /// that no call takes longer than one. Until all lines are done, the pattern and the report stay, and follow
+    /// all edits.
+    ///
+    /// # Errors
+    ///
+    /// Those of [`Session::set_pattern`]; what was pending then stays.
+    ///
+    /// ```
+    /// use rope_search::{Session, Span};
+    ///
+    /// let mut session = Session::new()?;
+    /// session.set_text("one two\none\ntwo")?;
+    /// session.begin_pattern("one|two")?;
+    /// let mut out = [Span::default(); 8];
+    /// assert_eq!(session.window(2..3, &mut out)?, 1);
+    /// assert_eq!(out[0], Span { line: 2, start: 0, stop: 3 });
+    /// assert!(!session.advance(2)?);
+    /// session.edit((1, 0)..(1, 0), "no ")?;
+    /// assert_eq!(session.pending(), Some(1));
+    /// while !session.advance(2)? {}
+    /// assert_eq!(session.count_matches(..), 4);
+    /// # Ok::<(), rope_search::Error>(())
+    /// ```
+    pub fn begin_pattern(&mut self, pattern: impl AsRef<[u8]>) -> Result<()> {
+        let pattern = pattern.as_ref();
+        placed(self.handle.begin_pattern(pattern), pattern)
+    }
+
+    /// Searches up to `max_lines` further lines for the pending pattern, from the first that is not done, and
+    /// returns whether all are done: the session is then as [`Session::set_pattern`] would have left it.
+    ///
+    /// # Errors
+    ///
+    /// [`Error::Nothing`] if no pattern is pending; [`Error::Memory`].
+    pub fn advance(&mut self, max_lines: usize) -> Result<bool> {
+        self.handle.advance(max_lines)
+    }
+
+    /// Drops the pending pattern, if there is one.
+    pub fn cancel(&mut self) {
+        let done = self.handle.cancel();
+        debug_assert_eq!(done, Ok(()));
+    }
+
+    /// Returns the number of lines that are done for the pending pattern; `None` without one.
+    pub fn pending(&self) -> Option<usize> {
+        self.handle.pending()
+    }
+
+    /// Returns the number of matches in a range of the lines that are done.
+    ///
+    /// # Errors
+    ///
+    /// [`Error::Nothing`] if no pattern is pending.
+    pub fn count_pending(&self, lines: impl RangeBounds<usize>) -> Result<usize> {
+        let (from, to) = rows_of(&lines);
+        self.handle.count_pending(from, to)
+    }
+
+    /// Copies the matches in a range of the lines that are done to the front of `out`, as many as fit, and
+    /// returns their number.
+    ///
+    /// # Errors
+    ///
+    /// [`Error::Nothing`] if no pattern is pending.
+    pub fn copy_pending(
+        &self,
+        lines: impl RangeBounds<usize>,
+        out: &mut [Span],
+    ) -> Result<usize> {
+        let (from, to) = rows_of(&lines);
+        self.handle.copy_pending(from, to, out)
+    }
+
+    /// Copies the matches of a range of lines under the pending pattern to the front of `out`, as many as fit, and
+    /// returns their number. The lines that are not done are searched: each is counted, and not kept.
+    ///
+    /// # Errors
+    ///
+    /// [`Error::Nothing`] if no pattern is pending; [`Error::Memory`].
+    pub fn window(&self, lines: impl RangeBounds<usize>, out: &mut [Span]) -> Result<usize> {
+        let (from, to) = rows_of(&lines);
+        self.handle.window(from, to, out)
+    }
+
     /// Returns what the session counted.
     pub fn counted(&self) -> Counts {
         self.handle.counted()
+    }
+}
+
+/// What was answered for a pattern; where it is none, with the place and the reason.
+fn placed(answer: Result<()>, pattern: &[u8]) -> Result<()> {
+    match answer {
+        Err(Error::Pattern(unplaced)) => {
+            Err(Error::Pattern(pattern_error(pattern)?.unwrap_or(unplaced)))
+        }
+        done => done,
     }
 }
 

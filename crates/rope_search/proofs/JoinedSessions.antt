@@ -32,6 +32,7 @@ joined_state items k limit old new s steps c (Err fault) told = tt
 
 pub joined_kept : (items : List LimitedBuffer) (k limit : ℕ) (old new : LimitedBuffer) (s t : LimitedSession) (steps : ℕ) → Chosen items k limit old s
     → (result : Result (Unit {0}) Fault) → t.buffers ≡ slice_set items k new → t.state ≡ state_with items k new → t.changed ≡ told_with items k new
-    → OnOk result (JoinsChanges old.changes old.state.current steps new.changes) → new.text_changes ≡ old.text_changes → OnOk result (ChangesChosen (KeepsJoined steps) s t)
-joined_kept items k limit old new s t steps c (Ok tt) put state rows told same = keeps (KeepsJoined steps) items k limit old new s t c put state rows (told, same)
-joined_kept items k limit old new s t steps c (Err fault) put state rows told same = tt
+    → OnOk result (JoinsChanges old.changes old.state.current steps new.changes) → new.text_changes ≡ old.text_changes → new.pending ≡ old.pending
+    → OnOk result (ChangesChosen (KeepsJoined steps) s t)
+joined_kept items k limit old new s t steps c (Ok tt) put state rows told same still = keeps (KeepsJoined steps) items k limit old new s t c put state rows (told, same, still)
+joined_kept items k limit old new s t steps c (Err fault) put state rows told same still = tt

@@ -4,6 +4,7 @@ use Rattle.std.specs.Prelude.{Result, Ok, Err, OnOk, OnErr}
 use Rattle.std.proofs.lemmas.List.{set-get_or, get_or-set_same}
 use Rattle.rope_search_io.specs.declared.faults.Fault.{Fault}
 use Rattle.rope_search.specs.Edits.{FullEdit, KeepsEdits}
+use Rattle.rope_search.specs.Pending.{KeepsPending}
 use Rattle.rope_search.specs.Session.{State, LimitedBuffer, LimitedSession, chosen_buffer, chosen_in, no_buffer}
 use Rattle.rope_search.specs.TextsKept.{ChangesChosen, KeepsEditsOf, TellsText}
 use Rattle.rope_search.proofs.SessionLemmas.{Chosen, Chosen-state, state_with}
@@ -49,10 +50,10 @@ same-there items k limit old new s c same =
 
 pub texts_told : (items : List LimitedBuffer) (k limit : ℕ) (old new : LimitedBuffer) (s t : LimitedSession) → Chosen items k limit old s
     → (edits : List FullEdit) (result : Result (Unit {0}) Fault) → t.buffers ≡ slice_set items k new → t.state ≡ state_with items k new → t.changed ≡ told_with items k new
-    → OnOk result (KeepsEdits old edits new) → OnOk result (TellsText old new)
+    → OnOk result (KeepsEdits old edits new) → OnOk result (TellsText old new) → OnOk result (KeepsPending old new)
     → OnOk result (ChangesChosen (KeepsEditsOf edits) s t)
-texts_told items k limit old new s t c edits (Ok tt) put state rows kept text = keeps (KeepsEditsOf edits) items k limit old new s t c put state rows (kept, text)
-texts_told items k limit old new s t c edits (Err fault) put state rows kept text = tt
+texts_told items k limit old new s t c edits (Ok tt) put state rows kept text pending = keeps (KeepsEditsOf edits) items k limit old new s t c put state rows (kept, text, pending)
+texts_told items k limit old new s t c edits (Err fault) put state rows kept text pending = tt
 
 pub still_told : (items : List LimitedBuffer) (k limit : ℕ) (old new : LimitedBuffer) (s : LimitedSession) → Chosen items k limit old s
     → (result : Result (Unit {0}) Fault) → OnErr result (new ≡ old) → OnErr result (slice_set items k new ≡ s.buffers)

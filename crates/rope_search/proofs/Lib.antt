@@ -13,6 +13,8 @@ pub mod HistoryLaws
 pub mod HistoryLemmas
 pub mod KeepLemmas
 pub mod StretchLemmas
+pub mod WindowLemmas
+pub mod PendingLemmas
 pub mod ChangedLemmas
 pub mod LineLaws
 pub mod MatchLemmas
@@ -55,6 +57,7 @@ pub mod StayLemmas
 pub mod JoinSteps
 pub mod JoinedLemmas
 pub mod JoinedSessions
+pub mod PendingSessions
 pub mod PlacedLemmas
 pub mod MatchEditLemmas
 pub mod MatchAnswerLemmas

@@ -8,6 +8,7 @@ use Rattle.rope_search_reports.specs.LineGroups.{LineReplacedIsText, joined}
 use Rattle.rope_search_reports.specs.Text.{IsText}
 use Rattle.rope_search.specs.Changed.{Replaces}
 use Rattle.rope_search.specs.Laws.{HoldsTexts}
+use Rattle.rope_search.specs.Pending.{KeepsPending}
 use Rattle.rope_search.specs.ListedReplacing.{GetsTooLongListed, IsListedReplacement, KeepsListed, KeepsListedOf, RowsOfListed, SpansListed, StepByListed, TellsListed}
 use Rattle.rope_search.specs.Replacing.{text_with}
 use Rattle.rope_search.specs.Session.{BufferState, LimitedBuffer, LimitedSession, State, chosen_buffer, current_text, limit_in, with_edit}
@@ -107,10 +108,10 @@ module _ (items : List LimitedBuffer) (k limit : ℕ) (old new : LimitedBuffer) 
   tells-listed template (Err fault) replaces few = tt
 
   pub texts-listed : (t : LimitedSession) (template : List ℕ) (result : Result ℕ Fault) → t.buffers ≡ slice_set items k new → t.state ≡ state_with items k new
-      → t.changed ≡ told_with items k new → OnOk result (KeepsListed old from to template new) → OnOk result (TellsText old new)
+      → t.changed ≡ told_with items k new → OnOk result (KeepsListed old from to template new) → OnOk result (TellsText old new) → OnOk result (KeepsPending old new)
       → OnOk result (ChangesChosen (KeepsListedOf from to template) s t)
-  texts-listed t template (Ok count) put state rows kept text = keeps (KeepsListedOf from to template) items k limit old new s t c put state rows (kept, text)
-  texts-listed t template (Err fault) put state rows kept text = tt
+  texts-listed t template (Ok count) put state rows kept text pending = keeps (KeepsListedOf from to template) items k limit old new s t c put state rows (kept, text, pending)
+  texts-listed t template (Err fault) put state rows kept text pending = tt
 
 -- ---- where the template isn't UTF-8
 

@@ -133,7 +133,7 @@ change-part keeps tails change old new n first gone end one is_first is_gone is_
 
 -- ---- rows
 
-alike : HasOneListOfMatches → (pattern : List ℕ) (lines : List (List ℕ)) (rows rows' : List (List (ℕ × ℕ))) → AreRows pattern lines rows → AreRows pattern lines rows' → rows ≡ rows'
+pub alike : HasOneListOfMatches → (pattern : List ℕ) (lines : List (List ℕ)) (rows rows' : List (List (ℕ × ℕ))) → AreRows pattern lines rows → AreRows pattern lines rows' → rows ≡ rows'
 alike law pattern [] [] [] one other = refl
 alike law pattern [] (row ∷ rows) rows' one other = absurd one
 alike law pattern [] [] (row ∷ rows') one other = absurd other
@@ -144,20 +144,20 @@ alike law pattern (line ∷ lines) (row ∷ rows) (row' ∷ rows') one other =
     let first : row ≡ row' = one.0.shown ∙ ap (map (columns (bytes_of line))) spans ∙ sym other.0.shown in
     ap (λ r. r ∷ rows) first ∙ ap (λ rs. row' ∷ rs) (alike law pattern lines rows rows' one.1 other.1)
 
-as-many : (pattern : List ℕ) (lines : List (List ℕ)) (rows : List (List (ℕ × ℕ))) → AreRows pattern lines rows → length rows ≡ length lines
+pub as-many : (pattern : List ℕ) (lines : List (List ℕ)) (rows : List (List (ℕ × ℕ))) → AreRows pattern lines rows → length rows ≡ length lines
 as-many pattern [] [] are = refl
 as-many pattern [] (row ∷ rows) are = absurd are
 as-many pattern (line ∷ lines) [] are = absurd are
 as-many pattern (line ∷ lines) (row ∷ rows) are = ap suc (as-many pattern lines rows are.1)
 
-first-rows : (pattern : List ℕ) (lines : List (List ℕ)) (rows : List (List (ℕ × ℕ))) (k : ℕ) → AreRows pattern lines rows → AreRows pattern (take k lines) (take k rows)
+pub first-rows : (pattern : List ℕ) (lines : List (List ℕ)) (rows : List (List (ℕ × ℕ))) (k : ℕ) → AreRows pattern lines rows → AreRows pattern (take k lines) (take k rows)
 first-rows pattern lines rows zero are = tt
 first-rows pattern [] [] (suc k) are = tt
 first-rows pattern [] (row ∷ rows) (suc k) are = absurd are
 first-rows pattern (line ∷ lines) [] (suc k) are = absurd are
 first-rows pattern (line ∷ lines) (row ∷ rows) (suc k) are = (are.0, first-rows pattern lines rows k are.1)
 
-last-rows : (pattern : List ℕ) (lines : List (List ℕ)) (rows : List (List (ℕ × ℕ))) (k : ℕ) → AreRows pattern lines rows → AreRows pattern (drop k lines) (drop k rows)
+pub last-rows : (pattern : List ℕ) (lines : List (List ℕ)) (rows : List (List (ℕ × ℕ))) (k : ℕ) → AreRows pattern lines rows → AreRows pattern (drop k lines) (drop k rows)
 last-rows pattern lines rows zero are = are
 last-rows pattern [] [] (suc k) are = tt
 last-rows pattern [] (row ∷ rows) (suc k) are = absurd are

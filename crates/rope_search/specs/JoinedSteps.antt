@@ -76,4 +76,4 @@ JoinsChanges changes current steps changes' =
 abbrev pub KeepsJoined : ℕ → LimitedBuffer → LimitedBuffer → Type 0
 KeepsJoined steps old new =
     JoinsChanges old.changes old.state.current steps new.changes
-    × (new.text_changes ≡ old.text_changes)
+    × (new.text_changes ≡ old.text_changes) × (new.pending ≡ old.pending)

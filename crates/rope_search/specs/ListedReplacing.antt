@@ -15,6 +15,7 @@ use Rattle.rope_search.specs.Changed.{Replaces}
 use Rattle.rope_search.specs.Histories.{with_changes}
 use Rattle.rope_search.specs.LineColumns.{columns_as}
 use Rattle.rope_search.specs.declared.encodings.Encoding.TheVariants as encoding
+use Rattle.rope_search.specs.Pending.{KeepsPending}
 use Rattle.rope_search.specs.Replacing.{text_with}
 use Rattle.rope_search.specs.Session.{BufferState, LimitedBuffer, State, chosen_buffer, current_text, with_chosen, with_edit}
 use Rattle.rope_search.specs.Stretches.{lines_spanned}
@@ -127,7 +128,7 @@ pub record TellsListed (old : State) (from to : ℕ) (template : List ℕ) (new 
 -- what the chosen buffer keeps of it
 abbrev pub KeepsListedOf : ℕ → ℕ → List ℕ → LimitedBuffer → LimitedBuffer → Type 0
 KeepsListedOf from to template old new =
-    KeepsListed old from to template new × TellsText old new
+    KeepsListed old from to template new × TellsText old new × KeepsPending old new
 
 -- ---- for the code, in a text, for a pattern
 

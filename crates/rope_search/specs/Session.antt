@@ -65,15 +65,22 @@ abbrev pub with_chosen : State → BufferState → State
 with_chosen session buffer =
     record session { buffers = slice_set session.buffers session.chosen buffer }
 
+-- a pattern that is to take the place of a buffer's, and how many lines of the current text, from
+-- the first, are searched for it
+pub record PendingPattern : Type 0 where
+  pub pattern : List ℕ
+  pub done : ℕ
+
 -- a buffer, the most bytes that a text of it has, what it keeps of its history: the changes that led
--- to each of its texts from the one before, none to the first; and which rows of its report, and
--- which ranges of its text, were replaced last
+-- to each of its texts from the one before, none to the first; which rows of its report, and which
+-- ranges of its text, were replaced last; and perhaps a pending pattern
 pub record LimitedBuffer : Type 0 where
   pub limit : ℕ
   pub state : BufferState
   pub changes : List (List Change)
   pub changed : Stretch
   pub text_changes : List TextChange
+  pub pending : Option PendingPattern
 
 -- a buffer that there is not
 abbrev pub no_buffer : LimitedBuffer
@@ -83,6 +90,7 @@ no_buffer = record {
   changes = [];
   changed = none;
   text_changes = [];
+  pending = None;
 }
 
 -- a buffer with one text and no pattern, under a limit, which tells of no call
@@ -93,6 +101,7 @@ fresh_buffer limit text = record {
   changes = [] ∷ [];
   changed = none;
   text_changes = [];
+  pending = None;
 }
 
 -- a session, the most bytes that a text in it has, of each buffer which rows of its report were

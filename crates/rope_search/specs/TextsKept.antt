@@ -1,6 +1,6 @@
 -- In which ranges a buffer tells that its text was replaced; and what a session's buffers keep of a
--- command.
-use Rattle.std.specs.Prelude.{◌≡◌, ℕ, ◌+◌, ◌≤◌, List, [], ◌∷◌, ◌++◌, map, Ok, Err, chars, slice_set}
+-- command, of a pending pattern too.
+use Rattle.std.specs.Prelude.{◌≡◌, ℕ, ◌+◌, ◌≤◌, List, [], ◌∷◌, ◌++◌, map, None, Ok, Err, chars, slice_set}
 use Rattle.str_indices.specs.Text.{byte_len}
 use Rattle.rope_search_reports.specs.Text.{bytes_of}
 use Rattle.rope_search_reports.specs.Ticks.{Ticks}
@@ -8,6 +8,7 @@ use Rattle.rope_search_reports.specs.Turned.{turned_changes}
 use Rattle.rope_search.specs.Edits.{FullEdit, KeepsEdits}
 use Rattle.rope_search.specs.Histories.{KeepsEdit, KeepsReplacement, changes_at, rows_back, rows_on}
 use Rattle.rope_search.specs.Order.{Order, SetText, EditText, UndoEdit, RedoEdit, PrintText, ForkBuffer, SetPattern, DropPattern, ListMatches, FindNext, ReplaceAll, UseBuffer}
+use Rattle.rope_search.specs.Pending.{KeepsPending}
 use Rattle.rope_search.specs.Session.{LimitedBuffer, LimitedSession, chosen_buffer, chosen_in, current_text, fresh_buffer, redone, undone}
 use Rattle.rope_search.specs.Step.{Answer}
 use Rattle.rope_search.specs.Stretches.{lines_spanned}
@@ -52,16 +53,18 @@ AddsOn old new = new.changed.added ≤ lines_spanned (bytes_of (current_text (re
 -- what the chosen buffer keeps and tells of a command that replaces its text, or its pattern
 abbrev pub KeepsOf : Order → LimitedBuffer → LimitedBuffer → Type 0
 KeepsOf (SetText payload) old new =
-    (new.changes ≡ [] ∷ []) × TellsText old new × TellsAllText old new
+    (new.changes ≡ [] ∷ []) × TellsText old new × TellsAllText old new × KeepsPending old new
 KeepsOf (EditText from to payload) old new =
-    KeepsEdit old from to (chars payload) new × TellsText old new
-KeepsOf UndoEdit old new =
-    (new.changes ≡ old.changes) × TellsText old new × TellsBack old new × AddsBack old new
-KeepsOf RedoEdit old new =
-    (new.changes ≡ old.changes) × TellsText old new × TellsForward old new × AddsOn old new
+    KeepsEdit old from to (chars payload) new × TellsText old new × KeepsPending old new
+KeepsOf UndoEdit old new = (new.changes ≡ old.changes) × TellsText old new × TellsBack old new
+    × AddsBack old new × KeepsPending old new
+KeepsOf RedoEdit old new = (new.changes ≡ old.changes) × TellsText old new × TellsForward old new
+    × AddsOn old new × KeepsPending old new
 KeepsOf (ReplaceAll payload) old new =
-    KeepsReplacement old (chars payload) new × TellsText old new
+    KeepsReplacement old (chars payload) new × TellsText old new × KeepsPending old new
+-- another pattern, or none: what was pending is dropped
 KeepsOf order old new = (new.changes ≡ old.changes) × (new.text_changes ≡ old.text_changes)
+    × (new.pending ≡ None)
 
 -- A session's chosen buffer gives way to one of which this holds. Before and after, what it keeps is
 -- kept beside the state that the session has.
@@ -77,13 +80,14 @@ pub record ChangesChosen (Keeps : LimitedBuffer → LimitedBuffer → Type 0)
 
 -- by several edits that are made as one
 abbrev pub KeepsEditsOf : List FullEdit → LimitedBuffer → LimitedBuffer → Type 0
-KeepsEditsOf edits old new = KeepsEdits old edits new × TellsText old new
+KeepsEditsOf edits old new =
+    KeepsEdits old edits new × TellsText old new × KeepsPending old new
 
 -- by dropping all but so many undo steps
 abbrev pub KeepsSteps : ℕ → LimitedBuffer → LimitedBuffer → Type 0
 KeepsSteps steps old new =
     (new.changes ≡ changes_with_steps old.changes old.state.current steps)
-    × (new.text_changes ≡ old.text_changes)
+    × (new.text_changes ≡ old.text_changes) × (new.pending ≡ old.pending)
 
 -- going back and forward makes at most as many rows as what comes back has lines
 abbrev pub MakesFew : LimitedBuffer → Order → Ticks → Ticks → Type 0

@@ -1,5 +1,5 @@
-//! A buffer: a text with its history, and perhaps a pattern.
-ghost use Rattle.std.specs.Prelude.{◌≡◌, ℕ, ◌+◌, ◌^◌, ◌<◌, ◌≤◌, ◌↔◌, ◌⊎◌, [], ◌∷◌, ◌++◌, take, drop, length, map, chars, None, Some, Err, IsTrue, OnOk, OnErr, IfOk, IfErr, IfSome, MatchOption};
+//! A buffer: a text with its history, and perhaps a pattern, and one that is pending.
+ghost use Rattle.std.specs.Prelude.{◌≡◌, ℕ, ◌+◌, ◌^◌, ◌<◌, ◌≤◌, ◌↔◌, ◌⊎◌, [], ◌∷◌, ◌++◌, take, drop, length, map, chars, None, Some, Err, IsTrue, OnOk, OnErr, IfOk, IfErr, IfSome};
 ghost use Rattle.ropey.specs.Chunks.{text_of};
 ghost use Rattle.std.specs.Str.{IsCharBoundary};
 ghost use Rattle.rope_search_reports.specs.Text.{bytes_of, line_count};
@@ -9,10 +9,8 @@ ghost use Rattle.rope_search.specs.Places.{HasNoneBetween, GetsTooLong, TellsRan
 ghost use Rattle.str_indices.specs.Text.{byte_len};
 ghost use Rattle.rope_search_reports.specs.Pattern.{IsPattern, IsTooHeavy, SpellsNone, pattern_limit};
 ghost use Rattle.rope_search_reports.specs.Position.{IsAt, IsNowhere, position};
-ghost use Rattle.rope_search_reports.specs.Ticks.{MakesAsMany, MakesAtMost, NeverFall, SearchesOneWhole};
-ghost use Rattle.rope_search.specs.Finding.{TellsPositions};
-ghost use Rattle.rope_search.specs.GroupsAt.{AnswersGroups, SearchesRow};
-ghost use Rattle.rope_search.specs.MatchEdits.{AnswersEdit, SearchesForGroups};
+ghost use Rattle.rope_search_reports.specs.Ticks.{MakesAsMany, MakesAtMost, NeverFall};
+ghost use Rattle.rope_search.specs.Pending.{KeepsPending, patterned};
 ghost use Rattle.rope_search.specs.Replacing.{IsReplacement, GetsTooLongWith, RowsOfReplacement};
 ghost use Rattle.rope_search.specs.Cost.{rows_anew};
 ghost use Rattle.rope_search.specs.Histories.{LeadOn, KeepsEdit, KeepsReplacement, changes_at, rows_back, rows_on};
@@ -25,19 +23,19 @@ ghost use Rattle.rope_search.specs.JoinedSteps.{JoinsChanges, with_joined};
 ghost use Rattle.rope_search.specs.Edits.{AcceptsEdits, AreEdits, IsFirstAgainst, KeepsEdits, RefusesEdits, SpansEdits, in_full, rows_of_edits};
 
 mod listed_edits;
+mod pending;
+mod searches;
 
+use self::pending::keep_before_change;
 use crate::edits::{Edit, edited};
 use crate::history::History;
 use crate::limits::Limits;
-use crate::match_edits::MatchEdit;
 use crate::parts::Part;
 use crate::search::{Search, row_count};
 use crate::stretches::Stretch;
 use crate::text_changes::{TextChange, put_ranges};
 use rope_search_io::Fault;
-use rope_search_reports::{
-    Changes, Finder, Groups, Lines, Position, Row, byte_of, position_of, report_of,
-};
+use rope_search_reports::{Changes, Finder, Lines, Position, Row, byte_of, position_of, report_of};
 use rope_search_templates::Replacement;
 use ropey::Rope;
 use std::alloc::Global;
@@ -51,6 +49,8 @@ pub struct Buffer {
     limits: Limits,
     history: History,
     search: Option<Search>,
+    // A pattern that is to take the place of that one, with the rows of the first lines.
+    pending: Option<Search>,
     // Which rows of the report were replaced last.
     changed: Stretch,
 }
@@ -59,6 +59,7 @@ impl Model for Buffer {
     ghost use Rattle.std.specs.Prelude.{◌+◌, ◌^◌, ◌<◌, option_map, IfSome};
     ghost use Rattle.rope_search.specs.Session.{LimitedBuffer};
     ghost use Rattle.rope_search.specs.Histories.{text_at};
+    ghost use Rattle.rope_search.specs.Searched.{HoldsPending, shown_pending};
     ghost use Rattle.rope_search.specs.TextChanges.{ranges_in};
     ghost use Rattle.rope_search_reports.specs.Report.{IsReport, match_count};
 
@@ -74,11 +75,13 @@ impl Model for Buffer {
       changes = b.history.changes;
       changed = b.changed;
       text_changes = ranges_in b.history.is_back b.history.last;
+      pending = shown_pending b.pending;
     } };
 
     ghost invariant = { λ b. IfSome b.search (λ s.
         IsReport (text_at b.history.texts b.history.current) s.finder s.rows.items
-        × (match_count s.rows.items < 2 ^ 64)) };
+        × (match_count s.rows.items < 2 ^ 64))
+        × HoldsPending (text_at b.history.texts b.history.current) b.pending };
 }
 
 impl Buffer {
@@ -93,6 +96,7 @@ impl Buffer {
             limits,
             history,
             search: None,
+            pending: None,
             changed: Stretch::none(),
         })
     }
@@ -139,6 +143,7 @@ impl Buffer {
         ensures changed { OnOk result (Replaces self.old.state self.new.state self.new.changed) }
         ensures text_changes { OnOk result (TellsText self.old self.new) }
         ensures whole { OnOk result (TellsAllText self.old self.new) }
+        ensures pending { OnOk result (KeepsPending self.old self.new) }
         ensures limit { self.new.limit ≡ self.old.limit }
         ensures size { (result ≡ Err Fault.Size) ↔ (self.old.limit < length text.now) }
         ensures fault { IfErr result (λ fault. (fault ≡ Fault.Size) ⊎ (fault ≡ Fault.Memory)) }
@@ -168,6 +173,7 @@ impl Buffer {
         }
         self.history = history;
         self.changed = Stretch::whole(removed, added);
+        keep_before_change(&mut self.pending, &self.history);
         Ok(())
     }
 
@@ -191,6 +197,7 @@ impl Buffer {
             (IsEdit self.old.state from to (chars inserted.now) self.new.state) }
         ensures kept { OnOk result (KeepsEdit self.old from to (chars inserted.now) self.new) }
         ensures text_changes { OnOk result (TellsText self.old self.new) }
+        ensures pending { OnOk result (KeepsPending self.old self.new) }
         ensures changed { OnOk result (Replaces self.old.state self.new.state self.new.changed) }
         ensures added { OnOk result
             (self.new.changed.added ≤ rows_anew self.old.state (chars inserted.now)) }
@@ -220,6 +227,7 @@ impl Buffer {
         let Some(search) = &mut self.search else {
             self.history.add(new, Changes::One(change))?;
             self.changed = Stretch::none();
+            keep_before_change(&mut self.pending, &self.history);
             return Ok(());
         };
         // All that may be refused comes before the first change.
@@ -227,6 +235,7 @@ impl Buffer {
         self.history.add(new, Changes::One(change))?;
         self.changed = patches.changed;
         search.apply(patches);
+        keep_before_change(&mut self.pending, &self.history);
         Ok(())
     }
 
@@ -250,6 +259,7 @@ impl Buffer {
             (AcceptsEdits self.old.limit (current_text self.old.state) (map in_full edits.now)) }
         ensures kept { OnOk result (KeepsEdits self.old (map in_full edits.now) self.new) }
         ensures text_changes { OnOk result (TellsText self.old self.new) }
+        ensures pending { OnOk result (KeepsPending self.old self.new) }
         ensures changed { OnOk result (Replaces self.old.state self.new.state self.new.changed) }
         ensures added { OnOk result (SpansEdits self.old.state (map in_full edits.now)
             self.new.state self.new.changed) }
@@ -272,6 +282,7 @@ impl Buffer {
         let Some(search) = &mut self.search else {
             self.history.add(text, Changes::Many(changes))?;
             self.changed = Stretch::none();
+            keep_before_change(&mut self.pending, &self.history);
             return Ok(());
         };
         // All that may be refused comes before the first change.
@@ -279,6 +290,7 @@ impl Buffer {
         self.history.add(text, Changes::Many(changes))?;
         self.changed = patches.changed;
         search.apply(patches);
+        keep_before_change(&mut self.pending, &self.history);
         Ok(())
     }
 
@@ -337,6 +349,7 @@ impl Buffer {
         ensures limit { self.new.limit ≡ self.old.limit }
         ensures changes { self.new.changes ≡ self.old.changes }
         ensures text_changes { OnOk result (TellsText self.old self.new) }
+        ensures pending { OnOk result (KeepsPending self.old self.new) }
         ensures back_ranges { OnOk result (TellsBack self.old self.new) }
         ensures nothing { (result ≡ Err Fault.Nothing) ↔ (self.old.state.current ≡ 0) }
         ensures memory { result ≡ Err Fault.Memory → self.old.state.pattern ≡ None → ⊥ }
@@ -357,6 +370,7 @@ impl Buffer {
         let Some(search) = &mut self.search else {
             self.history.step_back();
             self.changed = Stretch::none();
+            keep_before_change(&mut self.pending, &self.history);
             return Ok(());
         };
         // A law, for the proof alone.
@@ -365,6 +379,7 @@ impl Buffer {
         let changes = self.history.last_changes().turned(self.alloc)?;
         self.changed = search.follow(tick, self.alloc, current, text, changes.as_slice())?;
         self.history.step_back();
+        keep_before_change(&mut self.pending, &self.history);
         Ok(())
     }
 
@@ -379,6 +394,7 @@ impl Buffer {
         ensures limit { self.new.limit ≡ self.old.limit }
         ensures changes { self.new.changes ≡ self.old.changes }
         ensures text_changes { OnOk result (TellsText self.old self.new) }
+        ensures pending { OnOk result (KeepsPending self.old self.new) }
         ensures forward { OnOk result (TellsForward self.old self.new) }
         ensures nothing { (result ≡ Err Fault.Nothing)
             ↔ (length self.old.state.texts ≤ self.old.state.current + 1) }
@@ -400,12 +416,14 @@ impl Buffer {
         let Some(search) = &mut self.search else {
             self.history.step_forward();
             self.changed = Stretch::none();
+            keep_before_change(&mut self.pending, &self.history);
             return Ok(());
         };
         let current = self.history.current();
         let changes = version.changes.as_slice();
         self.changed = search.follow(tick, self.alloc, current, &version.text, changes)?;
         self.history.step_forward();
+        keep_before_change(&mut self.pending, &self.history);
         Ok(())
     }
 
@@ -431,6 +449,7 @@ impl Buffer {
         ensures changes { self.new.changes ≡ [] ∷ [] }
         ensures changed { self.new.changed ≡ self.old.changed }
         ensures text_changes { self.new.text_changes ≡ self.old.text_changes }
+        ensures pending { self.new.pending ≡ self.old.pending }
         ensures limit { self.new.limit ≡ self.old.limit }
     {
         // The text's facts, for the proof alone.
@@ -448,6 +467,7 @@ impl Buffer {
             ≡ changes_with_steps self.old.changes self.old.state.current steps }
         ensures changed { self.new.changed ≡ self.old.changed }
         ensures text_changes { self.new.text_changes ≡ self.old.text_changes }
+        ensures pending { self.new.pending ≡ self.old.pending }
         ensures limit { self.new.limit ≡ self.old.limit }
     {
         self.history.keep(self.alloc, steps);
@@ -472,6 +492,7 @@ impl Buffer {
             self.new.changes) }
         ensures changed { self.new.changed ≡ self.old.changed }
         ensures text_changes { self.new.text_changes ≡ self.old.text_changes }
+        ensures pending { self.new.pending ≡ self.old.pending }
         ensures limit { self.new.limit ≡ self.old.limit }
         ensures nothing { (result ≡ Err Fault.Nothing) ↔ (undo_count self.old.state < steps) }
         ensures memory { result ≡ Err Fault.Memory → 2 ≤ steps }
@@ -565,6 +586,7 @@ impl Buffer {
         ensures changes { self.new.changes ≡ self.old.changes }
         ensures text_changes { self.new.text_changes ≡ self.old.text_changes }
         ensures changed { OnOk result (Replaces self.old.state self.new.state self.new.changed) }
+        ensures all { OnOk result (self.new ≡ patterned self.old (chars pattern.now)) }
         ensures too_long { pattern_limit < length pattern.now → result ≡ Err Fault.Limit }
         ensures is_pattern { OnOk result (IsPattern (chars pattern.now)) }
         ensures too_much { result ≡ Err Fault.Limit
@@ -590,6 +612,7 @@ impl Buffer {
         let text = self.history.current();
         self.changed = Stretch::whole(row_count(&self.search, text), text.len_lines());
         self.search = Some(Search { finder, rows });
+        self.pending = None;
         Ok(())
     }
 
@@ -599,12 +622,14 @@ impl Buffer {
         ensures limit { self.new.limit ≡ self.old.limit }
         ensures changes { self.new.changes ≡ self.old.changes }
         ensures text_changes { self.new.text_changes ≡ self.old.text_changes }
+        ensures pending { self.new.pending ≡ None }
         ensures changed { Replaces self.old.state self.new.state self.new.changed }
     {
         // A law, for the proof alone.
         rope_search_reports::laws::a_row_a_line();
         self.changed = Stretch::whole(row_count(&self.search, self.history.current()), 0);
         self.search = None;
+        self.pending = None;
     }
 
     /// Returns the report of the current text, or `None` without a pattern: a row for each line,
@@ -618,90 +643,6 @@ impl Buffer {
             None => None,
             Some(search) => Some(search.rows.as_slice()),
         }
-    }
-
-    /// Returns the first match of the pattern in the whole current text that starts at a position
-    /// or behind it, as the positions of its start and end, or `None`. Looks see what stands before
-    /// the position. A place between the CR and the LF of a break has the position one past its
-    /// line's text. One search of a whole text is counted at most; time is that of a search up to
-    /// the match.
-    ///
-    /// Errors, which leave the buffer as it was: `Fault::Nothing` without a pattern, else
-    /// `Fault::Range` where the position is nowhere in the text; `Fault::Memory`.
-    pub fn next_from(
-        &mut self,
-        tick: &mut Lines,
-        from: Position,
-    ) -> Result<Option<(Position, Position)>, Fault>
-        ensures found { IfOk result (λ found. TellsPositions self.old.state from found) }
-        ensures nothing { (result ≡ Err Fault.Nothing) ↔ (self.old.state.pattern ≡ None) }
-        ensures range { (result ≡ Err Fault.Range)
-            ↔ ((self.old.state.pattern ≡ None → ⊥)
-            × IsNowhere (current_text self.old.state) (from.line, from.column)) }
-        ensures fault { IfErr result (λ fault.
-            (fault ≡ Fault.Nothing) ⊎ ((fault ≡ Fault.Range) ⊎ (fault ≡ Fault.Memory))) }
-        ensures same { self.new ≡ self.old }
-        ensures searches { SearchesOneWhole tick.old tick.new }
-    {
-        let Some(search) = &mut self.search else {
-            return Err(Fault::Nothing);
-        };
-        let found = search.next_from(tick, self.history.current(), from)?;
-        Ok(found)
-    }
-
-    /// Returns the groups 0 to 9 of a match of the report, by its line and its number in that row,
-    /// from 0: of each the columns where it starts and where it ends, in UTF-16 code units from the
-    /// line's start. Group 0 is the match; one that the pattern doesn't have, or that takes no part
-    /// in the match, is `None`. A row keeps no groups, so its line is searched once more, by itself
-    /// and up to the match: one row is counted whatever is answered, where the report has that row.
-    /// Time is linear in the line, times the pattern's weight, and `O(log n)` for each group.
-    ///
-    /// Errors, which leave the buffer as it was: `Fault::Nothing` without a pattern, else
-    /// `Fault::Range` where there is no such line, which is told without a search, or no such match
-    /// in it; `Fault::Memory`.
-    pub fn groups_at(
-        &mut self,
-        tick: &mut Lines,
-        line: usize,
-        number: usize,
-    ) -> Result<Groups, Fault>
-        ensures answer { AnswersGroups self.old.state line number result }
-        ensures same { self.new ≡ self.old }
-        ensures searches { SearchesRow self.old.state line tick.old tick.new }
-    {
-        let Some(search) = &mut self.search else {
-            return Err(Fault::Nothing);
-        };
-        let groups = search.groups_at(tick, self.history.current(), line, number)?;
-        Ok(groups)
-    }
-
-    /// The edit that replaces a match of the report, by its line and its number in that row, by
-    /// what a template stands for. It is refused with `Fault::Nothing` without a pattern, else with
-    /// `Fault::Range` where no such match is listed, else with `Fault::Size` where the new text
-    /// would have more bytes than the limit, and perhaps with `Fault::Memory`. The buffer is as it
-    /// was, whatever is answered.
-    pub(crate) fn match_edit(
-        &mut self,
-        tick: &mut Lines,
-        line: usize,
-        number: usize,
-        template: &str,
-    ) -> Result<MatchEdit, Fault>
-        ensures answer { AnswersEdit self.old.limit self.old.state line number
-            (chars template.now) result }
-        ensures same { self.new ≡ self.old }
-        ensures searches { SearchesForGroups self.old.state line number (chars template.now)
-            tick.old tick.new }
-    {
-        let Some(search) = &mut self.search else {
-            return Err(Fault::Nothing);
-        };
-        let (alloc, limits) = (self.alloc, self.limits);
-        let text = self.history.current();
-        let edit = search.match_edit(tick, alloc, limits, text, line, number, template)?;
-        Ok(edit)
     }
 
     /// Replaces all matches of the pattern in the whole current text by what the template stands
@@ -723,6 +664,7 @@ impl Buffer {
             IsReplacement self.old.state (chars template.now) count self.new.state) }
         ensures kept { OnOk result (KeepsReplacement self.old (chars template.now) self.new) }
         ensures text_changes { OnOk result (TellsText self.old self.new) }
+        ensures pending { OnOk result (KeepsPending self.old self.new) }
         ensures changed { OnOk result (Replaces self.old.state self.new.state self.new.changed) }
         ensures added { OnOk result (SpansMatches self.old.state (chars template.now)
             self.new.state self.new.changed) }
@@ -761,19 +703,8 @@ impl Buffer {
         self.history.add(replaced.text, replaced.changes)?;
         self.changed = replaced.patches.changed;
         search.apply(replaced.patches);
+        keep_before_change(&mut self.pending, &self.history);
         Ok(replaced.count)
-    }
-
-    /// `Fault::Nothing` where there is no pattern, and else the other fault: the one of both that
-    /// is told.
-    pub(crate) fn nothing_or(&self, other: Fault) -> Fault
-        ensures { MatchOption self.now.state.pattern (result ≡ Fault.Nothing)
-            (λ pattern. result ≡ other) }
-    {
-        match self.search {
-            None => Fault::Nothing,
-            Some(_) => other,
-        }
     }
 
     /// Returns a buffer with the current text, a history of its own, and no pattern. The text is
@@ -788,7 +719,8 @@ impl Buffer {
             alloc: self.alloc,
             limits: self.limits,
             history: History::new(self.alloc, text)?,
-            search: None, // The pattern stays with this buffer.
+            search: None, // The patterns stay with this buffer.
+            pending: None,
             changed: Stretch::none(),
         })
     }

@@ -7,6 +7,7 @@ ghost use Rattle.rope_search.specs.Changed.{Replaces, TellsAfter};
 ghost use Rattle.rope_search.specs.Cost.{SearchesFor, rows_anew};
 ghost use Rattle.rope_search.specs.Histories.{KeepsEdit};
 ghost use Rattle.rope_search.specs.Order.{EditText};
+ghost use Rattle.rope_search.specs.Pending.{KeepsPending};
 ghost use Rattle.rope_search.specs.Places.{GetsTooLong, IsEdit};
 ghost use Rattle.rope_search.specs.Session.{current_text, chosen_buffer};
 ghost use Rattle.rope_search.specs.Step.{Step};
@@ -92,6 +93,7 @@ impl Buffer {
         ensures kept { OnOk result (ForBytes (current_text self.old.state) from to (λ start stop.
             KeepsEdit self.old start stop (chars inserted.now) self.new)) }
         ensures text_changes { OnOk result (TellsText self.old self.new) }
+        ensures pending { OnOk result (KeepsPending self.old self.new) }
         ensures changed { OnOk result (Replaces self.old.state self.new.state self.new.changed) }
         ensures added { OnOk result
             (self.new.changed.added ≤ rows_anew self.old.state (chars inserted.now)) }

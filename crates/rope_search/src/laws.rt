@@ -9,6 +9,7 @@ ghost use Rattle.rope_search.specs.declared.commands.Payload.{Payload};
 ghost use Rattle.rope_search.specs.TextChanges.{TextChangesMakeText};
 ghost use Rattle.rope_search.specs.Laws.{AllHoldTexts, Known, StepsHoldTexts, HasOneReading, HasOneStep, HasOneCost, EndsAtBadLine, HasAnswer, HasOneShow, StandsForSome, UndoUndoesEdit, UndoUndoesReplace, ReplaceKeepsTheRest, RedoRedoesUndo, RepliesAlike, FindsAlike, FindsBoundaries, EditsHavePlaces, KeptIsAnew, PatternsAreTaken, OthersStay, ListsBoundaries, NoneIsNowhereOrTurned};
 ghost use Rattle.rope_search.specs.LineColumns.{ReportsHaveColumns};
+ghost use Rattle.rope_search.specs.Pending.{FirstRowsAreOfReport};
 ghost use Rattle.rope_search.specs.Step.{Answer};
 
 /// The columns of a report's rows are columns of their lines' texts, so they have others in bytes and
@@ -190,3 +191,11 @@ pub(crate) fn known()
 pub fn text_changes_make_text()
     ensures { TextChangesMakeText }
 {}
+
+/// The pending rows of a buffer are the first rows of the report of its current text and its pending
+/// pattern.
+pub fn pending_rows_are_of_report()
+    ensures { FirstRowsAreOfReport }
+{
+    rope_search_reports::laws::one_list_of_matches();
+}

@@ -13,6 +13,7 @@ ghost use Rattle.rope_search.specs.Histories.{KeepsEdit};
 ghost use Rattle.rope_search.specs.LineColumns.{column_as};
 ghost use Rattle.rope_search.specs.MatchEdits.{ForMatch, IsTooLongIn, ListsNoMatch, ReplacesMatch, ReplacesMatchIn, ServeFor, placed, placed_behind, rows_for_groups};
 ghost use Rattle.rope_search.specs.Order.{EditText};
+ghost use Rattle.rope_search.specs.Pending.{KeepsPending};
 ghost use Rattle.rope_search.specs.Places.{GetsTooLong, HasNoneBetween, IsEdit};
 ghost use Rattle.rope_search.specs.Session.{chosen_buffer, current_text};
 ghost use Rattle.rope_search.specs.Step.{Step};
@@ -285,6 +286,7 @@ impl Buffer {
         ensures kept { OnOk result (ForMatch self.old.state line number (chars template.now)
             (λ from to inserted. KeepsEdit self.old from to inserted self.new)) }
         ensures text_changes { OnOk result (TellsText self.old self.new) }
+        ensures pending { OnOk result (KeepsPending self.old self.new) }
         ensures changed { OnOk result (Replaces self.old.state self.new.state self.new.changed) }
         ensures added { OnOk result (ForMatch self.old.state line number (chars template.now)
             (λ from to inserted. self.new.changed.added ≤ rows_anew self.old.state inserted)) }

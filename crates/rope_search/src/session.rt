@@ -19,6 +19,7 @@ ghost use Rattle.rope_search.specs.JoinedSteps.{KeepsJoined, with_joined};
 ghost use Rattle.rope_search.specs.Edits.{RefusesEdits, StepByEdits, TellsEdits, in_full, rows_of_edits};
 
 mod listed_edits;
+mod pending;
 
 use crate::buffer::Buffer;
 use crate::commands::{Command, Payload, Reply};

@@ -2,6 +2,7 @@ pub mod BitLemmas
 pub mod Walks
 pub mod HandleSteps
 pub mod SpanLemmas
+pub mod PendingLemmas
 pub mod CopyLemmas
 pub mod PatternErrorLemmas
 pub mod TextLemmas

@@ -19,6 +19,8 @@ mod look_ups;
 mod match_edits;
 mod matches;
 mod pattern_errors;
+mod pending;
+mod pending_calls;
 mod reading;
 mod text_changes;
 mod version;
@@ -51,6 +53,10 @@ pub use look_ups::{
 pub use match_edits::rope_search_replace_match;
 pub use matches::{Group, Match, Span};
 pub use pattern_errors::{PatternReason, rope_search_pattern_error};
+pub use pending_calls::{
+    rope_search_advance, rope_search_begin_pattern, rope_search_cancel, rope_search_copy_pending,
+    rope_search_count_pending, rope_search_pending, rope_search_window,
+};
 pub use text_changes::{
     rope_search_join, rope_search_keep, rope_search_redo_steps, rope_search_text_changes,
     rope_search_undo_steps,

@@ -38,7 +38,7 @@ pub(crate) fn rows_between(rows: &[Row], from: usize, to: usize) -> &[Row]
 }
 
 /// How many matches rows have.
-fn count_matches(rows: &[Row]) -> usize
+pub(crate) fn count_matches(rows: &[Row]) -> usize
     requires { match_count rows.now < 2 ^ 64 }
     ensures { result ≡ match_count rows.now }
 {
@@ -71,7 +71,7 @@ fn put_row(line: usize, row: &[(usize, usize)], at: usize, out: &mut [Span])
 
 /// Puts the matches of rows at a buffer's front, as many as fit, and tells how many they are. The
 /// first row is that of line `from`.
-fn put_rows(rows: &[Row], from: usize, out: &mut [Span]) -> usize
+pub(crate) fn put_rows(rows: &[Row], from: usize, out: &mut [Span]) -> usize
     requires few { match_count rows.now < 2 ^ 64 }
     requires lines { from + length rows.now < 2 ^ 64 }
     ensures count { result ≡ match_count rows.now }

@@ -9,6 +9,10 @@ local rope_search = require("rope_search")
 
 local M = {}
 
+-- A pattern is searched in slices of so many lines, between Neovim's own events, so nothing waits longer
+-- than one slice; a line is searched whole, however long it is.
+M.slice = 4000
+
 local NAMESPACE = vim.api.nvim_create_namespace("live_search")
 local GROUP = vim.api.nvim_create_augroup("live_search", { clear = true })
 -- The session of each buffer that is searched, and whether it doesn't have the buffer's text.
@@ -16,6 +20,8 @@ local sessions, stale = {}, {}
 -- Which rows of Neovim are painted of each buffer, by its windows; and which of the session's rows
 -- were replaced since: nothing where all are to be painted.
 local painted, replaced = {}, {}
+-- The pattern of each buffer, and the timer that searches it in slices, while it is pending.
+local patterns, timers = {}, {}
 
 local function text_of(buffer)
   return table.concat(vim.api.nvim_buf_get_lines(buffer, 0, -1, true), "\n") .. "\n"
@@ -26,12 +32,60 @@ local function offset_of(buffer, row)
   return math.max(0, vim.api.nvim_buf_get_offset(buffer, row))
 end
 
--- The session of a buffer, with the buffer's text.
+local function end_timer(buffer)
+  if timers[buffer] then
+    timers[buffer]:stop()
+    timers[buffer]:close()
+    timers[buffer] = nil
+  end
+end
+
+-- Searches a slice more, and paints the windows once all lines are done.
+local function advance(buffer)
+  local session = sessions[buffer]
+  if not session or not session:pending() then
+    return end_timer(buffer)
+  end
+  local done, why = session:advance(M.slice)
+  if done == nil then
+    end_timer(buffer)
+    return vim.notify("refused: " .. why, vim.log.levels.WARN)
+  end
+  if done then
+    end_timer(buffer)
+    replaced[buffer] = nil
+    M.paint_windows(buffer)
+  end
+end
+
+-- Begins a pattern, and searches the first slice; the others come when Neovim is idle.
+local function begin(buffer, pattern)
+  local session = sessions[buffer]
+  local done, why = session:begin_pattern(pattern)
+  if not done then
+    return nil, why
+  end
+  patterns[buffer], replaced[buffer] = pattern, nil
+  done, why = session:advance(M.slice)
+  if done == false and not timers[buffer] then
+    timers[buffer] = vim.loop.new_timer()
+    timers[buffer]:start(1, 1, vim.schedule_wrap(function()
+      advance(buffer)
+    end))
+  end
+  return done ~= nil or nil, why
+end
+
+-- The session of a buffer, with the buffer's text. A text that is given anew is searched in slices too.
 local function session_of(buffer)
   local session = sessions[buffer]
   if session and stale[buffer] then
+    session:off()
     assert(session:set_text(text_of(buffer)))
     stale[buffer] = nil
+    if patterns[buffer] then
+      assert(begin(buffer, patterns[buffer]))
+    end
   end
   return session
 end
@@ -70,16 +124,43 @@ local function place_of(buffer, byte, first)
   return row, byte - offset_of(buffer, row)
 end
 
+-- The matches in some lines of the session, with columns in bytes; while a pattern is pending, its
+-- matches, of which those that are not known are searched.
+local function matches_of(session, first, last)
+  if not session:pending() then
+    return session:matches(first, last, "utf-8")
+  end
+  local matches = assert(session:window(first, last))
+  for _, match in ipairs(matches) do
+    local start, stop = { match.line, match.start }, { match.line, match.stop }
+    match.start, match.stop = session:column_in("utf-8", start), session:column_in("utf-8", stop)
+  end
+  return matches
+end
+
+-- The matches in one line of the session, with columns in UTF-16 code units.
+local function matches_in(session, line)
+  if session:pending() then
+    return assert(session:window(line, line + 1))
+  end
+  return session:matches(line, line + 1)
+end
+
+-- How many lines are gone through at most: while a pattern is pending, a slice of them.
+local function most_lines(session, lines)
+  return session:pending() and math.min(lines, M.slice) or lines
+end
+
 -- The matches in some rows of Neovim, each as rows and columns in bytes.
 function M.matches(buffer, first_row, last_row)
   local session = session_of(buffer)
-  if not session or session:rows() == 0 then
+  if not session or (session:rows() == 0 and not session:pending()) then
     return {}
   end
   local first = session:position_of(byte_of_row(buffer, first_row))
   local last = session:position_of(byte_of_row(buffer, last_row + 1))
   local found, line, start = {}, nil, 0
-  for i, match in ipairs(session:matches(first.line, last.line, "utf-8")) do
+  for i, match in ipairs(matches_of(session, first.line, last.line)) do
     if match.line ~= line then
       line, start = match.line, session:byte_of({ match.line, 0 })
     end
@@ -131,7 +212,7 @@ function M.paint_windows(buffer)
     windows[i] = vim.fn.getwininfo(window)[1]
     shown = ("%s %d-%d"):format(shown, windows[i].topline, windows[i].botline)
   end
-  local rows = painted[buffer] == shown and replaced[buffer]
+  local rows = painted[buffer] == shown and not session:pending() and replaced[buffer]
   if not rows then
     vim.api.nvim_buf_clear_namespace(buffer, NAMESPACE, 0, -1)
     for _, window in ipairs(windows) do
@@ -149,7 +230,7 @@ end
 -- Keeps in mind which rows of the session an edit replaced.
 local function note_replaced(buffer)
   local rows, changed = replaced[buffer], sessions[buffer]:changed()
-  if not rows or stale[buffer] or changed.removed ~= changed.added then
+  if not rows or stale[buffer] or sessions[buffer]:pending() or changed.removed ~= changed.added then
     replaced[buffer] = nil
   else
     rows.first = math.min(rows.first, changed.first)
@@ -194,9 +275,10 @@ local function on_bytes(_, buffer, _, row, column, byte, _, _, old_len, rows, co
 end
 
 local function end_search(buffer)
+  end_timer(buffer)
   if sessions[buffer] then
     sessions[buffer]:close()
-    sessions[buffer], stale[buffer] = nil, nil
+    sessions[buffer], stale[buffer], patterns[buffer] = nil, nil, nil
     painted[buffer], replaced[buffer] = nil, nil
   end
 end
@@ -233,10 +315,16 @@ function M.search(buffer, pattern)
       end,
     })
   end
-  local done, why = sessions[buffer]:set_pattern(pattern)
-  replaced[buffer] = nil
+  session_of(buffer)
+  local done, why = begin(buffer, pattern)
   M.paint_windows(buffer)
   return done, told_of(pattern, why)
+end
+
+-- Whether a pattern of a buffer is pending.
+function M.pending(buffer)
+  local session = sessions[buffer]
+  return session ~= nil and session:pending() ~= nil
 end
 
 -- Ends the search of a buffer.
@@ -246,18 +334,20 @@ function M.stop(buffer)
   end_search(buffer)
 end
 
--- How many matches start at the cursor or before it, and how many there are.
+-- How many matches start at the cursor or before it, and how many there are; and whether there may be
+-- more, since lines are left to be searched: then those of the lines that are done are counted.
 function M.count(window)
   local session = session_of(vim.api.nvim_win_get_buf(window))
   if not session then
-    return 0, 0
+    return 0, 0, false
   end
-  local at = M.position(window)
-  local before = session:count_matches(0, at.line)
-  for _, match in ipairs(session:matches(at.line, at.line + 1)) do
+  local at, done = M.position(window), session:pending()
+  local count = done and session.count_pending or session.count_matches
+  local before = count(session, 0, at.line)
+  for _, match in ipairs((not done or at.line < done) and matches_in(session, at.line) or {}) do
     before = before + (match.start <= at.column and 1 or 0)
   end
-  return before, session:count_matches(0, lines_of(session))
+  return before, count(session, 0, lines_of(session)), done ~= nil
 end
 
 -- The cursor's position in the session.
@@ -279,15 +369,16 @@ end
 -- Goes to the first match behind the cursor, or else to the first of all.
 function M.next(window)
   local session, at = session_of(vim.api.nvim_win_get_buf(window)), M.position(window)
-  for line = at.line, lines_of(session) - 1 do
-    for _, match in ipairs(session:matches(line, line + 1)) do
+  local last = lines_of(session) - 1
+  for line = at.line, math.min(last, at.line + most_lines(session, last)) do
+    for _, match in ipairs(matches_in(session, line)) do
       if line > at.line or match.start > at.column then
         return go_to(window, match)
       end
     end
   end
-  for line = 0, at.line do
-    for _, match in ipairs(session:matches(line, line + 1)) do
+  for line = 0, most_lines(session, at.line) do
+    for _, match in ipairs(matches_in(session, line)) do
       return go_to(window, match)
     end
   end
@@ -296,9 +387,9 @@ end
 -- Goes to the last match before the cursor, or else to the last of all.
 function M.previous(window)
   local session, at = session_of(vim.api.nvim_win_get_buf(window)), M.position(window)
-  for step = 0, lines_of(session) do
+  for step = 0, most_lines(session, lines_of(session)) do
     local line = (at.line - step) % lines_of(session)
-    local matches = session:matches(line, line + 1)
+    local matches = matches_in(session, line)
     for i = #matches, 1, -1 do
       if step > 0 or matches[i].start < at.column then
         return go_to(window, matches[i])
@@ -311,6 +402,10 @@ end
 -- buffer, and returns how many there were.
 function M.replace(buffer, template)
   local session = session_of(buffer)
+  -- It searches the whole text, by the pattern that was asked for last.
+  while session:pending() do
+    assert(session:advance(M.slice) ~= nil)
+  end
   local count, why = session:replace(template)
   if not count then
     return nil, why

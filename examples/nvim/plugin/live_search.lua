@@ -3,7 +3,8 @@
 local live = require("live_search")
 
 local function tell()
-  vim.api.nvim_echo({ { ("%d of %d"):format(live.count(0)) } }, false, {})
+  local at, count, is_more = live.count(0)
+  vim.api.nvim_echo({ { ("%d of %d%s"):format(at, count, is_more and "+" or "") } }, false, {})
 end
 
 vim.api.nvim_create_user_command("LiveSearch", function(given)

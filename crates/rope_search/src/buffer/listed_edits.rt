@@ -2,9 +2,11 @@
 ghost use Rattle.std.specs.Prelude.{◌≡◌, ℕ, ◌+◌, ◌≤◌, ◌↔◌, ◌⊎◌, chars, Err, None, OnOk, OnErr, IfOk, IfErr};
 ghost use Rattle.rope_search.specs.Changed.{Replaces};
 ghost use Rattle.rope_search.specs.ListedReplacing.{GetsTooLongListed, IsListedReplacement, KeepsListed, RowsOfListed, SpansListed};
+ghost use Rattle.rope_search.specs.Pending.{KeepsPending};
 ghost use Rattle.rope_search.specs.TextsKept.{TellsText};
 
 use super::Buffer;
+use super::pending::keep_before_change;
 use rope_search_io::Fault;
 use rope_search_reports::Lines;
 
@@ -43,6 +45,7 @@ impl Buffer {
         ensures kept { OnOk result
             (KeepsListed self.old from_line to_line (chars template.now) self.new) }
         ensures text_changes { OnOk result (TellsText self.old self.new) }
+        ensures pending { OnOk result (KeepsPending self.old self.new) }
         ensures changed { OnOk result (Replaces self.old.state self.new.state self.new.changed) }
         ensures added { OnOk result (SpansListed self.old.state from_line to_line
             (chars template.now) self.new.state self.new.changed) }
@@ -77,6 +80,7 @@ impl Buffer {
         self.history.add(replaced.text, replaced.changes)?;
         self.changed = replaced.patches.changed;
         search.apply(replaced.patches);
+        keep_before_change(&mut self.pending, &self.history);
         Ok(replaced.count)
     }
 }

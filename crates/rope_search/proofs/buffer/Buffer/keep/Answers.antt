@@ -3,6 +3,7 @@ use Rattle.std.specs.Prelude.{IfSome, option_map}
 use Rattle.rope_search_reports.specs.Report.{IsReport, match_count}
 use Rattle.rope_search.specs.declared.search.Search.{Search}
 use Rattle.rope_search.specs.Histories.{Texts, text_at}
+use Rattle.rope_search.specs.Searched.{HoldsPending}
 use Rattle.rope_search.specs.Session.{LimitedBuffer}
 use Rattle.rope_search.specs.TextChanges.{ranges_in}
 use Rattle.rope_search.specs.UndoSteps.{changes_with_steps, with_steps}
@@ -12,7 +13,7 @@ use Rattle.rope_search.proofs.buffer.Buffer.keep.Goals as goal
 pub invariant_of-self : goal.invariant_of-self
 invariant_of-self c =
     let history = c.self.inside.history in
-    subst (λ t. IfSome c.self.inside.search (λ (s : Search). IsReport t s.finder s.rows.items × (match_count s.rows.items < 2 ^ 64)))
+    subst (λ t. IfSome c.self.inside.search (λ (s : Search). IsReport t s.finder s.rows.items × (match_count s.rows.items < 2 ^ 64)) × HoldsPending t c.self.inside.pending)
     (sym (ap (λ (t : Texts). text_at t.texts t.current) c.keep.ensures ∙ kept_current history.texts history.current c.args.steps)) c.self.invariant
 
 pub returns-clause-state : goal.returns-clause-state

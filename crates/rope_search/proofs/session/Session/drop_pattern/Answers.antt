@@ -30,4 +30,4 @@ returns-clause-texts c =
     let chosen : Chosen inside.buffers.items inside.chosen limit old c.args.self.now =
     record { inside = omega (arith, inside.buffers.ok.0); is = c.index_mut.ensures.value; all = c.self.invariant.1.0; seen = c.self.view_is } in
     let told = c.off.ensures in
-    keeps (KeepsOf DropPattern) inside.buffers.items inside.chosen limit old c.off.new.self c.args.self.now _ chosen refl refl refl (told.changes, told.text_changes)
+    keeps (KeepsOf DropPattern) inside.buffers.items inside.chosen limit old c.off.new.self c.args.self.now _ chosen refl refl refl (told.changes, told.text_changes, told.pending)

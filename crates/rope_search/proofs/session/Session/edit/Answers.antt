@@ -161,4 +161,4 @@ returns-in_ok-edit-in-Ok-clause-texts c = λ bytes stands.
     let same : c.in-Ok.text.now ≡ bytes = c.in-Ok.ensures.cases.0 ∙ sym given in
     let told = c.in_ok-edit-in-Ok.ensures in
     keeps (KeepsOf (EditText c.args.from c.args.to bytes)) inside.buffers.items inside.chosen limit old c.edit.new.self c.args.self.now _ chosen refl refl refl
-    (subst (λ t. KeepsEdit old c.args.from c.args.to (chars t) c.edit.new.self) same told.kept, told.text_changes)
+    (subst (λ t. KeepsEdit old c.args.from c.args.to (chars t) c.edit.new.self) same told.kept, told.text_changes, told.pending)

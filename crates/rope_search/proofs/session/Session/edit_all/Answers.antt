@@ -56,7 +56,7 @@ returns-clause-texts c =
     let limit = limit_in inside.buffers.items inside.chosen in
     let chosen : Chosen inside.buffers.items inside.chosen limit old c.args.self.now =
     record { inside = omega (arith, inside.buffers.ok.0); is = c.index_mut.ensures.value; all = c.self.invariant.1.0; seen = c.self.view_is } in
-    texts_told inside.buffers.items inside.chosen limit old c.edit_all.new.self c.args.self.now _ chosen (map in_full c.args.edits.now) c.edit_all.result refl refl refl c.edit_all.ensures.kept c.edit_all.ensures.text_changes
+    texts_told inside.buffers.items inside.chosen limit old c.edit_all.new.self c.args.self.now _ chosen (map in_full c.args.edits.now) c.edit_all.result refl refl refl c.edit_all.ensures.kept c.edit_all.ensures.text_changes c.edit_all.ensures.pending
 
 pub returns-clause-still : goal.returns-clause-still
 returns-clause-still c =

@@ -21,7 +21,7 @@ returns-clause-kept c =
     let limit = limit_in inside.buffers.items inside.chosen in
     let chosen : Chosen inside.buffers.items inside.chosen limit old c.args.self.now =
     record { inside = omega (arith, inside.buffers.ok.0); is = c.index_mut.ensures.value; all = c.self.invariant.1.0; seen = c.self.view_is } in
-    joined_kept inside.buffers.items inside.chosen limit old c.join.new.self c.args.self.now _ c.args.steps chosen c.join.result refl refl refl c.join.ensures.changes c.join.ensures.text_changes
+    joined_kept inside.buffers.items inside.chosen limit old c.join.new.self c.args.self.now _ c.args.steps chosen c.join.result refl refl refl c.join.ensures.changes c.join.ensures.text_changes c.join.ensures.pending
 
 pub returns-clause-changed : goal.returns-clause-changed
 returns-clause-changed c =

@@ -43,4 +43,4 @@ returns-clause-kept c =
     let chosen : Chosen inside.buffers.items inside.chosen limit old c.args.self.now =
     record { inside = omega (arith, inside.buffers.ok.0); is = c.index_mut.ensures.value; all = c.self.invariant.1.0; seen = c.self.view_is } in
     let told = c.keep.ensures in
-    keeps (KeepsSteps c.args.steps) inside.buffers.items inside.chosen limit old c.keep.new.self c.args.self.now _ chosen refl refl refl (told.changes, told.text_changes)
+    keeps (KeepsSteps c.args.steps) inside.buffers.items inside.chosen limit old c.keep.new.self c.args.self.now _ chosen refl refl refl (told.changes, told.text_changes, told.pending)

@@ -60,7 +60,7 @@ returns-clause-texts c =
     let chosen : Chosen inside.buffers.items inside.chosen limit old c.args.self.now =
     record { inside = omega (arith, inside.buffers.ok.0); is = c.index_mut.ensures.value; all = c.self.invariant.1.0; seen = c.self.view_is } in
     let told = c.in_ok-redo.ensures in
-    keeps (KeepsOf RedoEdit) inside.buffers.items inside.chosen limit old c.redo.new.self c.args.self.now _ chosen refl refl refl (told.changes, told.text_changes, told.forward, told.added)
+    keeps (KeepsOf RedoEdit) inside.buffers.items inside.chosen limit old c.redo.new.self c.args.self.now _ chosen refl refl refl (told.changes, told.text_changes, told.forward, told.added, told.pending)
 
 pub returns-in_err-redo-clause-few : goal.returns-in_err-redo-clause-few
 returns-in_err-redo-clause-few c =

@@ -153,4 +153,4 @@ returns-in_ok-number-in-Ok-clause-texts c = λ bytes stands.
     let same : c.in-Ok.template.now ≡ bytes = c.in-Ok.ensures.cases.0 ∙ sym given in
     let told = c.in_ok-number-in-Ok.ensures in
     keeps (KeepsOf (ReplaceAll bytes)) inside.buffers.items inside.chosen limit old c.replace.new.self c.args.self.now _ chosen refl refl refl
-    (subst (λ t. KeepsReplacement old (chars t) c.replace.new.self) same told.kept, told.text_changes)
+    (subst (λ t. KeepsReplacement old (chars t) c.replace.new.self) same told.kept, told.text_changes, told.pending)

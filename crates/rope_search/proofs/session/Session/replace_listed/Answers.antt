@@ -61,7 +61,7 @@ returns-clause-texts c =
     let told = c.replace_listed.ensures in
     rw (ap chars (sym c.in-Ok.ensures.cases.0))
     (texts-listed inside.buffers.items inside.chosen limit old c.replace_listed.new.self c.args.self.now chosen c.args.from_line c.args.to_line _ (chars c.in-Ok.template.now)
-    c.replace_listed.result refl refl refl told.kept told.text_changes)
+    c.replace_listed.result refl refl refl told.kept told.text_changes told.pending)
 
 pub returns-clause-err : goal.returns-clause-err
 returns-clause-err c =

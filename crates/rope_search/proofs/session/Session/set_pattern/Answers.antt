@@ -1,6 +1,6 @@
 use Rattle.std.proofs.Common.{◌≡◌, ◌<◌, ◌≤◌, ◌⊎◌, Some, Err, IsUtf8, length, refl, sym, ap, ◌∙◌, subst, arith}
 use Rattle.std.specs.Str.{chars}
-use Rattle.rope_search.specs.Session.{with_pattern, limit_in}
+use Rattle.rope_search.specs.Session.{LimitedBuffer, with_pattern, limit_in}
 use Rattle.rope_search_reports.specs.Pattern.{IsPattern, pattern_limit}
 use Rattle.std.proofs.lemmas.Result.{err_from_is_err_and}
 use Rattle.rope_search.specs.Order.{SetPattern}
@@ -115,4 +115,4 @@ returns-in_ok-set_pattern-in-Ok-clause-texts c = λ bytes stands.
     let chosen : Chosen inside.buffers.items inside.chosen limit old c.args.self.now =
     record { inside = omega (arith, inside.buffers.ok.0); is = c.index_mut.ensures.value; all = c.self.invariant.1.0; seen = c.self.view_is } in
     let told = c.in_ok-set_pattern-in-Ok.ensures in
-    keeps (KeepsOf (SetPattern bytes)) inside.buffers.items inside.chosen limit old c.set_pattern.new.self c.args.self.now _ chosen refl refl refl (told.changes, told.text_changes)
+    keeps (KeepsOf (SetPattern bytes)) inside.buffers.items inside.chosen limit old c.set_pattern.new.self c.args.self.now _ chosen refl refl refl (told.changes, told.text_changes, ap (λ (b : LimitedBuffer). b.pending) told.all)

@@ -89,4 +89,4 @@ returns-in_ok-set_text-in-Ok-clause-texts c = λ bytes stands.
     let chosen : Chosen inside.buffers.items inside.chosen limit old c.args.self.now =
     record { inside = omega (arith, inside.buffers.ok.0); is = c.index_mut.ensures.value; all = c.self.invariant.1.0; seen = c.self.view_is } in
     let told = c.in_ok-set_text-in-Ok.ensures in
-    keeps (KeepsOf (SetText bytes)) inside.buffers.items inside.chosen limit old c.set_text.new.self c.args.self.now _ chosen refl refl refl (told.changes, told.text_changes, told.whole)
+    keeps (KeepsOf (SetText bytes)) inside.buffers.items inside.chosen limit old c.set_text.new.self c.args.self.now _ chosen refl refl refl (told.changes, told.text_changes, told.whole, told.pending)

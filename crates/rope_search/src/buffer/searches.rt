@@ -1,0 +1,111 @@
+//! Searches with a buffer's pattern beside its report.
+ghost use Rattle.std.specs.Prelude.{◌≡◌, ◌↔◌, ◌⊎◌, None, Err, IfOk, IfErr, MatchOption, chars};
+ghost use Rattle.rope_search_reports.specs.Position.{IsNowhere};
+ghost use Rattle.rope_search_reports.specs.Ticks.{SearchesOneWhole};
+ghost use Rattle.rope_search.specs.Finding.{TellsPositions};
+ghost use Rattle.rope_search.specs.GroupsAt.{AnswersGroups, SearchesRow};
+ghost use Rattle.rope_search.specs.MatchEdits.{AnswersEdit, SearchesForGroups};
+ghost use Rattle.rope_search.specs.Session.{current_text};
+
+use crate::buffer::Buffer;
+use crate::match_edits::MatchEdit;
+use rope_search_io::Fault;
+use rope_search_reports::{Groups, Lines, Position};
+
+impl Buffer {
+    /// Returns the first match of the pattern in the whole current text that starts at a position
+    /// or behind it, as the positions of its start and end, or `None`. Looks see what stands before
+    /// the position. A place between the CR and the LF of a break has the position one past its
+    /// line's text. One search of a whole text is counted at most; time is that of a search up to
+    /// the match.
+    ///
+    /// Errors, which leave the buffer as it was: `Fault::Nothing` without a pattern, else
+    /// `Fault::Range` where the position is nowhere in the text; `Fault::Memory`.
+    pub fn next_from(
+        &mut self,
+        tick: &mut Lines,
+        from: Position,
+    ) -> Result<Option<(Position, Position)>, Fault>
+        ensures found { IfOk result (λ found. TellsPositions self.old.state from found) }
+        ensures nothing { (result ≡ Err Fault.Nothing) ↔ (self.old.state.pattern ≡ None) }
+        ensures range { (result ≡ Err Fault.Range)
+            ↔ ((self.old.state.pattern ≡ None → ⊥)
+            × IsNowhere (current_text self.old.state) (from.line, from.column)) }
+        ensures fault { IfErr result (λ fault.
+            (fault ≡ Fault.Nothing) ⊎ ((fault ≡ Fault.Range) ⊎ (fault ≡ Fault.Memory))) }
+        ensures same { self.new ≡ self.old }
+        ensures searches { SearchesOneWhole tick.old tick.new }
+    {
+        let Some(search) = &mut self.search else {
+            return Err(Fault::Nothing);
+        };
+        let found = search.next_from(tick, self.history.current(), from)?;
+        Ok(found)
+    }
+
+    /// Returns the groups 0 to 9 of a match of the report, by its line and its number in that row,
+    /// from 0: of each the columns where it starts and where it ends, in UTF-16 code units from the
+    /// line's start. Group 0 is the match; one that the pattern doesn't have, or that takes no part
+    /// in the match, is `None`. A row keeps no groups, so its line is searched once more, by itself
+    /// and up to the match: one row is counted whatever is answered, where the report has that row.
+    /// Time is linear in the line, times the pattern's weight, and `O(log n)` for each group.
+    ///
+    /// Errors, which leave the buffer as it was: `Fault::Nothing` without a pattern, else
+    /// `Fault::Range` where there is no such line, which is told without a search, or no such match
+    /// in it; `Fault::Memory`.
+    pub fn groups_at(
+        &mut self,
+        tick: &mut Lines,
+        line: usize,
+        number: usize,
+    ) -> Result<Groups, Fault>
+        ensures answer { AnswersGroups self.old.state line number result }
+        ensures same { self.new ≡ self.old }
+        ensures searches { SearchesRow self.old.state line tick.old tick.new }
+    {
+        let Some(search) = &mut self.search else {
+            return Err(Fault::Nothing);
+        };
+        let groups = search.groups_at(tick, self.history.current(), line, number)?;
+        Ok(groups)
+    }
+
+    /// The edit that replaces a match of the report, by its line and its number in that row, by
+    /// what a template stands for. It is refused with `Fault::Nothing` without a pattern, else with
+    /// `Fault::Range` where no such match is listed, else with `Fault::Size` where the new text
+    /// would have more bytes than the limit, and perhaps with `Fault::Memory`. The buffer is as it
+    /// was, whatever is answered.
+    pub(crate) fn match_edit(
+        &mut self,
+        tick: &mut Lines,
+        line: usize,
+        number: usize,
+        template: &str,
+    ) -> Result<MatchEdit, Fault>
+        ensures answer { AnswersEdit self.old.limit self.old.state line number
+            (chars template.now) result }
+        ensures same { self.new ≡ self.old }
+        ensures searches { SearchesForGroups self.old.state line number (chars template.now)
+            tick.old tick.new }
+    {
+        let Some(search) = &mut self.search else {
+            return Err(Fault::Nothing);
+        };
+        let (alloc, limits) = (self.alloc, self.limits);
+        let text = self.history.current();
+        let edit = search.match_edit(tick, alloc, limits, text, line, number, template)?;
+        Ok(edit)
+    }
+
+    /// `Fault::Nothing` where there is no pattern, and else the other fault: the one of both that
+    /// is told.
+    pub(crate) fn nothing_or(&self, other: Fault) -> Fault
+        ensures { MatchOption self.now.state.pattern (result ≡ Fault.Nothing)
+            (λ pattern. result ≡ other) }
+    {
+        match self.search {
+            None => Fault::Nothing,
+            Some(_) => other,
+        }
+    }
+}

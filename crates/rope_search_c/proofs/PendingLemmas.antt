@@ -1,0 +1,15 @@
+-- The matches of a window, put at a buffer's front in two parts.
+use Rattle.std.proofs.Common.{◌≡◌, ℕ, zero, suc, ◌+◌, ◌-◌, min, List, [], ◌∷◌, ◌++◌, length, take, drop, map, refl, ap, sym, ◌∙◌, arith}
+use Rattle.std.proofs.lemmas.List.{take_all, drop_all}
+use Rattle.rope_search_c.specs.Reading.{with_front}
+use Rattle.rope_search_c.proofs.SpanLemmas.{with_no_front}
+
+-- further elements, put behind those that are at the front, as far as there is room
+pub fronts-joined : {X : Type 0} (xs ys out : List X) (n : ℕ) → n ≡ min (length xs) (length out)
+    → take n (with_front xs out) ++ with_front ys (drop n (with_front xs out)) ≡ with_front (xs ++ ys) out
+fronts-joined [] ys out zero is = ap (with_front ys) (sym (with_no_front out))
+fronts-joined [] ys out (suc n) is = absurd (omega (arith, is))
+fronts-joined (x ∷ xs) ys [] zero is = refl
+fronts-joined (x ∷ xs) ys [] (suc n) is = absurd (omega (arith, is))
+fronts-joined (x ∷ xs) ys (y ∷ out) zero is = absurd (omega (arith, is))
+fronts-joined (x ∷ xs) ys (y ∷ out) (suc n) is = ap (λ l. x ∷ l) (fronts-joined xs ys out n (omega (arith, is)))
