@@ -1,18 +1,22 @@
 -- A session whose chosen buffer has a pending pattern.
-use Rattle.std.proofs.Common.{◌≡◌, ℕ, ◌+◌, ◌↔◌, List, [], Bool, true, false, length, map, refl, sym, ap, ◌∙◌, subst, slice_index_or, slice_set}
-use Rattle.std.specs.Prelude.{Option, None, Some, Result, Ok, Err, OnOk, OnErr, IfOk, IfSome}
+use Rattle.std.proofs.Common.{◌≡◌, ℕ, ◌+◌, ◌<◌, ◌≤◌, ◌↔◌, ◌⊎◌, inl, inr, arith, chars, IsUtf8, List, [], Bool, true, false, length, map, refl, sym, ap, ◌∙◌, subst, slice_index_or, slice_set}
+use Rattle.std.specs.Prelude.{Option, None, Some, Result, Ok, Err, OnOk, OnErr, IfOk, IfErr, IfSome}
 use Rattle.std.proofs.lemmas.List.{map-set, get_or-map, set-get_or}
 use Rattle.rope_search_io.specs.declared.faults.Fault.{Fault}
-use Rattle.rope_search_io.specs.declared.faults.Fault.TheVariants.{Nothing}
-use Rattle.rope_search_reports.specs.Pattern.{IsPattern}
+use Rattle.rope_search_io.specs.declared.faults.Fault.TheVariants.{Limit, Memory, Nothing, Pattern}
+use Rattle.rope_search_reports.specs.Laws.{IsOneOfThree}
+use Rattle.rope_search_reports.specs.Pattern.{IsPattern, IsTooHeavy, SpellsNone, pattern_limit}
 use Rattle.rope_search_reports.specs.Text.{IsText}
 use Rattle.rope_search.specs.Laws.{HoldsTexts}
+use Rattle.rope_search.specs.Order.{SetPattern}
 use Rattle.rope_search.specs.Pending.{Advances, Begins, StateAdvances, patterned}
 use Rattle.rope_search.specs.Session.{BufferState, LimitedBuffer, LimitedSession, PendingPattern, chosen_buffer, chosen_in, with_chosen, with_pattern}
+use Rattle.rope_search.specs.Step.{Accepts, IsFirstRefusal}
 use Rattle.rope_search.specs.TextsKept.{ChangesChosen}
 use Rattle.rope_search.proofs.ChangedLemmas.{told_with}
 use Rattle.rope_search.proofs.HoldLemmas.{holds_pattern}
 use Rattle.rope_search.proofs.KeptLemmas.{chosen-there, keeps}
+use Rattle.rope_search.proofs.RefusalLaws.{accepted_pattern, refused_limit, refused_pattern}
 use Rattle.rope_search.proofs.SessionLemmas.{Chosen, Chosen-set, state_with}
 
 -- ---- the chosen buffer in the list of all
@@ -97,3 +101,26 @@ advanced_state lines items k limit old new s c (Ok true) told nothing =
 advanced_state lines items k limit old new s c (Ok false) told nothing =
     still_state items k limit old new s c (left_state old new lines old.pending (some-pending old false nothing) told.1).0
 advanced_state lines items k limit old new s c (Err fault) told nothing = tt
+
+-- ---- why no pattern is begun
+
+pub begin_refused : IsOneOfThree → (bytes text : List ℕ) (s : LimitedSession) (result : Result (Unit {0}) Fault) → text ≡ bytes → IsUtf8 bytes
+    → IfErr result (λ fault. (fault ≡ Limit) ⊎ ((fault ≡ Pattern) ⊎ (fault ≡ Memory)))
+    → (result ≡ Err Limit → (pattern_limit < length text) ⊎ IsTooHeavy (chars text)) → (result ≡ Err Pattern → (length text ≤ pattern_limit) × SpellsNone (chars text))
+    → IfErr result (λ fault. (fault ≡ Memory) ⊎ IsFirstRefusal s.limit s.state (SetPattern bytes) fault)
+begin_refused apart bytes text s (Ok tt) same utf8 fault much none = tt
+begin_refused apart bytes text s (Err f) same utf8 (inl e) much none =
+    inr (subst (λ g. IsFirstRefusal s.limit s.state (SetPattern bytes) g) (sym e)
+    (refused_limit apart s.limit s.state bytes utf8 (subst (λ bs. (pattern_limit < length bs) ⊎ IsTooHeavy (chars bs)) same (much (ap Err e)))))
+begin_refused apart bytes text s (Err f) same utf8 (inr (inl e)) much none =
+    let why = subst (λ bs. (length bs ≤ pattern_limit) × SpellsNone (chars bs)) same (none (ap Err e)) in
+    inr (subst (λ g. IsFirstRefusal s.limit s.state (SetPattern bytes) g) (sym e) (refused_pattern s.limit s.state bytes utf8 why.0 why.1))
+begin_refused apart bytes text s (Err f) same utf8 (inr (inr e)) much none = inl e
+
+pub begin_accepted : IsOneOfThree → (bytes text : List ℕ) (s : LimitedSession) (result : Result (Unit {0}) Fault) → text ≡ bytes → IsUtf8 bytes
+    → (pattern_limit < length text → result ≡ Err Limit) → OnOk result (IsPattern (chars text)) → OnOk result (Accepts s.limit s.state (SetPattern bytes))
+begin_accepted apart bytes text s (Ok tt) same utf8 long is =
+    let fits : pattern_limit < length text → ⊥ = λ over. absurd (let e = long over in cc) in
+    let short : length text ≤ pattern_limit = omega arith in
+    accepted_pattern apart s.limit s.state bytes utf8 (omega (arith, short, ap length same)) (subst (λ bs. IsPattern (chars bs)) same is)
+begin_accepted apart bytes text s (Err f) same utf8 long is = tt

@@ -243,6 +243,7 @@ impl History {
           is_back = false;
           last = whole_change (byte_len (text_of old.now)) (byte_len (text_of text)) ∷ [];
         }) }
+        ensures scalars { IsText (text_of old.now) }
         ensures ranges { OnOk result (AreTextChanges (text_of old.now) (text_of text)
             (ranges_in false
             (whole_change (byte_len (text_of old.now)) (byte_len (text_of text)) ∷ []))) }
@@ -409,6 +410,7 @@ impl History {
           is_back = true;
           last = changes_at self.old.changes self.old.current;
         } }
+        ensures scalars { IsText (text_at self.old.texts self.old.current) }
         ensures ranges { AreTextChanges (text_at self.old.texts self.old.current)
             (text_at self.old.texts (self.old.current - 1))
             (ranges_in self.new.is_back self.new.last) }
@@ -429,6 +431,7 @@ impl History {
           is_back = false;
           last = changes_at self.old.changes (self.old.current + 1);
         } }
+        ensures scalars { IsText (text_at self.old.texts self.old.current) }
         ensures ranges { AreTextChanges (text_at self.old.texts self.old.current)
             (text_at self.old.texts (self.old.current + 1))
             (ranges_in self.new.is_back self.new.last) }
@@ -455,6 +458,7 @@ impl History {
         }) }
         ensures current { OnOk result
             (text_at self.new.texts self.new.current ≡ text_of text) }
+        ensures scalars { IsText (text_at self.old.texts self.old.current) }
         ensures ranges { OnOk result (AreTextChanges (text_at self.old.texts self.old.current)
             (text_of text) (ranges_in false (listed changes))) }
         ensures fault { IfErr result (λ fault. fault ≡ Fault.Memory) }

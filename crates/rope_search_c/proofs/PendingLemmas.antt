@@ -1,6 +1,7 @@
 -- The matches of a window, put at a buffer's front in two parts.
-use Rattle.std.proofs.Common.{◌≡◌, ℕ, zero, suc, ◌+◌, ◌-◌, min, List, [], ◌∷◌, ◌++◌, length, take, drop, map, refl, ap, sym, ◌∙◌, arith}
-use Rattle.std.proofs.lemmas.List.{take_all, drop_all}
+use Rattle.std.proofs.Common.{◌≡◌, ℕ, zero, suc, ◌+◌, ◌-◌, min, List, [], ◌∷◌, ◌++◌, length, take, drop, refl, ap, sym, subst, arith}
+use Rattle.std.specs.Prelude.{Option, None, Some, MatchOption}
+use Rattle.rope_search.specs.Session.{PendingPattern}
 use Rattle.rope_search_c.specs.Reading.{with_front}
 use Rattle.rope_search_c.proofs.SpanLemmas.{with_no_front}
 
@@ -13,3 +14,12 @@ fronts-joined (x ∷ xs) ys [] zero is = refl
 fronts-joined (x ∷ xs) ys [] (suc n) is = absurd (omega (arith, is))
 fronts-joined (x ∷ xs) ys (y ∷ out) zero is = absurd (omega (arith, is))
 fronts-joined (x ∷ xs) ys (y ∷ out) (suc n) is = ap (λ l. x ∷ l) (fronts-joined xs ys out n (omega (arith, is)))
+
+-- ---- whether a pattern is pending
+
+pub at-none : (o : Option PendingPattern) (P : Type 0) (Q : PendingPattern → Type 0) → o ≡ None → P → MatchOption o P Q
+at-none o P Q is p = subst (λ x. MatchOption x P Q) (sym is) p
+
+pub at-some : (o : Option PendingPattern) (P : Type 0) (Q : PendingPattern → Type 0) → (o ≡ None → ⊥) → ((p : PendingPattern) → o ≡ Some p → Q p) → MatchOption o P Q
+at-some None P Q some each = absurd (some refl)
+at-some (Some p) P Q some each = each p refl

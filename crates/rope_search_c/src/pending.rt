@@ -1,14 +1,25 @@
 //! The pending pattern of the chosen buffer.
-ghost use Rattle.std.specs.Prelude.{◌≡◌, None, Some, true, false, IfSome};
-ghost use Rattle.rope_search_c.specs.Calls.{LeadsHandle};
-ghost use Rattle.rope_search_c.specs.Pending.{AdvancesPending, BeginsPattern, CancelsPending, CopiesPending, CopiesWindow, CountsPending, TellsPending, pending_in};
+ghost use Rattle.std.specs.Prelude.{◌≡◌};
+ghost use Rattle.rope_search_c.specs.Pending.{AdvancesPending, BeginsPattern, CancelsPending, CopiesPending, CopiesWindow, CountsPending, TellsPending};
+ghost use Rattle.rope_search_c.specs.Pending as pending;
 
 use crate::counting::{CountingSession, status_of};
 use crate::matches::Span;
 use crate::reading::{count_matches, put_rows, rows_between};
+use rope_search::Fault;
 
 /// What is answered without a pending pattern: the rank of `Fault::Nothing`.
 const NOTHING: u32 = 1;
+
+/// Whether all lines are done; not if this is refused.
+fn is_done(answer: Result<bool, Fault>) -> bool
+    ensures { result ≡ pending.is_done answer }
+{
+    match answer {
+        Ok(done) => done,
+        Err(_) => false,
+    }
+}
 
 impl CountingSession {
     /// Makes a pattern pending, as `Session::begin_pattern` does.
@@ -24,10 +35,7 @@ impl CountingSession {
         ensures { AdvancesPending self.old max_lines result done.new self.new }
     {
         let answer = self.session.advance(&mut self.lines, max_lines);
-        *done = match answer {
-            Ok(all) => all,
-            Err(_) => false,
-        };
+        *done = is_done(answer);
         status_of(answer)
     }
 

@@ -1,5 +1,5 @@
 //! A pending pattern of a buffer: its rows are made in slices, and kept through changes of the text.
-ghost use Rattle.std.specs.Prelude.{◌≡◌, ◌×◌, ℕ, ◌+◌, ◌-◌, ◌^◌, ◌<◌, ◌≤◌, ◌↔◌, ◌⊎◌, List, length, take, drop, min, max, option_map, chars, None, Some, Err, IfOk, IfErr, IfSome, OnOk, OnErr};
+ghost use Rattle.std.specs.Prelude.{◌≡◌, ℕ, ◌+◌, ◌-◌, ◌^◌, ◌<◌, ◌≤◌, ◌↔◌, ◌⊎◌, ◌++◌, List, length, take, drop, min, option_map, chars, None, Some, Err, IfOk, IfErr, IfSome, OnOk, OnErr};
 ghost use Rattle.ropey.specs.Chunks.{text_of};
 ghost use Rattle.rope_search_reports.specs.Pattern.{IsPattern, IsTooHeavy, SpellsNone, pattern_limit};
 ghost use Rattle.rope_search_reports.specs.Report.{AreRows, line_texts, match_count};
@@ -8,7 +8,7 @@ ghost use Rattle.rope_search_reports.specs.Ticks.{MakesAsMany, MakesAtMost};
 ghost use Rattle.rope_search.specs.Histories.{text_at};
 ghost use Rattle.rope_search.specs.Pending.{Advances, AreFirstRows, ArePendingRows, Begins, Cancels, CompletesWindow, HasFewInWindow, done_before, lines_left};
 ghost use Rattle.rope_search.specs.Searched.{HoldsPending, shown_pending};
-ghost use Rattle.rope_search.specs.Session.{PendingPattern, current_text};
+ghost use Rattle.rope_search.specs.Session.{PendingPattern};
 ghost use Rattle.rope_search.specs.TextChanges.{AreTextChanges, ranges_in};
 
 use crate::buffer::Buffer;
@@ -20,10 +20,27 @@ use rope_search_reports::{Finder, Lines, Row, rows_of_lines};
 use ropey::Rope;
 use std::alloc::Global;
 
+/// How many of the lines that are done are before the last change of a history's text.
+fn lines_kept(history: &History, done: usize) -> usize
+    requires { (old : List ℕ) × AreTextChanges old
+        (text_at history.now.texts history.now.current)
+        (ranges_in history.now.is_back history.now.last) }
+    ensures { result ≡ done_before (text_at history.now.texts history.now.current)
+        (ranges_in history.now.is_back history.now.last) done }
+{
+    // The text's facts, for the proof alone.
+    let text = history.current();
+    let _ = text.len_bytes();
+    match history.last().first() {
+        Some(change) => done.min(text.byte_to_line(change.new_start)),
+        None => done,
+    }
+}
+
 /// Drops the rows of a pending pattern from the first line on that the last change of a history's
 /// text touched.
 pub(super) fn keep_before_change(pending: &mut Option<Search>, history: &History)
-    requires { (old : List ℕ) × HoldsPending old pending.old × AreTextChanges old
+    requires { (old : List ℕ) × IsText old × HoldsPending old pending.old × AreTextChanges old
         (text_at history.now.texts history.now.current)
         (ranges_in history.now.is_back history.now.last) }
     ensures holds { HoldsPending (text_at history.now.texts history.now.current) pending.new }
@@ -32,18 +49,16 @@ pub(super) fn keep_before_change(pending: &mut Option<Search>, history: &History
           (ranges_in history.now.is_back history.now.last) p.done;
     }) (shown_pending pending.old) }
 {
-    let Some(search) = pending else {
-        return;
-    };
-    let Some(change) = history.last().first() else {
+    let Some(mut search) = pending.take() else {
         return;
     };
     // Laws, and the text's facts, for the proof alone.
     rope_search_reports::laws::edits_splice_lines();
     rope_search_reports::laws::places_are_in_lines();
-    let text = history.current();
-    let _ = text.len_bytes();
-    search.rows.truncate(text.byte_to_line(change.new_start));
+    let _ = history.current().len_bytes();
+    let kept = lines_kept(history, search.rows.len());
+    search.rows.truncate(kept);
+    *pending = Some(search);
 }
 
 impl Search {
@@ -78,6 +93,35 @@ impl Search {
         let mut made = rows_of_lines(tick, alloc, &mut self.finder, text, done, end)?;
         self.rows.append(&mut made)?;
         Ok(())
+    }
+
+    /// The rows of those of the lines `from` up to `to` that have none yet, as far as there are such.
+    /// It may be refused with `Fault::Memory` alone. The rows that there are stay.
+    fn rows_in_window(
+        &mut self,
+        tick: &mut Lines,
+        alloc: Global,
+        text: &Rope,
+        from: usize,
+        to: usize,
+    ) -> Result<Vec<Row>, Fault>
+        requires { AreFirstRows (text_of text.now) self.old.finder (length self.old.rows.items)
+            self.old.rows.items }
+        ensures rows { IfOk result (λ made. AreRows self.old.finder
+            (take (to - from) (drop from (line_texts (text_of text.now))))
+            (take (to - from) (drop from self.old.rows.items) ++ made.items)) }
+        ensures fault { IfErr result (λ fault. fault ≡ Fault.Memory) }
+        ensures finder { self.new.finder ≡ self.old.finder }
+        ensures kept { self.new.rows.items ≡ self.old.rows.items }
+        ensures count { MakesAtMost
+            (min (to - from) (line_count (text_of text.now) - length self.old.rows.items))
+            tick.old tick.new }
+        ensures each { IfOk result (λ made.
+            MakesAsMany (length made.items) tick.old tick.new) }
+    {
+        let end = to.min(text.len_lines());
+        let first = from.max(self.rows.len()).min(end);
+        rows_of_lines(tick, alloc, &mut self.finder, text, first, end)
     }
 }
 
@@ -211,10 +255,13 @@ impl Buffer {
         let Some(pending) = &mut self.pending else {
             return Err(Fault::Nothing);
         };
+        // Laws, and the text's facts, for the proof alone.
+        rope_search_reports::laws::has_report();
+        rope_search_reports::laws::few_matches();
+        rope_search_reports::laws::one_list_of_matches();
         let text = self.history.current();
-        let end = to.min(text.len_lines());
-        let first = from.max(pending.rows.len()).min(end);
-        let rows = rows_of_lines(tick, self.alloc, &mut pending.finder, text, first, end)?;
+        let _ = text.len_bytes();
+        let rows = pending.rows_in_window(tick, self.alloc, text, from, to)?;
         Ok(rows)
     }
 

@@ -23,3 +23,6 @@ returns-clause-ranges c =
     on_ok c.of_changes.result
     (led-ranges (whole_change (byte_len old) (byte_len new) ∷ []) old new (rope-scalars c.args.old.now c.len_bytes.ensures.cut.cut)
     (rope-scalars c.args.text c.len_bytes-2.ensures.cut.cut) (whole-lead old new))
+
+pub returns-clause-scalars : goal.returns-clause-scalars
+returns-clause-scalars c = rope-scalars c.args.old.now c.len_bytes.ensures.cut.cut
