@@ -13,6 +13,7 @@ from pattern_model import folded_alike, letter_class
 
 STATIC_LIBRARY = os.path.join(LIBRARY_FOLDER, "librope_search.a")
 GUIDED = os.path.join(TOP, "tests", "guided.txt")
+KEPT = os.environ.get("SESSIONS_ROOM")  # a folder that keeps the program, and what it reads, from run to run
 LEAST_RUSTC = 85  # which has the edition of 2024
 BUILD = ["--edition", "2024", "-O", "-C", "panic=abort", "-C", "link-arg=-Wl,--wrap=malloc,--wrap=realloc,--wrap=free"]
 
@@ -36,7 +37,9 @@ def missing():
 @functools.lru_cache(maxsize=None)
 def unicode_file():
     """A file with the ranges of the letter classes, and the characters that have one simple case folding."""
-    path = os.path.join(ROOM, "unicode.txt")
+    path = os.path.join(KEPT or ROOM, "unicode.txt")
+    if KEPT and os.path.exists(path):
+        return path
     with open(path, "w", encoding="utf-8") as out:
         for letter in "dsw":
             print(letter, *(number for ends in letter_class(letter).ranges for number in ends), file=out)
@@ -48,7 +51,9 @@ def unicode_file():
 @functools.lru_cache(maxsize=None)
 def built():
     """The program, or None if it can't be built, and what rustc says then."""
-    made = os.path.join(ROOM, "sessions")
+    made = os.path.join(KEPT or ROOM, "sessions")
+    if KEPT and os.path.exists(made):
+        return made, []
     words = ["rustc", *BUILD, "-L", f"native={LIBRARY_FOLDER}", "-l", "static=rope_search", "-o", made,
              os.path.join(TOP, "tests", "sessions", "main.rs")]
     done = subprocess.run(words, stdin=subprocess.DEVNULL, stderr=subprocess.PIPE, text=True, errors="replace")
