@@ -1,4 +1,5 @@
-"""Programs in C over the library: under sanitizers and valgrind, as far as these are at hand, and how much stack calls take."""
+"""Programs in C over the library: under sanitizers and valgrind, as far as these are at hand, and how much stack calls
+take."""
 import os
 import shutil
 import subprocess
@@ -71,7 +72,7 @@ def test_under_tools():
 
 
 def test_stack():
-    """The deepest tree, the deepest and the largest patterns, and the most groups, by calls on a stack that is then looked at."""
+    """The deepest tree, the deepest and the largest patterns, and the most groups, on a stack that is then looked at."""
     made = os.path.join(ROOM, "stack")
     wrong = compiled(os.path.join(TOP, "tests", "library_stack.c"), ["-D_GNU_SOURCE"], made)
     status, said = (None, "") if wrong else said_by([made, str(MOST_TAKEN)])
