@@ -8,6 +8,7 @@ import functools
 import itertools
 from typing import NamedTuple
 
+import proportion
 import sessions
 import ways
 
@@ -203,6 +204,13 @@ TOPICS = {
         "the line's end; the plain Rust program takes as long as the square",
         [sessions.grow_hostile],
         left_out=r"plain Rust|: 100,000 letters|: 10,000 letters",
+    ),
+    "proportion": Topic(
+        "whether the worst inputs known take instructions, as valgrind's callgrind counts them, time and memory in proportion "
+        "to their size: each beside one of a quarter of the size; patterns weigh up to 262,144, and the size is that of the "
+        "text, or the number of lines, buffers, steps or edits",
+        [proportion.grow_worst, proportion.grow_edits, proportion.time_largest],
+        built=("bin/librope_search.a",),
     ),
     "indices": Topic(
         "counts and conversions of `str_indices`, beside plain loops",

@@ -175,11 +175,12 @@ static unsigned long run(unsigned long at, struct seen *last)
     return asked;
 }
 
-int main(void)
+/* With a number N as its argument, one request in N is refused in turn. */
+int main(int words, char **word)
 {
     static struct seen due, last;
-    unsigned long count = run(0, &due), at;
-    for (at = 1; at <= count; at++) {
+    unsigned long count = run(0, &due), one_in = words > 1 ? strtoul(word[1], NULL, 10) : 1, at;
+    for (at = 1; at <= count; at += one_in) {
         run(at, &last);
         if (memcmp(&due, &last, sizeof due) != 0) {
             wrong++;

@@ -5,10 +5,11 @@ import functools
 from library_groups import due_groups
 from library_lines import ENCODINGS, clamped, line_text, places_of
 from library_edits import places_in
-from library_text_changes import Mirror, ranges_of
 from library_listed import all_listed
+from library_replacing import places_of_match
+from library_text_changes import Mirror, ranges_of
 from pattern_model import is_literal, pattern_weight, tree_of
-from protocol import PATTERN_LIMIT, is_utf8, lines_of, place_of, position_at, positions_of, rows_of, units
+from protocol import PATTERN_LIMIT, expanded, is_utf8, lines_of, place_of, position_at, positions_of, rows_of, units
 from random_sessions import is_light, may_be_heavy
 from test_explanations import is_front
 
@@ -19,8 +20,9 @@ BITS = dict(zip((8, 16, 32), ENCODINGS.values()))
 MOST_CHARACTERS, MOST_OF_LITERALS = 150, 3_000  # of a text in which patterns are searched for
 COMMANDS = {"SetText": "text", "Edit": "edit", "Undo": "undo", "Redo": "redo", "SetPattern": "pattern", "Off": "off", "Next":
             "next", "Replace": "replace", "Fork": "fork", "Choose": "use"}
-REFUSED_IF_CLOSED = (*COMMANDS, "EditAll", "EditBytes", "Forget", "Keep", "GroupsAt", "ByteOf", "PositionOf", "ColumnIn",
-                     "PositionIn", "Clamp", "LineLen")
+REFUSED_IF_CLOSED = (*COMMANDS, "EditAll", "EditBytes", "ReplaceMatch", "Forget", "Keep", "Join", "GroupsAt", "ByteOf",
+                     "PositionOf", "ColumnIn", "PositionIn", "Clamp", "LineLen")
+WITH_PAYLOAD = ("EditAll", "EditBytes", "ReplaceMatch")
 
 
 class Unclear(Exception):
@@ -70,7 +72,7 @@ class Plain:
             return refused(CLOSED if name in REFUSED_IF_CLOSED else 0)
         if name in COMMANDS:
             return self.command(COMMANDS[name], numbers, payload)
-        return getattr(self, name)(*numbers, **({"payload": payload} if name.startswith("Edit") else {}))
+        return getattr(self, name)(*numbers, **({"payload": payload} if name in WITH_PAYLOAD else {}))
 
     def open(self, limit):
         if limit >= 1 << 63:
@@ -142,6 +144,20 @@ class Plain:
         self.mirror.told[number] = told
         self.model.buffer.add(made)
         return refused(0)
+
+    def ReplaceMatch(self, line, number, payload):
+        if self.pattern is None:
+            return refused(1)
+        rows = self.rows()
+        if line >= len(rows) or number >= len(rows[line]):
+            return refused(RANGE)
+        if not is_utf8(payload):
+            return refused(3)
+        start, end, texts = places_of_match(self.text, line, self.pattern, number)
+        return self.EditBytes(start, end, expanded(payload.decode(), texts).encode())
+
+    def Join(self, steps):
+        return refused(0 if self.mirror.join(steps) else 1)
 
     def Forget(self):
         return self.Keep(0)

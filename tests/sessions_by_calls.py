@@ -1,16 +1,20 @@
-"""Random sessions by calls of the C library, in one process, compared with a plain model of it. The program is in Rust,
-in tests/sessions; it is built with rustc and the static library, and gets Unicode's data from Python."""
+"""Sessions at random by calls of the library that C links, in one process, beside a plain model of it. The program is in
+Rust, in tests/sessions; it is built with rustc and the static library, and takes what Unicode says from Python."""
+import base64
 import functools
 import os
 import re
 import shutil
 import subprocess
+import tempfile
 
 from harness import LIBRARY_FOLDER, ROOM, TOP
 from pattern_model import folded_alike, letter_class
 
 STATIC_LIBRARY = os.path.join(LIBRARY_FOLDER, "librope_search.a")
-LEAST_RUSTC = 85  # the 1.x releases that have the edition of 2024
+GUIDED = os.path.join(TOP, "tests", "guided.txt")
+KEPT = os.environ.get("SESSIONS_ROOM")  # a folder that keeps the program, and what it reads, from run to run
+LEAST_RUSTC = 85  # which has the edition of 2024
 BUILD = ["--edition", "2024", "-O", "-C", "panic=abort", "-C", "link-arg=-Wl,--wrap=malloc,--wrap=realloc,--wrap=free"]
 
 
@@ -32,8 +36,10 @@ def missing():
 
 @functools.lru_cache(maxsize=None)
 def unicode_file():
-    """A file with the ranges of the letter classes, and the characters that share a simple case folding."""
-    path = os.path.join(ROOM, "unicode.txt")
+    """A file with the ranges of the letter classes, and the characters that have one simple case folding."""
+    path = os.path.join(KEPT or ROOM, "unicode.txt")
+    if KEPT and os.path.exists(path):
+        return path
     with open(path, "w", encoding="utf-8") as out:
         for letter in "dsw":
             print(letter, *(number for ends in letter_class(letter).ranges for number in ends), file=out)
@@ -44,31 +50,61 @@ def unicode_file():
 
 @functools.lru_cache(maxsize=None)
 def built():
-    """The program, or None if it can't be built, and then rustc's message."""
-    made = os.path.join(ROOM, "sessions")
+    """The program, or None if it can't be built, and what rustc says then."""
+    made = os.path.join(KEPT or ROOM, "sessions")
+    if KEPT and os.path.exists(made):
+        return made, []
     words = ["rustc", *BUILD, "-L", f"native={LIBRARY_FOLDER}", "-l", "static=rope_search", "-o", made,
              os.path.join(TOP, "tests", "sessions", "main.rs")]
     done = subprocess.run(words, stdin=subprocess.DEVNULL, stderr=subprocess.PIPE, text=True, errors="replace")
     return (made if done.returncode == 0 else None), done.stderr.splitlines()
 
 
-def ran(what, seed, first, count):
-    """The output of the program for these sessions of a seed, and its status."""
-    words = [built()[0], unicode_file(), what, *map(str, (seed, first, count))]
+def ran(what, *words):
+    """What the program prints of some sessions, and its status."""
+    words = [built()[0], unicode_file(), what, *map(str, words)]
     settings = {"stdin": subprocess.DEVNULL, "stdout": subprocess.PIPE, "text": True, "errors": "replace"}
     done = subprocess.run(words, check=False, env={**os.environ, "RUST_BACKTRACE": "0"}, **settings)
     return done.stdout, done.returncode
 
 
-def failures(seed, first, count):
-    """The messages for those of these sessions that fail, and the number of those that were compared in part."""
-    said, status = ran("check", seed, first, count)
+def compared(*words):
+    """What is to be said of sessions that fail, and the number of those that were compared in part."""
+    said, status = ran(*words)
     *failed, last = said.rstrip("\n").split("\n")
     counts = last.split(" ")
     if status not in (0, 1) or counts[1:2] != ["sessions,"]:
         return [f"the program ends with {status}: {said[-2_000:]}"], 0
     failed = "\n".join(failed).split("FAILED: ")[1:]
     return [one.rstrip("\n") for one in failed], int(counts[-3])
+
+
+def failures(seed, first, count):
+    """The same of these sessions of a seed."""
+    return compared("check", seed, first, count)
+
+
+def failures_of(paths):
+    """What is to be said of the sessions that the bytes of files choose and that fail."""
+    return compared("bytes", *paths)[0]
+
+
+def write_guided(folder):
+    """Writes the bytes of the sessions of tests/guided.txt, each to a file: their paths."""
+    with open(GUIDED, encoding="ascii") as lines:
+        inputs = [base64.b64decode(line) for line in lines]
+    paths = [os.path.join(folder, f"{number:05}") for number in range(len(inputs))]
+    for path, data in zip(paths, inputs):
+        with open(path, "wb") as out:
+            out.write(data)
+    return paths
+
+
+def failures_of_guided():
+    """What is to be said of the sessions of tests/guided.txt that fail, and how many there are."""
+    with tempfile.TemporaryDirectory(dir=ROOM) as folder:
+        paths = write_guided(folder)
+        return failures_of(paths), len(paths)
 
 
 def sessions_told(seed, first, count):

@@ -1,17 +1,23 @@
-"""bin/rope-search with a failing read or write: its message, its exit status, and its output until then; and as a child
-of a program with non-blocking streams, without a reader, or without any stream."""
+"""What bin/rope-search does where a read or a write fails: its message, its exit status, and what it had
+written by then; and as a child of a program that does without waiting, without a reader, or without any stream."""
+import ctypes
 import fcntl
 import os
 import pty
+import re
 import resource
 import signal
 import subprocess
+import sys
 import tempfile
+import time
 import tty
 
-from harness import FIRST, ROOM, differences, end_of, library, open_input, run, short, start, test, told
+from harness import FIRST, PROGRAM, ROOM, Run, differences, end_of, library, open_input, run, short, start, test, told
 from protocol import answer, read_commands, replies, spelled
 from test_replies import LARGE, MORE_EXAMPLES, examples_of_page
+
+F_SETPIPE_SZ = 1031  # of fcntl.h, which Python names from 3.10 on
 
 
 def test_failing_reads():
@@ -266,6 +272,119 @@ def wrong_at_terminal():
     yield from differences(ended, b"text 0\n\n", 0)
 
 
+def until_it_waits(process):
+    """Returns once the program sleeps, which it does in a read or a write alone, or has ended."""
+    while process.poll() is None:
+        with open(f"/proc/{process.pid}/stat", "rb") as stat:
+            if stat.read().rpartition(b") ")[2].startswith(b"S"):
+                return
+        time.sleep(0.0005)
+
+
+def wrong_slow_writer():
+    """Each byte comes once the program waits for it."""
+    process = start(stdin=subprocess.PIPE, bufsize=0)
+    for byte in FIRST:
+        until_it_waits(process)
+        process.stdin.write(bytes([byte]))
+    yield from differences(end_of(process), *answer(FIRST))
+
+
+def wrong_slow_reader():
+    """A byte at a time is taken from a pipe of a page, once the program waits for room; then the rest."""
+    read_end, write_end = os.pipe()
+    fcntl.fcntl(write_end, F_SETPIPE_SZ, 4_096)
+    process = start(stdin=open_input(LONG_REPLY), stdout=write_end)
+    os.close(write_end)
+    heard = bytearray()
+    while len(heard) < 6_000:
+        if len(heard) % 50 == 0:
+            until_it_waits(process)
+        heard += os.read(read_end, 1)
+    while more := os.read(read_end, 100):
+        heard += more
+    os.close(read_end)
+    process.stdout = None
+    ended = end_of(process)
+    ended.out = bytes(heard)
+    yield from differences(ended, *answer(LONG_REPLY))
+
+
+def wrong_signalled():
+    """Signals that a process ignores unless it handles them come while the program waits for a read, also in a payload,
+    and for a write."""
+    for number in (signal.SIGWINCH, signal.SIGCHLD, signal.SIGURG, signal.SIGCONT):
+        process = start(stdin=subprocess.PIPE, bufsize=0)
+        for part in (FIRST[:3], FIRST[3:10], FIRST[10:], LONG_REPLY):
+            until_it_waits(process)
+            process.send_signal(number)
+            process.stdin.write(part)
+        until_it_waits(process)
+        process.send_signal(number)
+        yield from (f"{number.name}: {line}" for line in differences(end_of(process), *answer(FIRST + LONG_REPLY)))
+
+
+def wrong_ended_by_signal():
+    """Other signals end the program in a read, and what was written are the replies to the commands that were read whole."""
+    for number in (signal.SIGTERM, signal.SIGINT, signal.SIGHUP, signal.SIGKILL):
+        process = start(stdin=subprocess.PIPE, bufsize=0)
+        process.stdin.write(FIRST[:50])
+        until_it_waits(process)
+        process.send_signal(number)
+        out = b"".join(replies(read_commands(FIRST[:50])[0]))
+        yield from (f"{number.name}: {line}" for line in differences(end_of(process), out, -number))
+
+
+# A parent that starts the program, whose number it leaves in a file, gives it some input, and is killed. With one word more
+# it has the only end of a pipe to read the replies.
+PARENT = """import os, signal, subprocess, sys
+program, told, given, *hears = sys.argv[1:]
+read_end, write_end = os.pipe()  # before the other pipe, so that its end is closed first
+process = subprocess.Popen([program], stdin=subprocess.PIPE, stdout=write_end if hears else None)
+os.close(write_end)
+with open(told, "w") as out:
+    out.write(str(process.pid))
+with open(given, "rb") as data:
+    process.stdin.write(data.read())
+process.stdin.flush()
+os.kill(os.getpid(), signal.SIGKILL)
+"""
+PR_SET_CHILD_SUBREAPER = 36
+
+
+def orphaned(data, hears):
+    """The run of a program whose parent is killed, whose end this process then waits for."""
+    number, input_file = os.path.join(ROOM, "number"), os.path.join(ROOM, "given")
+    with open(input_file, "wb") as out:
+        out.write(data)
+    with tempfile.TemporaryFile(dir=ROOM) as out, tempfile.TemporaryFile(dir=ROOM) as err:
+        words = [sys.executable, "-c", PARENT, PROGRAM, number, input_file, *["hears"] * hears]
+        subprocess.run(words, stdin=subprocess.DEVNULL, stdout=out, stderr=err, check=False)
+        with open(number, encoding="ascii") as told_number:
+            _, status = os.waitpid(int(told_number.read()), 0)
+        out.seek(0)
+        err.seek(0)
+        status = -os.WTERMSIG(status) if os.WIFSIGNALED(status) else os.WEXITSTATUS(status)
+        return Run(status, out.read(), err.read())
+
+
+def wrong_without_parent():
+    """A parent that is killed ends the input, so a command that is cut off is told; where it alone heard the replies, the
+    next write fails, also one that waits for room."""
+    becomes_parent = ctypes.CDLL(None).prctl
+    becomes_parent(PR_SET_CHILD_SUBREAPER, 1, 0, 0, 0)
+    cut = b"text 5\nab abprint\ntext 9\nabc"
+    for data, hears, due in (
+        (b"", False, (b"", 0)),
+        (FIRST, False, answer(FIRST)),
+        (cut, False, answer(cut)),
+        (cut, True, (b"", 1, told(b"write failed"))),
+        (LONG_REPLY, True, (b"", 1, told(b"write failed"))),
+    ):
+        yield from (f"{short(data)[:30]}: {line}" for line in differences(orphaned(data, hears), *due))
+    becomes_parent(PR_SET_CHILD_SUBREAPER, 0, 0, 0, 0)
+
+
 def given(word, payload):
     return b"%s %d\n" % (word, len(payload)) + payload
 
@@ -299,6 +418,33 @@ def wrong_with_small_stack():
         yield from (f"input {number}: {line}" for line in wrong + differences(ended, wanted.out, wanted.status))
 
 
+# The most kilobytes of stack that the program uses, by whole pages. Its buffer for replies is among them.
+MOST_STACK = 120
+
+
+def stack_of(data):
+    """The kilobytes of stack that the program has used, once it waits for more input."""
+    with tempfile.TemporaryFile(dir=ROOM) as out:
+        process = subprocess.Popen([PROGRAM], cwd=ROOM, env={}, stdin=subprocess.PIPE, stdout=out, stderr=out, bufsize=0)
+        for at in range(0, len(data), 65_536):
+            process.stdin.write(data[at : at + 65_536])
+        until_it_waits(process)
+        with open(f"/proc/{process.pid}/smaps", encoding="ascii", errors="replace") as maps:
+            found = re.search(r"\[stack\]\n(?:.*\n)*?Rss: +(\d+) kB", maps.read())
+        process.communicate()
+        return int(found[1])
+
+
+def wrong_stack():
+    used = [stack_of(data) for data in DEEP]
+    print(f"stack: {max(used)} kB, and {stack_of(b'')} kB with no input")
+    return [] if max(used) <= MOST_STACK else [f"the inputs use {used} kB"]
+
+
+# The address space that the program gets, in megabytes.
+SPACES = (16, 24, 32, 40, 48, 64, 80, 96, 128, 256)
+
+
 def wrong_in_small_space():
     """If the address space is limited, a text of 20 MB is refused and the following answers are for the text before; or
     it is accepted."""
@@ -306,7 +452,7 @@ def wrong_in_small_space():
     data = given(b"text", b"abc") + given(b"text", text) + b"edit 0 0 0 1 1\nxprint\n"
     answers = {b"ok\nerror memory\nok\ntext 3\nxbc\n": "refused", b"ok\nok\nok\n" + given(b"text", b"x" + text[1:]) + b"\n": "taken"}
     seen = []
-    for megabytes in (16, 32, 64, 128, 256):
+    for megabytes in SPACES:
         def limit():
             resource.setrlimit(resource.RLIMIT_AS, (megabytes << 20, megabytes << 20))
 
@@ -320,7 +466,8 @@ def wrong_in_small_space():
 
 def test_budgets():
     test("a stack of 128 kB", wrong_with_small_stack())
-    test("a text of 20 MB in 16 to 256 MB of address space", wrong_in_small_space())
+    test(f"deep and large inputs use at most {MOST_STACK} kB of it", wrong_stack())
+    test(f"a text of 20 MB in {SPACES[0]} to {SPACES[-1]} MB of address space", wrong_in_small_space())
 
 
 def test_as_child():
@@ -333,6 +480,11 @@ def test_as_child():
     test("standard streams that are closed, full, or open the wrong way", wrong_without_streams())
     test("stopped, and then continued", wrong_stopped())
     test("a terminal's end of input", wrong_at_terminal())
+    test("a slow writer", wrong_slow_writer())
+    test("a slow reader of 200,000 bytes", wrong_slow_reader())
+    test("signals during reads and writes that nothing handles", wrong_signalled())
+    test("signals that end it during a read", wrong_ended_by_signal())
+    test("a parent that is killed", wrong_without_parent())
 
 
 def test_all():

@@ -1,10 +1,13 @@
-"""The first random sessions of tests/fuzz, of the program and of the library, and that one that fails is shortened to
-the commands that matter; and the model of the library's sessions, which is in Rust, compared with Python's models."""
+"""The first sessions at random of tests/fuzz, of the program and of the library, and that one that fails is shortened to
+what is wrong in it; the sessions that tests/guided found; and the model of the library's sessions, which is in Rust, beside
+Python's models."""
+import os
+import re
 from dataclasses import dataclass
 
 import plain_sessions
 import sessions_by_calls
-from harness import share_of, test
+from harness import TOP, share_of, test
 from protocol import read_commands, spelled
 from random_sessions import Trial, failures, shortened, some_trial
 
@@ -36,6 +39,20 @@ def wrong_shortening_by_calls():
         yield f"the calls are shortened to {said!r}"
 
 
+def wrong_kinds():
+    """The model has each call of the header, but for two that are read after each command and those that it says it lacks."""
+    with open(os.path.join(TOP, "include", "rope_search.h"), encoding="utf-8") as header:
+        declared = set(re.findall(r"\brope_search_(\w+)\(", header.read()))
+    with open(os.path.join(TOP, "tests", "sessions", "calls.rs"), encoding="utf-8") as file:
+        text = file.read()
+    kinds = re.findall(r"^    (\w+),$", text.split("pub enum Kind {")[1].split("\n}")[0], re.M)
+    lacking = re.search(r"^/// Calls that the model lacks: (.*)\.$", text, re.M)[1]
+    had = {re.sub(r"(?<!^)([A-Z])", r"_\1", kind).lower() for kind in kinds} | {"changed", "counted"}
+    due = declared - set(re.findall(r"\w+", lacking))
+    yield from (f"the model has no {name}" for name in sorted(due - had))
+    yield from (f"the header has no {name}" for name in sorted(had - due))
+
+
 def wrong_beside_python():
     """What is wrong with the model in Rust; at least two thirds of the sessions must be compared completely."""
     told = [plain_sessions.wrong_session(lines) for lines in sessions_by_calls.sessions_told(SEED, 0, BESIDE_PYTHON)]
@@ -47,13 +64,16 @@ def wrong_beside_python():
 
 def test_by_calls():
     if missing := sessions_by_calls.missing():
-        print(f"{missing}: sessions at random by calls of the library aren't tried")
+        print(f"skipped, {missing}: sessions at random by calls of the library, and those that tests/guided found")
         return
+    test("the model of sessions by calls has each call of the header", wrong_kinds())
     made, said = sessions_by_calls.built()
     test("the sessions by calls, with their model in Rust, are built", said)
     if made:
         wrong, parts = sessions_by_calls.failures(SEED, 0, BY_CALLS)
         test(f"{BY_CALLS} sessions of seed {SEED} by calls of the library, {parts} in part", wrong)
+        wrong, count = sessions_by_calls.failures_of_guided()
+        test(f"the {count} sessions of tests/guided.txt", wrong)
         test("a session by calls that fails is shortened to what fails in it", wrong_shortening_by_calls())
         test(f"the model in Rust beside Python's, {BESIDE_PYTHON} sessions of seed {SEED}", wrong_beside_python())
 

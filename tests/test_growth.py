@@ -1,8 +1,10 @@
-"""All matches take time linear in the text, with patterns whose searches read past their match: in the lines of a
-report and in a whole text, by bin/rope-search, and in one haystack, in lists and in order, by a `Regex` and by the
-PikeVM, on bin/search-driver. No clock is read: if valgrind is installed, its callgrind counts instructions, which are
-the same in each run. Otherwise a message says so, and nothing is tested.
+"""That all matches take time in proportion to the text, under patterns whose searches read on behind what they find: in
+the lines of a report and in a whole text, by bin/rope-search, and in one content, in lists and one after the other, by a
+`Regex` and by the PikeVM, on bin/search-driver; and that other inputs of bin/rope-search do that are the worst known of their
+kind, as bench/proportion.py measures them. No clock is asked: where there is valgrind, its callgrind counts instructions,
+which are the same in each run. Where there is none, that is told, and nothing is tested.
 """
+import random
 import re
 import shutil
 import subprocess
@@ -20,9 +22,45 @@ GROWING = [("(?:a{0,50}b)|a", b"a", 500), (".*x|.", LINE, 5)]
 # bytes.
 SQUARES = [("a*b|a", b"a", 1_000), ("(?s:.*x)|a", LINE, 10)]
 
-# How many times as long the longer text is, and how many times the instructions are too many. Those for the empty text
-# are subtracted from both.
+
+def given(word, payload):
+    return spelled(word, (len(payload),), payload)
+
+
+def many_states(count):
+    """A pattern whose automaton has a state for each of the last twenty letters."""
+    text = bytes(random.Random(5).choices(b"ab", k=count))
+    return given("text", text) + given("pattern", b"(a|b)*a(a|b){20}") + b"next 0 0\nuse 0\n"
+
+
+def empty_lines(count):
+    return given("text", b"\n" * count) + given("pattern", b"x*") + given("replace", b"y") + b"use 0\n"
+
+
+def heavy_pattern(count):
+    """A pattern of weight 250,000, most of which each letter goes through."""
+    return given("text", b"a" * count) + given("pattern", b"(?:(?:a?){290}){290}") + b"use 0\n"
+
+
+def history(count):
+    """Letters typed under a pattern, then as many steps back and forward."""
+    typed = b"".join(spelled("edit", (line % 50, 0, line % 50, 0, 1), b"a") for line in range(count))
+    return given("text", b"a line\n" * 50) + given("pattern", b"a+") + typed + b"undo\n" * count + b"redo\n" * count + b"use 0\n"
+
+
+def buffers(count):
+    """Buffers with a pattern each."""
+    some = (b"fork\nuse %d\n" % (number + 1) + given("pattern", rb"\w+") for number in range(count))
+    return given("text", b"one two\n" * 10) + b"".join(some) + b"use 0\n"
+
+
+# So many times as long is the longer text, and so many times the instructions are too many. Those of no text are taken
+# off both.
 LONGER, TOO_MANY = 4, 6
+# Inputs of a size, whose last reply is `ok`, the smaller size, and how many times the instructions are too many. At first
+# an automaton makes a state for each letter, and each takes longer the more there are, up to the room that it has.
+WORST = [(many_states, 2_000, 9), (empty_lines, 1_000, TOO_MANY), (heavy_pattern, 500, TOO_MANY), (history, 250, TOO_MANY),
+         (buffers, 20, TOO_MANY)]
 
 
 def session(pattern, text, *more):
@@ -76,10 +114,20 @@ def instructions(program, data, end):
 def growth(way, pattern, part, count):
     """What is wrong with the growth of the number of instructions with the text."""
     texts = (part * size for size in (0, count, LONGER * count))
-    (none, *wrong), (once, *second), (grown, *third) = (instructions(*way(pattern, text)) for text in texts)
+    return wrong_growth([way(pattern, text) for text in texts])
+
+
+def growth_of(worst, count, too_many):
+    """The same of the inputs of a size."""
+    return wrong_growth([(PROGRAM, worst(size), b"ok\n") for size in (0, count, LONGER * count)], too_many)
+
+
+def wrong_growth(runs, too_many=TOO_MANY):
+    """What is wrong with the instructions of three runs: of nothing, of some size and of the longer one."""
+    (none, *wrong), (once, *second), (grown, *third) = (instructions(*run) for run in runs)
     once, grown = once - none, grown - none
     yield from wrong[0] + second[0] + third[0]
-    if not 0 < grown < TOO_MANY * once:
+    if not 0 < grown < too_many * once:
         yield f"{once:,} instructions, and {grown:,} for {LONGER} times the text"
 
 
@@ -91,3 +139,7 @@ def test_all():
         for name, way in ways.items():
             what = f"{LONGER} times {len(part) * count:,} bytes take less than {TOO_MANY} times the instructions"
             test(f"all matches of {pattern} {name}: {what}", growth(way, pattern, part, count))
+    for worst, count, too_many in WORST:
+        name = worst.__name__.replace("_", " ")
+        what = f"{LONGER} times {count:,} take less than {too_many} times the instructions"
+        test(f"{name}: {what}", growth_of(worst, count, too_many))

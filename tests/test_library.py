@@ -1,6 +1,6 @@
 """The library that C links: its declarations, the worked inputs and sessions at random by its calls beside what the
 program replies, what its copies leave in a caller's array, calls of closed sessions, and programs in C, C++ and Lua,
-under the address, undefined-behaviour and thread sanitizers, and with each of its requests for memory refused in turn.
+under sanitizers and valgrind, on a stack that is measured, and with each of its requests for memory refused in turn.
 """
 import ctypes
 import itertools
@@ -16,6 +16,7 @@ from library import replies, reply, rope_search
 from library_changes import wrong_changes
 from library_edits import wrong_many, wrong_with
 from library_groups import wrong_groups
+from library_in_c import STRICT, test_stack, test_under_tools
 from library_lines import wrong_edits, wrong_long, wrong_numbers, wrong_small
 from library_listed import wrong_listed
 from library_pane import wrong_document
@@ -30,10 +31,6 @@ from test_pattern_model import mangled
 from test_replies import MORE_EXAMPLES, examples_of_page
 
 HEADER = os.path.join(TOP, "include", "rope_search.h")
-STRICT = ["-std=c99", "-pedantic", "-O1", "-g", "-Wall", "-Wextra", "-Werror"]
-SANITIZED = ["-fsanitize=address,undefined", "-fno-sanitize-recover=all"]
-# The thread sanitizer's own memory isn't found where addresses are laid out at random too widely.
-FIXED = ["setarch", "-R"] if shutil.which("setarch") else []
 EDITED, GROUPED, LISTED, MANGLED = 4_000, 1_000, 2_000, 2_000
 # The name of a parameter of C, behind its type.
 PARAMETER = re.compile(r"\s*\b(?!const\b|size_t\b|bool\b|void\b|u?int\d+_t\b|rope_search\w*\b)\w+$")
@@ -487,13 +484,11 @@ def at(*names):
 
 
 def test_programs():
-    if made := built("library-calls", [at("tests", "library_calls.c")], [*STRICT, *SANITIZED]):
-        test("calls in C, under the address and undefined-behaviour sanitizers", ended([made]))
+    test_under_tools()
+    test_stack()
     wraps = ["-Wl,--wrap=malloc,--wrap=realloc"]
     if made := built("library-memory", [at("tests", "library_memory.c")], [*STRICT, *wraps]):
         test("each request of the library for memory refused in turn", ended([made]))
-    if made := built("library-threads", [at("tests", "library_threads.c")], [*STRICT, "-fsanitize=thread"]):
-        test("sessions on several threads, under the thread sanitizer", ended([*FIXED, made]))
     if made := built("library-c", [at("examples", "session.c")], STRICT):
         test("examples/session.c", ended([made]))
     flags = ["-std=c++11", "-O1", "-Wall", "-Wextra", "-Werror"]

@@ -1,9 +1,10 @@
 //! Calls of the library as data, and what they answer.
 use std::fmt;
 
-/// The calls of include/rope_search.h, but for `join`, `replace_match` and `replace_listed`, and for
-/// `changed` and `counted`, which are asked after each command. The comments name their numbers; a
-/// call's `bytes` are its text.
+/// The calls of include/rope_search.h, but for `changed` and `counted`, which are read after each
+/// command. The comments name the numbers of a call; its `bytes` are its text.
+///
+/// Calls that the model lacks: advance, begin_pattern, cancel, copy_pending, count_pending, pending, replace_listed, window.
 #[derive(Debug, Clone, Copy, PartialEq, Eq)]
 pub enum Kind {
     /// The limit.
@@ -24,12 +25,16 @@ pub enum Kind {
     /// A position.
     Next,
     Replace,
+    /// A line and a number.
+    ReplaceMatch,
     Fork,
     /// A number.
     Choose,
     Forget,
     /// A number of steps.
     Keep,
+    /// A number of steps.
+    Join,
     Buffers,
     Chosen,
     CanUndo,
@@ -104,7 +109,8 @@ pub const READS: [Kind; 25] = [
 ];
 
 impl Kind {
-    /// Whether memory may be refused to it; `undo` and `redo` need some under a pattern alone.
+    /// Whether memory may be refused to it; `undo` and `redo` need some only under a pattern, `join`
+    /// only for two steps or more.
     pub fn may_need_memory(self) -> bool {
         use Kind::*;
         matches!(
@@ -119,7 +125,9 @@ impl Kind {
                 | PatternError
                 | Next
                 | Replace
+                | ReplaceMatch
                 | Fork
+                | Join
                 | GroupsAt
         )
     }
@@ -140,10 +148,12 @@ impl Kind {
                 | Off
                 | Next
                 | Replace
+                | ReplaceMatch
                 | Fork
                 | Choose
                 | Forget
                 | Keep
+                | Join
                 | PatternError
                 | GroupsAt
         )
@@ -154,7 +164,16 @@ impl Kind {
         use Kind::*;
         matches!(
             self,
-            SetText | Edit | EditAll | EditBytes | Undo | Redo | SetPattern | Off | Replace
+            SetText
+                | Edit
+                | EditAll
+                | EditBytes
+                | Undo
+                | Redo
+                | SetPattern
+                | Off
+                | Replace
+                | ReplaceMatch
         )
     }
 }

@@ -76,10 +76,18 @@ unsafe extern "C" {
     fn rope_search_off(s: *mut Handle) -> u32;
     fn rope_search_next(s: *mut Handle, from: Position, found: *mut Words<5>) -> u32;
     fn rope_search_replace(s: *mut Handle, by: *const u8, len: usize, count: *mut usize) -> u32;
+    fn rope_search_replace_match(
+        s: *mut Handle,
+        line: usize,
+        number: usize,
+        by: *const u8,
+        len: usize,
+    ) -> u32;
     fn rope_search_fork(s: *mut Handle, number: *mut usize) -> u32;
     fn rope_search_choose(s: *mut Handle, number: u64) -> u32;
     fn rope_search_forget(s: *mut Handle) -> u32;
     fn rope_search_keep(s: *mut Handle, steps: usize) -> u32;
+    fn rope_search_join(s: *mut Handle, steps: usize) -> u32;
     fn rope_search_buffers(s: *mut Handle) -> usize;
     fn rope_search_chosen(s: *mut Handle) -> usize;
     fn rope_search_can_undo(s: *mut Handle) -> bool;
@@ -297,6 +305,9 @@ unsafe fn change_text(
             Kind::Undo => rope_search_undo(s),
             Kind::Redo => rope_search_redo(s),
             Kind::Replace => rope_search_replace(s, text, len, &mut out.word),
+            Kind::ReplaceMatch => {
+                rope_search_replace_match(s, n[0] as usize, n[1] as usize, text, len)
+            }
             _ => return None,
         }
     })
@@ -320,6 +331,7 @@ unsafe fn carry_out(s: *mut Handle, call: &Call, out: &mut Out) -> u32 {
             Kind::Choose => rope_search_choose(s, n[0]),
             Kind::Forget => rope_search_forget(s),
             Kind::Keep => rope_search_keep(s, n[0] as usize),
+            Kind::Join => rope_search_join(s, n[0] as usize),
             Kind::GroupsAt => {
                 let (to, room) = (out.groups.as_mut_ptr(), n[2] as usize);
                 rope_search_groups_at(s, n[0] as usize, n[1] as usize, to, room)

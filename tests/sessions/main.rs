@@ -2,8 +2,9 @@
 //!
 //!     sessions UNICODE check SEED FIRST COUNT    compares these sessions of a seed
 //!     sessions UNICODE tell SEED FIRST COUNT     prints their calls and what the model answers
-//!     sessions UNICODE planted SEED FIRST COUNT  shortens the first in which an undo follows a
-//!                                                pattern with a bar, as if it failed there
+//!     sessions UNICODE planted SEED FIRST COUNT  shortens the first in which an undo follows a pattern
+//!                                                with a bar, as if the library failed there
+//!     sessions UNICODE bytes FILE..              compares the sessions that the bytes of files choose
 //!
 //! tests/sessions_by_calls.py writes the file UNICODE. `check` prints each session that fails as
 //! its least calls, with what is wrong then; its last line has the number of sessions, of those
@@ -43,6 +44,14 @@ const MOST_FAILURES: u64 = 5;
 /// Texts of so many bytes are told only where a call reads them.
 const MOST_TOLD: u64 = 2_000;
 
+/// Sessions by their numbers, and how each is named.
+struct Sessions<'a> {
+    end: u64,
+    of: &'a dyn Fn(u64) -> Vec<Call>,
+    name: &'a dyn Fn(u64) -> String,
+    patterns: &'a Rc<Patterns>,
+}
+
 /// What the sessions of a process came to.
 #[derive(Default)]
 struct Told {
@@ -52,10 +61,10 @@ struct Told {
 
 /// Compares sessions up to the first that fails. Each is noted before it begins, so that its number
 /// is known if the library ends the process.
-fn check_some(seed: u64, first: u64, end: u64, patterns: &Rc<Patterns>, progress: &Progress) -> u8 {
-    for number in first..end {
+fn check_some(sessions: &Sessions, first: u64, progress: &Progress) -> u8 {
+    for number in first..sessions.end {
         progress.begin(number);
-        match check(&writer::session(seed, number, patterns), patterns) {
+        match check(&(sessions.of)(number), sessions.patterns) {
             Ok(()) => {}
             Err(Wrong::TooLong) => progress.add_too_long(),
             Err(Wrong::At(..)) => return 1,
@@ -77,21 +86,21 @@ fn wrong_with(calls: &[Call], patterns: &Rc<Patterns>) -> Option<String> {
     }
 }
 
-fn print_failure(seed: u64, number: u64, calls: &[Call], said: &str) {
-    println!("FAILED: session {number} of seed {seed}:");
+fn print_failure(name: &str, calls: &[Call], said: &str) {
+    println!("FAILED: {name}:");
     for call in calls {
         println!("    {call}");
     }
     println!("    {said}");
 }
 
-fn tell_failure(seed: u64, number: u64, patterns: &Rc<Patterns>) {
-    let calls = writer::session(seed, number, patterns);
+fn tell_failure(sessions: &Sessions, number: u64) {
+    let (calls, patterns) = ((sessions.of)(number), sessions.patterns);
     let is_wrong = |calls: &[Call]| wrong_with(calls, patterns).is_some();
     let least = if is_wrong(&calls) { shorten::shortened(calls, &is_wrong) } else { calls };
     let said = wrong_with(&least, patterns);
     let said = said.unwrap_or("it fails after other sessions alone".to_string());
-    print_failure(seed, number, &least, &said);
+    print_failure(&(sessions.name)(number), &least, &said);
 }
 
 /// Whether an undo follows a pattern with a bar: the failure of `planted`.
@@ -105,24 +114,47 @@ fn tell_planted(seed: u64, first: u64, end: u64, patterns: &Rc<Patterns>) {
     let mut sessions = (first..end).map(|number| (number, writer::session(seed, number, patterns)));
     if let Some((number, calls)) = sessions.find(|(_, calls)| is_planted(calls)) {
         let least = shorten::shortened(calls, &is_planted);
-        print_failure(seed, number, &least, "planted");
+        print_failure(&named(seed, number), &least, "planted");
     }
 }
 
-fn check_all(seed: u64, first: u64, count: u64, patterns: &Rc<Patterns>) -> Told {
-    let (progress, end) = (Progress::new(), first + count);
-    let (mut told, mut next) = (Told::default(), first);
-    while next < end && told.wrong < MOST_FAILURES {
-        let ended = processes::in_child(|| check_some(seed, next, end, patterns, &progress));
+fn check_all(sessions: &Sessions, first: u64) -> Told {
+    let (mut told, mut next, progress) = (Told::default(), first, Progress::new());
+    while next < sessions.end && told.wrong < MOST_FAILURES {
+        let ended = processes::in_child(|| check_some(sessions, next, &progress));
         if let Ended::Exit(0) = ended {
             break;
         }
-        tell_failure(seed, progress.begun(), patterns);
+        tell_failure(sessions, progress.begun());
         told.wrong += 1;
         next = progress.begun() + 1;
     }
     told.too_long = progress.too_long();
     told
+}
+
+/// Compares sessions, prints how many of them failed, and ends with a status that says so.
+fn check_and_end(sessions: &Sessions, first: u64) {
+    let (told, count) = (check_all(sessions, first), sessions.end - first);
+    println!("{count} sessions, {} failed, {} in part", told.wrong, told.too_long);
+    std::process::exit(if told.wrong > 0 { 1 } else { 0 });
+}
+
+fn check_files(paths: &[String], patterns: &Rc<Patterns>) {
+    let bytes = |number: u64| std::fs::read(&paths[number as usize]).expect("a file of bytes");
+    let of = |number| writer::session_of_bytes(&bytes(number), patterns);
+    let name = |number: u64| paths[number as usize].clone();
+    check_and_end(&Sessions { end: paths.len() as u64, of: &of, name: &name, patterns }, 0);
+}
+
+fn named(seed: u64, number: u64) -> String {
+    format!("session {number} of seed {seed}")
+}
+
+fn check_seed(seed: u64, first: u64, end: u64, patterns: &Rc<Patterns>) {
+    let of = |number| writer::session(seed, number, patterns);
+    let name = |number| named(seed, number);
+    check_and_end(&Sessions { end, of: &of, name: &name, patterns }, first);
 }
 
 /// Prints a call with what the model answers, if it does.
@@ -154,11 +186,14 @@ fn tell(seed: u64, number: u64, patterns: &Rc<Patterns>) -> Result<(), walks::To
 
 fn main() {
     let words: Vec<String> = std::env::args().skip(1).collect();
-    let [file, what, numbers @ ..] = &words[..] else { panic!("see the head of main.rs") };
-    let numbers: Vec<u64> = numbers.iter().map(|one| one.parse().expect("a number")).collect();
-    let [seed, first, count] = numbers[..] else { panic!("a seed, a first one and a count") };
+    let [file, what, more @ ..] = &words[..] else { panic!("see the head of main.rs") };
     let unicode = Unicode::read(&std::fs::read_to_string(file).expect("the file"));
     let patterns = Rc::new(Patterns::new(unicode));
+    if what == "bytes" {
+        return check_files(more, &patterns);
+    }
+    let numbers: Vec<u64> = more.iter().map(|one| one.parse().expect("a number")).collect();
+    let [seed, first, count] = numbers[..] else { panic!("a seed, a first one and a count") };
     match what.as_str() {
         "tell" => {
             for number in first..first + count {
@@ -167,10 +202,6 @@ fn main() {
             }
         }
         "planted" => tell_planted(seed, first, first + count, &patterns),
-        _ => {
-            let told = check_all(seed, first, count, &patterns);
-            println!("{count} sessions, {} failed, {} in part", told.wrong, told.too_long);
-            std::process::exit(if told.wrong > 0 { 1 } else { 0 });
-        }
+        _ => check_seed(seed, first, first + count, &patterns),
     }
 }

@@ -2,7 +2,7 @@
 //! history is kept whole, and all that is asked of it is computed from it.
 use crate::calls::*;
 use crate::patterns::{Pattern, Patterns, Refused, Row, mistake_in};
-use crate::replacing::replaced;
+use crate::replacing::{expanded, names_a_group, replaced};
 use crate::texts::{Text, line_count};
 use crate::walks::TooLong;
 use std::rc::Rc;
@@ -126,6 +126,7 @@ impl Model {
         let has_pattern = self.buffer().is_some_and(|buffer| buffer.pattern.is_some());
         match call.kind {
             Kind::Undo | Kind::Redo => has_pattern,
+            Kind::Join => call.numbers[0] > 1,
             kind => kind.may_need_memory(),
         }
     }
@@ -149,10 +150,12 @@ impl Model {
             Kind::Off => self.off(),
             Kind::Next => return self.next((call.numbers[0], call.numbers[1])),
             Kind::Replace => return self.replace(&call.bytes),
+            Kind::ReplaceMatch => self.replace_match(call)?,
             Kind::Fork => return Ok(self.fork()),
             Kind::Choose => self.choose(call.numbers[0]),
             Kind::Forget => self.keep(0),
             Kind::Keep => self.keep(call.numbers[0]),
+            Kind::Join => self.join(call.numbers[0]),
             Kind::GroupsAt => return self.groups_at(&call.numbers),
             kind => unreachable!("{kind:?} is no command"),
         };
@@ -296,6 +299,31 @@ impl Model {
         }
     }
 
+    /// Replaces a match of the report. It may count a row for the groups of the match, also where
+    /// the new text is too long.
+    fn replace_match(&mut self, call: &Call) -> Result<u64, TooLong> {
+        let (text, limit) = (self.session().buffer().text(), self.session().limit);
+        let Some(pattern) = self.session().buffer().pattern.clone() else { return Ok(NONE) };
+        let Some((start, end)) = text.line(call.numbers[0]) else { return Ok(RANGE) };
+        let line = &text.chars[start..end];
+        let matches = pattern.matches(line)?;
+        let number = usize::try_from(call.numbers[1]).unwrap_or(usize::MAX);
+        let Some(slots) = matches.get(number) else { return Ok(RANGE) };
+        let Some(template) = Text::read(&call.bytes) else { return Ok(UTF8) };
+        let (first, last) = slots[0].zip(slots[1]).expect("a match has bounds");
+        let part = (start + first, start + last, expanded(line, &template.chars, slots));
+        let made = put(&text, vec![part], limit);
+        let status = made.map_or_else(
+            |status| status,
+            |(new, changes)| {
+                self.add(new, changes);
+                DONE
+            },
+        );
+        self.cost.rows += u64::from(names_a_group(&template.chars));
+        Ok(status)
+    }
+
     fn fork(&mut self) -> Answer {
         let text = self.session().buffer().text();
         let buffers = &mut self.session().buffers;
@@ -322,6 +350,20 @@ impl Model {
         DONE
     }
 
+    /// Makes the last undo steps one.
+    fn join(&mut self, steps: u64) -> u64 {
+        let buffer = self.session().buffer();
+        let Some(first) = (buffer.at as u64).checked_sub(steps) else { return NONE };
+        if steps > 1 {
+            let (from, to) = (first as usize, buffer.at);
+            let led = composed(buffer.steps[from].text.byte_len(), &buffer.steps[from + 1..=to]);
+            buffer.steps[to].led = Rc::new(led);
+            buffer.steps.drain(from + 1..to);
+            buffer.at = from + 1;
+        }
+        DONE
+    }
+
     /// The groups 0 to 9 of a match, as many as there is room for.
     fn groups_at(&mut self, numbers: &[u64]) -> Answered {
         let (line, number, room) = (numbers[0], numbers[1], numbers[2]);
@@ -344,6 +386,32 @@ impl Model {
         };
         Ok(Answer::new(DONE, (0..10.min(room as usize)).flat_map(told).collect()))
     }
+}
+
+/// The ranges of several steps put together: what is between the bytes of a text of this length that
+/// stay through all of them. Empty ranges are left out.
+fn composed(len: u64, steps: &[Step]) -> Vec<Change> {
+    let mut stays: Vec<Option<u64>> = (0..len).map(Some).collect();
+    for step in steps {
+        let (mut after, mut at) = (Vec::new(), 0);
+        for &[first, last, start, stop] in &*step.led {
+            after.extend_from_slice(&stays[at..first as usize]);
+            after.resize(after.len() + (stop - start) as usize, None);
+            at = last as usize;
+        }
+        after.extend_from_slice(&stays[at..]);
+        stays = after;
+    }
+    let new_len = stays.len() as u64;
+    let pairs = stays.iter().enumerate().filter_map(|(new, old)| Some((new as u64, (*old)?)));
+    let (mut changes, mut old_at, mut new_at) = (Vec::new(), 0, 0);
+    for (new, old) in pairs.chain([(new_len, len)]) {
+        if old > old_at || new > new_at {
+            changes.push([old_at, old, new_at, new]);
+        }
+        (old_at, new_at) = (old + 1, new + 1);
+    }
+    changes
 }
 
 /// A part of a text, as its places, and what takes its place.

@@ -8,7 +8,7 @@ use crate::walks::{Slots, TooLong};
 pub fn replaced(text: &Text, pattern: &Pattern, template: &[char]) -> Result<Vec<Part>, TooLong> {
     let parts = pattern.matches(&text.chars)?.into_iter().map(|slots| {
         let (start, end) = bounds(&slots, 0).expect("a match has bounds");
-        (start, end, expanded(text, template, &slots))
+        (start, end, expanded(&text.chars, template, &slots))
     });
     Ok(parts.collect())
 }
@@ -17,27 +17,45 @@ fn bounds(slots: &Slots, group: usize) -> Option<(usize, usize)> {
     Some(((*slots.get(2 * group)?)?, (*slots.get(2 * group + 1)?)?))
 }
 
-/// What a template stands for at a match: `$` and a digit for that group's text, `$$` for a dollar.
-fn expanded(text: &Text, template: &[char], slots: &Slots) -> Vec<char> {
-    let (mut chars, mut at) = (Vec::new(), 0);
+/// An item of a template: a character, or `$` and a digit, which is the text of that group.
+enum Item {
+    Char(char),
+    Group(usize),
+}
+
+/// The items of a template, in which `$$` is a dollar.
+fn items(template: &[char]) -> Vec<Item> {
+    let (mut items, mut at) = (Vec::new(), 0);
     while let Some(&c) = template.get(at) {
         let next = template.get(at + 1).filter(|_| c == '$');
-        match next.map(|&next| (next, next.to_digit(10))) {
-            Some((_, Some(group))) => {
-                if let Some((start, end)) = bounds(slots, group as usize) {
-                    chars.extend_from_slice(&text.chars[start..end]);
+        let (item, len) = match next.map(|&next| (next, next.to_digit(10))) {
+            Some((_, Some(group))) => (Item::Group(group as usize), 2),
+            Some(('$', _)) => (Item::Char('$'), 2),
+            _ => (Item::Char(c), 1),
+        };
+        items.push(item);
+        at += len;
+    }
+    items
+}
+
+/// The template with the groups of a match in `chars`.
+pub fn expanded(chars: &[char], template: &[char], slots: &Slots) -> Vec<char> {
+    let mut expansion = Vec::new();
+    for item in items(template) {
+        match item {
+            Item::Char(c) => expansion.push(c),
+            Item::Group(group) => {
+                if let Some((start, end)) = bounds(slots, group) {
+                    expansion.extend_from_slice(&chars[start..end]);
                 }
-                at += 2;
-            }
-            Some(('$', _)) => {
-                chars.push('$');
-                at += 2;
-            }
-            _ => {
-                chars.push(c);
-                at += 1;
             }
         }
     }
-    chars
+    expansion
+}
+
+/// Whether a template names a group other than the whole match.
+pub fn names_a_group(template: &[char]) -> bool {
+    items(template).iter().any(|item| matches!(item, Item::Group(1..)))
 }

@@ -38,7 +38,7 @@ const LEAF: usize = 984;
 const MOST: u64 = u64::MAX;
 const TEXT_LIMIT: u64 = 1 << 30;
 /// How often a session has each command: one of all kinds, and one that goes back and forward.
-const WORDS: [Kind; 18] = [
+const WORDS: [Kind; 20] = [
     Kind::Edit,
     Kind::EditBytes,
     Kind::EditAll,
@@ -57,10 +57,13 @@ const WORDS: [Kind; 18] = [
     Kind::PatternError,
     Kind::Open,
     Kind::Close,
+    Kind::ReplaceMatch,
+    Kind::Join,
 ];
-const OF_ALL_KINDS: &[u32] = &[24, 10, 12, 14, 6, 7, 2, 3, 5, 1, 8, 8, 1, 2, 6, 2, 1, 1];
-const BACK_AND_FORWARD: &[u32] = &[10, 5, 10, 28, 18, 2, 1, 1, 1, 2, 0, 14, 1, 4, 2, 0, 0, 0];
-const OF_LONG_HISTORIES: &[u32] = &[60, 10, 2, 6, 3, 1, 0, 0, 0, 0, 2, 1, 0, 1, 1, 0, 0, 0];
+const OF_ALL_KINDS: &[u32] = &[24, 10, 12, 14, 6, 7, 2, 3, 5, 1, 8, 8, 1, 2, 6, 2, 1, 1, 8, 6];
+const BACK_AND_FORWARD: &[u32] =
+    &[10, 5, 10, 28, 18, 2, 1, 1, 1, 2, 0, 14, 1, 4, 2, 0, 0, 0, 8, 14];
+const OF_LONG_HISTORIES: &[u32] = &[60, 10, 2, 6, 3, 1, 0, 0, 0, 0, 2, 1, 0, 1, 1, 0, 0, 0, 6, 2];
 
 struct Writer {
     random: Random,
@@ -89,10 +92,27 @@ pub fn session(seed: u64, number: u64, patterns: &Rc<Patterns>) -> Vec<Call> {
     writer.calls
 }
 
+/// The calls of a session that some bytes choose.
+pub fn session_of_bytes(bytes: &[u8], patterns: &Rc<Patterns>) -> Vec<Call> {
+    let mut random = Random::of_bytes(bytes);
+    let refused = random.one_of(&[0, 0, 300]);
+    let model = Model::new(patterns);
+    let mut writer = Writer { random, model, calls: Vec::new(), refused, is_over: false };
+    while !writer.random.is_over() && !writer.is_over {
+        match writer.random.below(5) {
+            0 => writer.hostile(),
+            1 => writer.long(),
+            2 => writer.many(),
+            _ => writer.plain(),
+        }
+    }
+    writer.calls
+}
+
 impl Writer {
     /// Adds a call, which the model carries out as if no memory were refused to it.
     fn write(&mut self, kind: Kind, numbers: &[u64], text: &[u8]) {
-        if self.is_over {
+        if self.is_over || self.random.is_over() {
             return;
         }
         let mut call = Call::new(kind, numbers, text);
@@ -206,6 +226,10 @@ impl Writer {
                 }
             }
             if self.random.per_mille(10) {
+                let steps = self.random.between(2, 120) as u64;
+                self.write(Kind::Join, &[steps], &[]);
+            }
+            if self.random.per_mille(10) {
                 let (text, count) = (self.text(), self.random.between(20, 200));
                 self.edit_all(&text, count);
             }
@@ -255,7 +279,9 @@ impl Writer {
             Kind::Fork,
             Kind::Choose,
             Kind::Replace,
+            Kind::ReplaceMatch,
             Kind::Keep,
+            Kind::Join,
             Kind::GroupsAt,
         ];
         let kind = self.random.one_of(&kinds);
@@ -354,6 +380,11 @@ impl Writer {
                 let position = self.some_position(&text);
                 self.write(kind, &position, &[]);
             }
+            Kind::ReplaceMatch => {
+                let place = self.some_match(&text);
+                let template = self.template(is_long);
+                self.bad_or_at(kind, &place, &template);
+            }
             Kind::GroupsAt => self.groups_at(&text),
             _ => self.plain_command(kind),
         }
@@ -367,6 +398,7 @@ impl Writer {
                 vec![self.random.between(buffers.saturating_sub(4), buffers) as u64]
             }
             Kind::Keep => vec![self.random.one_of(&[0, 1, 1, 2, 5, MOST])],
+            Kind::Join => vec![self.random.one_of(&[0, 1, 2, 2, 2, 3, 3, 4, 7, MOST])],
             Kind::Open => vec![self.random.one_of(&[TEXT_LIMIT, TEXT_LIMIT, 20, 1 << 63, MOST])],
             _ => Vec::new(),
         };
@@ -375,13 +407,17 @@ impl Writer {
 
     /// A call with a text, which now and then isn't UTF-8.
     fn bad_or(&mut self, kind: Kind, text: &str) {
+        self.bad_or_at(kind, &[], text);
+    }
+
+    fn bad_or_at(&mut self, kind: Kind, numbers: &[u64], text: &str) {
         if self.random.per_mille(15) {
             let bad: &[&[u8]] =
                 &[b"\xff", b"a\xed\xa0\x80", b"\xc3", b"\xf4\x90\x80\x80", b"\xc0\x80"];
             let bytes = [text.as_bytes(), self.random.one_of(bad)].concat();
-            return self.write(kind, &[], &bytes);
+            return self.write(kind, numbers, &bytes);
         }
-        self.say(kind, text);
+        self.write(kind, numbers, text.as_bytes());
     }
 
     fn template(&mut self, is_long: bool) -> String {
@@ -402,7 +438,7 @@ impl Writer {
     fn some_number(&mut self, most: u64) -> u64 {
         match self.random.below(20) {
             0 => self.random.one_of(&[MOST, 1 << 63, (1 << 32) - 1, 1 << 32]),
-            _ => self.random.next() % (most + 1),
+            _ => self.random.below(most as usize + 1) as u64,
         }
     }
 
@@ -452,12 +488,26 @@ impl Writer {
     }
 
     fn groups_at(&mut self, text: &Text) {
+        let [line, number] = self.some_match(text);
+        let room = self.random.one_of(&[10, 10, 10, 0, 1, 3, 12]);
+        self.write(Kind::GroupsAt, &[line, number, room], &[]);
+    }
+
+    /// The line and the number of a match: any line with a small number, or the next listed match.
+    fn some_match(&mut self, text: &Text) -> [u64; 2] {
         let line = match self.random.below(10) {
             0 => self.some_number(6),
             _ => self.random.below(text.lines.len()) as u64,
         };
-        let numbers = [line, self.some_number(2), self.random.one_of(&[10, 10, 10, 0, 1, 3, 12])];
-        self.write(Kind::GroupsAt, &numbers, &[]);
+        let number = self.some_number(2);
+        let rows = self.model.buffer().and_then(|buffer| buffer.rows().ok());
+        let rows = rows.filter(|_| self.random.per_mille(700)).unwrap_or_default();
+        let count = rows.len() as u64;
+        let mut lines = (line.min(count)..count).chain(0..count);
+        match lines.find(|&line| !rows[line as usize].is_empty()) {
+            Some(line) => [line, self.random.below(rows[line as usize].len()) as u64],
+            None => [line, number],
+        }
     }
 
     /// A call that reads, about something that is there or isn't.
