@@ -13,7 +13,10 @@ use std::alloc::Global;
 fn count_of(answer: Result<usize, Fault>) -> usize
     ensures { result ≡ listed.count_of answer }
 {
-    answer.unwrap_or(0)
+    match answer {
+        Ok(count) => count,
+        Err(_) => 0,
+    }
 }
 
 impl CountingSession {
