@@ -58,8 +58,8 @@ begun_limit pattern old new (Err fault) told same = ap (λ (b : LimitedBuffer). 
 -- ---- a slice
 
 -- a pattern is pending where a slice is done
-some-pending : (old : LimitedBuffer) (b : Bool) → ((Ok {T = Bool} {E = Fault} b ≡ Err Nothing) ↔ (old.pending ≡ None)) → old.pending ≡ None → ⊥
-some-pending old b nothing none = let e = nothing.1 none in absurd cc
+some-pending : (old : LimitedBuffer) (b : Bool) (result : Result Bool Fault) → result ≡ Ok b → ((result ≡ Err Nothing) ↔ (old.pending ≡ None)) → old.pending ≡ None → ⊥
+some-pending old b result is nothing none = let e = nothing.1 none in absurd cc
 
 -- the buffer once all lines are done
 done_state : (old new : LimitedBuffer) (pending : Option PendingPattern) → (pending ≡ None → ⊥) → IfSome pending (λ p. new ≡ patterned old p.pattern)
@@ -76,30 +76,30 @@ left_state old new lines (Some p) some told = (ap (λ (b : LimitedBuffer). b.sta
 pub advanced_limit : (lines : ℕ) (old new : LimitedBuffer) (result : Result Bool Fault) → IfOk result (λ b. Advances lines b old new) → ((result ≡ Err Nothing) ↔ (old.pending ≡ None))
     → OnErr result (new ≡ old) → new.limit ≡ old.limit
 advanced_limit lines old new (Ok true) told nothing same =
-    let done = done_state old new old.pending (some-pending old true nothing) told.1 in ap (λ (b : LimitedBuffer). b.limit) done.2
-advanced_limit lines old new (Ok false) told nothing same = (left_state old new lines old.pending (some-pending old false nothing) told.1).1
+    let done = done_state old new old.pending (some-pending old true (Ok true) refl nothing) told.1 in ap (λ (b : LimitedBuffer). b.limit) done.2
+advanced_limit lines old new (Ok false) told nothing same = (left_state old new lines old.pending (some-pending old false (Ok false) refl nothing) told.1).1
 advanced_limit lines old new (Err fault) told nothing same = ap (λ (b : LimitedBuffer). b.limit) same
 
 pub advanced_holds : (lines : ℕ) (old new : LimitedBuffer) (result : Result Bool Fault) → HoldsTexts old.state → IfOk result (λ b. Advances lines b old new)
     → IfSome old.pending (λ p. IsText p.pattern × IsPattern p.pattern) → ((result ≡ Err Nothing) ↔ (old.pending ≡ None)) → OnErr result (new ≡ old) → HoldsTexts new.state
 advanced_holds lines old new (Ok true) holds told one nothing same =
-    let done = done_state old new old.pending (some-pending old true nothing) told.1 in
+    let done = done_state old new old.pending (some-pending old true (Ok true) refl nothing) told.1 in
     let is = subst (λ o. IfSome o (λ (p : PendingPattern). IsText p.pattern × IsPattern p.pattern)) done.1 one in
     holds_pattern old.state new.state (done.0).pattern holds is.0 is.1 (ap (λ (b : LimitedBuffer). b.state) done.2)
 advanced_holds lines old new (Ok false) holds told one nothing same =
-    subst HoldsTexts (sym (left_state old new lines old.pending (some-pending old false nothing) told.1).0) holds
+    subst HoldsTexts (sym (left_state old new lines old.pending (some-pending old false (Ok false) refl nothing) told.1).0) holds
 advanced_holds lines old new (Err fault) holds told one nothing same = subst (λ (b : LimitedBuffer). HoldsTexts b.state) (sym same) holds
 
 pub advanced_state : (lines : ℕ) (items : List LimitedBuffer) (k limit : ℕ) (old new : LimitedBuffer) (s : LimitedSession) → Chosen items k limit old s
     → (result : Result Bool Fault) → IfOk result (λ b. Advances lines b old new) → ((result ≡ Err Nothing) ↔ (old.pending ≡ None))
     → IfOk result (λ b. StateAdvances s.state (chosen_in s) b (state_with items k new))
 advanced_state lines items k limit old new s c (Ok true) told nothing =
-    let done = done_state old new old.pending (some-pending old true nothing) told.1 in
+    let done = done_state old new old.pending (some-pending old true (Ok true) refl nothing) told.1 in
     let there : (chosen_in s).pending ≡ Some done.0 = ap (λ (b : LimitedBuffer). b.pending) (chosen-there items k limit old s c) ∙ done.1 in
     subst (λ o. IfSome o (λ (p : PendingPattern). state_with items k new ≡ with_chosen s.state (with_pattern (chosen_buffer s.state) (Some p.pattern)))) (sym there)
     (Chosen-set items k limit old new s (λ b. with_pattern b (Some (done.0).pattern)) c (ap (λ (b : LimitedBuffer). b.state) done.2))
 advanced_state lines items k limit old new s c (Ok false) told nothing =
-    still_state items k limit old new s c (left_state old new lines old.pending (some-pending old false nothing) told.1).0
+    still_state items k limit old new s c (left_state old new lines old.pending (some-pending old false (Ok false) refl nothing) told.1).0
 advanced_state lines items k limit old new s c (Err fault) told nothing = tt
 
 -- ---- why no pattern is begun

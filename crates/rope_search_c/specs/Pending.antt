@@ -4,7 +4,7 @@ use Rattle.rope_search_io.specs.declared.faults.Fault.{Fault}
 use Rattle.rope_search_io.specs.declared.faults.Fault.TheVariants.{Nothing, Memory}
 use Rattle.rope_search_reports.specs.Report.{AreRows, line_texts, match_count}
 use Rattle.rope_search_reports.specs.Ticks.{MakesAsMany, MakesAtMost}
-use Rattle.rope_search.specs.Order.{SetPattern}
+use Rattle.rope_search.specs.declared.commands.CommandOf.TheVariants.{Pattern as SetPattern}
 use Rattle.rope_search.specs.Pending.{Advances, ArePendingRows, Begins, Cancels, StateAdvances, lines_left}
 use Rattle.rope_search.specs.Session.{PendingPattern, chosen_in}
 use Rattle.rope_search.specs.Step.{Accepts, IsFirstRefusal}

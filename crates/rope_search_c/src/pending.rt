@@ -1,12 +1,13 @@
 //! The pending pattern of the chosen buffer.
-ghost use Rattle.std.specs.Prelude.{◌≡◌};
-ghost use Rattle.rope_search_c.specs.Pending.{AdvancesPending, BeginsPattern, CancelsPending, CopiesPending, CopiesWindow, CountsPending, TellsPending};
+ghost use Rattle.std.specs.Prelude.{◌≡◌, ◌+◌, ◌^◌, ◌<◌, ◌++◌, length};
+ghost use Rattle.rope_search_reports.specs.Report.{match_count};
+ghost use Rattle.rope_search_c.specs.Pending.{AdvancesPending, BeginsPattern, CancelsPending, CopiesPending, CopiesWindow, CountsPending, PutsRows, TellsPending};
 ghost use Rattle.rope_search_c.specs.Pending as pending;
 
 use crate::counting::{CountingSession, status_of};
 use crate::matches::Span;
 use crate::reading::{count_matches, put_rows, rows_between};
-use rope_search::Fault;
+use rope_search::{Fault, Row};
 
 /// What is answered without a pending pattern: the rank of `Fault::Nothing`.
 const NOTHING: u32 = 1;
@@ -19,6 +20,18 @@ fn is_done(answer: Result<bool, Fault>) -> bool
         Ok(done) => done,
         Err(_) => false,
     }
+}
+
+/// Puts the matches of rows at a buffer's front, and those of further rows behind them, as many as
+/// fit, and returns how many they are. The first row is that of line `from`.
+fn put_window(done: &[Row], made: &[Row], from: usize, out: &mut [Span]) -> usize
+    requires few { match_count (done.now ++ made.now) < 2 ^ 64 }
+    requires lines { from + length (done.now ++ made.now) < 2 ^ 64 }
+    ensures { PutsRows from (done.now ++ made.now) result out.old out.new }
+{
+    let found = put_rows(done, from, out);
+    let room = found.min(out.len());
+    found + put_rows(made, from + done.len(), &mut out[room..])
 }
 
 impl CountingSession {
@@ -109,11 +122,12 @@ impl CountingSession {
             Ok(made) => made,
             Err(fault) => return u32::from(fault.rank()),
         };
-        let pending = self.session.buffer().pending().unwrap_or(&[]);
-        let done = rows_between(pending, from, to);
-        let found = put_rows(done, from, out);
-        let room = found.min(out.len());
-        *count = found + put_rows(&made, from + done.len(), &mut out[room..]);
+        // The text's facts, for the proof alone.
+        let _ = self.text().len_lines();
+        let Some(rows) = self.session.buffer().pending() else {
+            return NOTHING;
+        };
+        *count = put_window(rows_between(rows, from, to), &made, from, out);
         0
     }
 }

@@ -174,6 +174,9 @@ least_start = least_back (record {
   };
   at_end = refl;
   may_end = inl (λ same. omega (arith, same));
-}) (λ b counts. (omega arith, λ same.
-    let walk = subst (λ i. Walk of_ab [] (fresh_notes i) 0 i counts.reaches.choices counts.reaches.outcome) same counts.reaches.walk in
-    omega (arith, sym counts.reaches.pattern_is ∙ of_ab_alone walk)))
+}) (λ b counts. (
+  omega arith,
+  λ same.
+      let walk = subst (λ i. Walk of_ab [] (fresh_notes i) 0 i counts.reaches.choices counts.reaches.outcome) same counts.reaches.walk in
+      omega (arith, sym counts.reaches.pattern_is ∙ of_ab_alone walk),
+))

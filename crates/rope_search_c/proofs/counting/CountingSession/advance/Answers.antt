@@ -2,9 +2,9 @@ use Rattle.rope_search_c.proofs.counting.CountingSession.advance.Goals as goal
 
 pub returns : goal.returns
 returns c =
-    let told = c.advance.ensures in
+    let told = c.advance-answer.ensures in
     record {
-      answer = c.advance.result;
+      answer = c.advance-answer.result;
       told = c.status_of.ensures;
       done_is = c.is_done.ensures;
       advances = told.advances;
