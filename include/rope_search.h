@@ -29,7 +29,8 @@
  * - A thread that calls has 128 kB of stack: with that much the calls are tested.
  *
  * A call of a closed session is harmless: it answers ROPE_SEARCH_CLOSED, or 0, or false, and writes
- * nothing. No call ends the program: where memory is refused, that is told, and nothing has changed.
+ * nothing. No call ends the program: if memory is refused, the call returns MEMORY, and nothing has
+ * changed. A system that overcommits memory may end the program instead of refusing memory.
  * No call can be stopped.
  *
  * What calls cost, for a text of n bytes; O(log n) is some microseconds:
