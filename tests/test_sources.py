@@ -171,7 +171,7 @@ def test_costs():
              "A web page": "in WebAssembly, in Node", "A child process": "by the program over pipes",
              "A language server": "by the language server", "Neovim": "in Neovim, with its own edit"}
     told = dict(re.findall(r"^\| \[([^]]*)\].*\| ([\d.]+) µs \|$", page, re.M))
-    due = {way: f"{measured[name]:.{int(measured[name] < 10)}f}" for way, name in names.items()}
+    due = {way: f"{measured[name]:.{int(measured[name] < 10)}f}" for way, name in names.items() if name in measured}
     test("docs/embedding.md has what a letter costs", [] if told == due else [f"it has {told}, not {due}"])
 
 
