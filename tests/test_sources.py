@@ -15,6 +15,8 @@ SHARED = set("""CacheView ComesNext FollowEachOther Gives GivesInOrder GivesNext
     IsAnswerAt IsCacheOf IsEmptyAtLast IsShowing MatchesStandAtBoundaries Name OneOf StandsAtBoundaries between end_of
     is_among is_anchored joined left_of limit_in nodes_of none_set prefilter_of search_by showing span_of start_of
     with_replaced""".split())
+# Words that have another meaning in a second crate, where modules keep them apart.
+APART = set("Advances Begins count_of is_done left_in".split())
 # Inner crates, and the crates of their group, which are the only ones to name them.
 GROUPS = {r"ropey_(tree|walk)": r"ropey\w*", r"rx_\w+": r"rx_\w+|regex_cursor\w*",
           r"rope_search_(io|changes|reports|templates)": r"rope_search\w*"}
@@ -103,7 +105,7 @@ def test_laws():
     calling = that_name(r"\blaws\s*::\s*\w+(::<\w+>)?\s*\(", bodies)
     test("ropes and reports call no law", [f"{path} does" for path in calling])
     lines = sum(len(re.findall(FOR_PROOFS, text, re.M)) for _, text in bodies)
-    test("they have at most 45 lines for the proof alone", [] if 0 < lines <= 45 else [f"they have {lines}"])
+    test("they have at most 46 lines for the proof alone", [] if 0 < lines <= 46 else [f"they have {lines}"])
 
 
 def test_words():
@@ -115,9 +117,9 @@ def test_words():
         for word in re.findall(form, read(path), re.M):
             homes.setdefault(word, set()).add(crate)
     twice = {word for word, crates in homes.items() if len(crates) > 1}
-    wrong = [f"{word} is in {', '.join(sorted(homes[word]))}" for word in sorted(twice - SHARED)]
-    wrong += [f"{word} is not in two crates" for word in sorted(SHARED - twice)]
-    test(f"{len(homes)} words of definitions are in one crate each, but for {len(SHARED)}", wrong)
+    wrong = [f"{word} is in {', '.join(sorted(homes[word]))}" for word in sorted(twice - SHARED - APART)]
+    wrong += [f"{word} is not in two crates" for word in sorted((SHARED | APART) - twice)]
+    test(f"{len(homes)} words of definitions are in one crate each, but for {len(SHARED | APART)}", wrong)
 
 
 def test_meaning():
