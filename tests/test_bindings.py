@@ -129,7 +129,7 @@ def wrong_commands(words, **environment):
 
 # The types of the header in Rust.
 IN_RUST = {
-    "uint32_t": "u32", "uint64_t": "u64", "size_t": "usize", "bool": "bool", "const uint8_t*": "*const u8",
+    "uint32_t": "u32", "uint64_t": "u64", "size_t": "usize", "bool": "bool", "bool*": "*mut bool", "const uint8_t*": "*const u8",
     "uint8_t*": "*mut u8", "rope_search*": "*mut RawSession", "size_t*": "*mut usize",
     "rope_search_position": "Position", "rope_search_position*": "*mut Position", "rope_search_span*": "*mut Span",
     "rope_search_match*": "*mut RawMatch", "rope_search_group*": "*mut RawGroup", "rope_search_stretch": "Stretch",

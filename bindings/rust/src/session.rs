@@ -777,11 +777,7 @@ impl Session {
     /// # Errors
     ///
     /// [`Error::Nothing`] if no pattern is pending.
-    pub fn copy_pending(
-        &self,
-        lines: impl RangeBounds<usize>,
-        out: &mut [Span],
-    ) -> Result<usize> {
+    pub fn copy_pending(&self, lines: impl RangeBounds<usize>, out: &mut [Span]) -> Result<usize> {
         let (from, to) = rows_of(&lines);
         self.handle.copy_pending(from, to, out)
     }
