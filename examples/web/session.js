@@ -15,6 +15,8 @@ let caret = { line: 0, column: 0 };
 let aim = 0;
 let shown = { first: 0, count: 60 };
 let fault = null;
+/** Why the last command was refused, or null. */
+let refusal = null;
 /** The pattern that is set or pending, or null. */
 let pattern = null;
 const times = { window: null, all: null, slice: null, edit: null };
@@ -216,7 +218,7 @@ function lineShown(line) {
   return new TextDecoder().decode(bytes);
 }
 
-function view(reveal, refused) {
+function view(reveal) {
   const count = session.textLines();
   if (reveal && (caret.line < shown.first || caret.line >= shown.first + shown.count)) {
     shown.first = Math.max(0, Math.min(count - 1, caret.line - (shown.count >> 1)));
@@ -230,7 +232,7 @@ function view(reveal, refused) {
     if (start <= SHOWN) lines[line - shown.first].spans.push([start, Math.min(stop, SHOWN)]);
   }
   return {
-    first: shown.first, lines, count, caret, done, fault, refused, reveal, times, ...placeAmong(done),
+    first: shown.first, lines, count, caret, done, fault, refused: refusal, reveal, times, ...placeAmong(done),
     hasPattern: pattern !== null, canUndo: session.canUndo(), canRedo: session.canRedo(),
     changed: session.changed(), memory: session.library.memoryBytes,
   };
@@ -247,15 +249,15 @@ function placeAmong(done) {
 
 /** Carries out a command, and gives the view after it. A refusal is shown; the session is as it was. */
 async function answered(data) {
-  let refused = null;
+  refusal = null;
   try {
     const isIgnored = OF_MATCHES.includes(data.do) && session.pending() !== null;
     if (!isIgnored) await commands[data.do](data);
   } catch (error) {
     if (!(error instanceof Refused)) throw error;
-    refused = error.message;
+    refusal = error.message;
   }
-  return view(REVEALING.includes(data.do), refused);
+  return view(REVEALING.includes(data.do));
 }
 
 async function carryOut(data) {
@@ -291,13 +293,13 @@ function sliceInTurn() {
   if (session.pending() === null) return;
   try {
     slice();
-    postMessage({ view: view(false, null) });
+    postMessage({ view: view(false) });
     slices();
   } catch (error) {
     if (!(error instanceof Refused)) return postMessage({ broken: String(error) });
     drop();
     fault = { message: error.message, at: null };
-    postMessage({ view: view(false, null) });
+    postMessage({ view: view(false) });
   }
 }
 
