@@ -103,7 +103,8 @@ def wrong_slices(page):
     lines = pairs[0][1] if pairs else 0
     due = [(first, lines) for first in range(0, lines, 4000)]
     wrong += [] if pairs and sorted(set(pairs)) == due else [f"the slices are {pairs}"]
-    return wrong + ([] if re.fullmatch(r"[\d,]+ matches", said[-1]) else [f"at last: {said[-1]}"])
+    is_whole = re.fullmatch(r"[\d,]+ matches|[\d,]+ of [\d,]+", said[-1])
+    return wrong + ([] if is_whole else [f"at last: {said[-1]}"])
 
 
 def wrong_edits(page):

@@ -413,8 +413,17 @@ export class Session {
 
   /** Sets the pattern. The exception for no pattern has the place and the reason. */
   setPattern(pattern) {
+    this.#explained("set_pattern", pattern);
+  }
+
+  /** Makes a pattern pending. The exception for no pattern has the place and the reason. */
+  beginPattern(pattern) {
+    this.#explained("begin_pattern", pattern);
+  }
+
+  #explained(name, pattern) {
     try {
-      this.call("set_pattern", [pattern]);
+      this.call(name, [pattern]);
     } catch (error) {
       if (error instanceof Pattern) Object.assign(error, this.#library.patternError(pattern));
       throw error;
