@@ -59,7 +59,7 @@ def buffers(count):
 LONGER, TOO_MANY = 4, 6
 # Inputs of a size, whose last reply is `ok`, the smaller size, and how many times the instructions are too many. At first
 # an automaton makes a state for each letter, and each takes longer the more there are, up to the room that it has.
-WORST = [(many_states, 2_000, 9), (empty_lines, 1_000, TOO_MANY), (heavy_pattern, 500, TOO_MANY), (history, 250, TOO_MANY),
+WORST = [(many_states, 2_000, 9), (empty_lines, 1_000, TOO_MANY), (heavy_pattern, 8, TOO_MANY), (history, 250, TOO_MANY),
          (buffers, 20, TOO_MANY)]
 
 
