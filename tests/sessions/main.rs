@@ -16,6 +16,7 @@ mod library;
 mod memory;
 mod model;
 mod patterns;
+mod pending;
 mod processes;
 mod programs;
 mod random;
