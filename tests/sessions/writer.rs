@@ -7,9 +7,11 @@ use crate::some_patterns::{PATTERNS, hostile, mangled, pattern};
 use crate::texts::Text;
 use std::rc::Rc;
 
+/// The last bytes of `À` and of U+10000 are the least that no ASCII character has.
 const CHARACTERS: &[char] =
-    &['a', 'a', 'b', '\r', '\r', '\n', '\n', '\u{2028}', '🐸', 'é', 'A', ' '];
-const LINES: &[&str] = &["", "a", "mark", "a mark", "- ab -", "é🐸é", "xyz ab xyz ab", "\u{2028}"];
+    &['a', 'a', 'b', '\r', '\r', '\n', '\n', '\u{2028}', '🐸', 'é', 'À', '\u{10000}', 'A', ' '];
+const LINES: &[&str] =
+    &["", "a", "mark", "a mark", "- ab -", "é🐸é", "xyz ab xyz ab", "\u{2028}", "Àmark\u{10000}a"];
 const BREAKS: &[&str] = &["\n", "\n", "\n", "\r\n", "\r"];
 const LITERALS: &[&str] = &["mark", "a", "ab", "é", "🐸", "\r", "\n", "k\nm", "xyz", "-"];
 /// Patterns that are found in long texts in time linear in these.
