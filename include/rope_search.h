@@ -56,7 +56,7 @@
  * - copy_text and copy_line are O(log n), and linear in what they copy.
  * - byte_of, position_of, column_in, position_in, clamp and line_len are O(log n).
  * - fork and choose are O(1), forget is linear in the texts that it drops, off and close in what the
- *   buffers keep, pattern_error in the pattern; all others are O(1).
+ *   buffers keep, pattern_error in the pattern, escape in the text; all others are O(1).
  *
  * What a session keeps: a report takes 16 bytes for each row and 16 for each match, and some more for
  * a row with several; a history each text since set_text or forget, some 4 kB for a letter at a random
@@ -255,6 +255,16 @@ uint32_t rope_search_set_pattern(rope_search *session, const uint8_t *pattern, s
  */
 uint32_t rope_search_pattern_error(const uint8_t *pattern, size_t len,
                                    rope_search_pattern_reason *error);
+
+/*
+ * Escapes a text: returns a pattern that matches that text only. It is the text with a backslash
+ * before each of \ . + * ? ( ) | [ { ^ $. `pattern_len` is the pattern's number of bytes. The pattern
+ * is copied to the front of `out` if it fits, and else `out` is as it was; twice the bytes of the text
+ * are always enough. Needs no session. Refused: UTF8; LIMIT, if the pattern would have more than
+ * 65,536 bytes; MEMORY; `out` and `pattern_len` are then as they were.
+ */
+uint32_t rope_search_escape(const uint8_t *text, size_t len, uint8_t *out, size_t out_len,
+                            size_t *pattern_len);
 
 /* Drops the pattern, if there is one. */
 uint32_t rope_search_off(rope_search *session);

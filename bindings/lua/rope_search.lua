@@ -39,6 +39,7 @@ uint32_t rope_search_undo(rope_search *);
 uint32_t rope_search_redo(rope_search *);
 uint32_t rope_search_set_pattern(rope_search *, const uint8_t *, size_t);
 uint32_t rope_search_pattern_error(const uint8_t *, size_t, rope_search_pattern_reason *);
+uint32_t rope_search_escape(const uint8_t *, size_t, uint8_t *, size_t, size_t *);
 uint32_t rope_search_off(rope_search *);
 uint32_t rope_search_next(rope_search *, rope_search_position, rope_search_match *);
 uint32_t rope_search_replace(rope_search *, const uint8_t *, size_t, size_t *);
@@ -185,6 +186,17 @@ function M.pattern_error(pattern)
   local status = library().rope_search_pattern_error(pattern, #pattern, told_of)
   local reason = M.reasons[told_of.reason]
   return told(status, reason ~= nil and { place = tonumber(told_of.place), reason = reason })
+end
+
+-- A pattern that matches that text only: the text with a backslash before each character that has a
+-- meaning of its own in a pattern. Needs no session. Refused with "limit" if the pattern would have
+-- more than 65,536 bytes.
+function M.escape(text)
+  -- A pattern never has more bytes than this.
+  local room = math.min(2 * #text, 65536)
+  local out, len = ffi.new("uint8_t[?]", math.max(1, room)), ffi.new("size_t[1]")
+  local status = library().rope_search_escape(text, #text, out, room, len)
+  return told(status, ffi.string(out, tonumber(len[0])))
 end
 
 -- Ends the session: all further calls are refused with "closed". It may be called again.

@@ -216,6 +216,7 @@ _CALLS = {
     "redo": (_STATUS, _HANDLE),
     "set_pattern": (_STATUS, _HANDLE, _BYTES, _SIZE),
     "pattern_error": (_STATUS, _BYTES, _SIZE, ctypes.POINTER(_PatternReason)),
+    "escape": (_STATUS, _BYTES, _SIZE, _BYTES, _SIZE, ctypes.POINTER(_SIZE)),
     "off": (_STATUS, _HANDLE),
     "next": (_STATUS, _HANDLE, _Position, ctypes.POINTER(_Match)),
     "replace": (_STATUS, _HANDLE, _BYTES, _SIZE, ctypes.POINTER(_SIZE)),
@@ -314,6 +315,17 @@ def pattern_error(pattern: Text) -> Optional[PatternError]:
     pattern, told = _bytes_of(pattern), _PatternReason()
     _check(library().rope_search_pattern_error(pattern, len(pattern), told))
     return PatternError(told.place, REASONS[told.reason - 1]) if told.reason else None
+
+
+def escape(text: Text) -> str:
+    """A pattern that matches that text only: the text with a backslash before each character that has a meaning of its own
+    in a pattern. Needs no session. Refused: Utf8; Limit, if the pattern would have more than 65,536 bytes; Memory."""
+    text = _bytes_of(text)
+    # A pattern never has more bytes than this.
+    room = min(2 * len(text), 65_536)
+    out, size = ctypes.create_string_buffer(max(1, room)), _SIZE()
+    _check(library().rope_search_escape(text, len(text), out, room, size))
+    return out.raw[: size.value].decode("utf-8")
 
 
 class Session:

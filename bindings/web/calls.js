@@ -93,6 +93,7 @@ export const CALLS = {
 export const FREE_CALLS = {
   version: ["", value("u32")],
   pattern_error: ["text", status("pattern_reason")],
+  escape: ["text", copies("byte", "status")],
 };
 
 /** The structures of the header, each with the kinds of its fields. */

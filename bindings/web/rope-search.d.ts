@@ -140,6 +140,12 @@ export class Library {
 
   /** Returns where and why a text is no pattern, or null. Refused: Utf8, Memory. */
   patternError(pattern: Text): PatternError | null;
+
+  /**
+   * Returns a pattern that matches that text only: the text with a backslash before each character that has a
+   * meaning of its own in a pattern. Refused: Utf8; Limit, if the pattern would have more than 65,536 bytes; Memory.
+   */
+  escape(text: Text): string;
 }
 
 /**

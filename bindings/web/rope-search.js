@@ -356,6 +356,11 @@ export class Library {
     const { reason, place } = this.call("pattern_error", [pattern]);
     return reason === 0 ? null : { place, reason: REASONS[reason - 1] };
   }
+
+  /** A pattern that matches that text only. */
+  escape(text) {
+    return new TextDecoder().decode(this.call("escape", [text]));
+  }
 }
 
 /** Buffers, of which one is chosen: all calls are about that one. It has a method for each row of CALLS. */

@@ -81,6 +81,13 @@ extern "C" {
     fn rope_search_redo(session: *mut RawSession) -> u32;
     fn rope_search_set_pattern(session: *mut RawSession, pattern: *const u8, len: usize) -> u32;
     fn rope_search_pattern_error(pattern: *const u8, len: usize, error: *mut RawReason) -> u32;
+    fn rope_search_escape(
+        text: *const u8,
+        len: usize,
+        out: *mut u8,
+        out_len: usize,
+        pattern_len: *mut usize,
+    ) -> u32;
     fn rope_search_off(session: *mut RawSession) -> u32;
     fn rope_search_next(session: *mut RawSession, from: Position, found: *mut RawMatch) -> u32;
     fn rope_search_replace(
@@ -258,6 +265,15 @@ pub(crate) fn pattern_error(pattern: &[u8]) -> Result<(u32, usize)> {
     // SAFETY: the pointers are those of a slice, with its length, and of a local variable.
     check(unsafe { rope_search_pattern_error(pattern.as_ptr(), pattern.len(), &mut error) })?;
     Ok((error.reason, error.place))
+}
+
+/// Copies the pattern that matches a text only to the front of `out`, if it fits: the number of its bytes.
+pub(crate) fn escape(text: &[u8], out: &mut [u8]) -> Result<usize> {
+    let mut pattern_len = 0;
+    let (text, len, room) = (text.as_ptr(), text.len(), out.len());
+    // SAFETY: the pointers are those of slices, with their lengths, and of a local variable.
+    check(unsafe { rope_search_escape(text, len, out.as_mut_ptr(), room, &mut pattern_len) })?;
+    Ok(pattern_len)
 }
 
 /// An open session, which is closed when this is dropped.

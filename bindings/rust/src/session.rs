@@ -844,6 +844,26 @@ pub fn pattern_error(pattern: impl AsRef<[u8]>) -> Result<Option<PatternError>> 
     }))
 }
 
+/// Returns a pattern that matches a text only: the text with a backslash before each character that has a
+/// meaning of its own in a pattern. Needs no session.
+///
+/// # Errors
+///
+/// [`Error::Utf8`]; [`Error::Limit`] if the pattern would have more than 65,536 bytes; [`Error::Memory`].
+///
+/// ```
+/// assert_eq!(rope_search::escape("f(x)^2")?, r"f\(x\)\^2");
+/// # Ok::<(), rope_search::Error>(())
+/// ```
+pub fn escape(text: impl AsRef<[u8]>) -> Result<String> {
+    let text = text.as_ref();
+    // A pattern never has more bytes than this.
+    let mut pattern = vec![0; text.len().saturating_mul(2).min(65_536)];
+    let len = raw::escape(text, &mut pattern)?;
+    pattern.truncate(len);
+    String::from_utf8(pattern).map_err(|_| Error::Utf8)
+}
+
 /// Returns the version of the library that is linked: 1,000,000 times its first number, 1,000 times its
 /// second, and its third.
 ///

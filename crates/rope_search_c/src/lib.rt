@@ -8,6 +8,7 @@
 mod commands;
 mod counting;
 mod edits;
+mod escapes;
 mod groups;
 mod handles;
 mod line_calls;
@@ -33,6 +34,7 @@ pub use commands::{
 };
 pub use counting::CountingSession;
 pub use edits::TextEdit;
+pub use escapes::rope_search_escape;
 pub use handles::Handle;
 pub use line_calls::{
     rope_search_clamp, rope_search_copy_line, rope_search_copy_matches_in, rope_search_edit_bytes,

@@ -1,0 +1,13 @@
+-- Laws of escaped texts.
+use Rattle.std.specs.Prelude.{◌≡◌, ℕ, ◌≤◌, false, true, List, length, encode_utf8_all}
+use Rattle.std.specs.Str.{all_scalars}
+use Rattle.rx_grammar.specs.Settings.{Settings}
+use Rattle.rx_grammar.specs.Grammar.{Spells}
+use Rattle.rx_escape.specs.Escaped.{escaped, text_tree}
+
+-- the escaped text is a pattern, whose tree is that of the text, unless it is too long, or the
+-- setting `i` makes each character stand for others too
+abbrev pub SpellsItsText : List ℕ → Settings → Type 0
+SpellsItsText text settings = all_scalars text ≡ true → settings.case_insensitive ≡ false
+    → length (encode_utf8_all (escaped text)) ≤ 65536
+    → Spells (escaped text) settings (text_tree text)
