@@ -130,6 +130,21 @@ static void pattern_errors(void)
     IS(told.reason == ROPE_SEARCH_NO_REASON && told.place == 0, 1);
 }
 
+static void escapes(void)
+{
+    uint8_t out[8];
+    size_t len = 77;
+    memset(out, 0x5a, sizeof out);
+    IS(rope_search_escape(bytes("\377"), 1, out, sizeof out, &len), ROPE_SEARCH_UTF8);
+    IS(len == 77 && out[0] == 0x5a, 1);
+    IS(rope_search_escape(bytes("a.b"), 3, out, 3, &len), ROPE_SEARCH_DONE);
+    IS(len == 4 && out[0] == 0x5a, 1);
+    IS(rope_search_escape(bytes("a.b"), 3, out, 4, &len), ROPE_SEARCH_DONE);
+    IS(len == 4 && memcmp(out, "a\\.bZ", 5) == 0, 1);
+    IS(rope_search_escape(bytes(""), 0, out, 0, &len), ROPE_SEARCH_DONE);
+    IS(len, 0);
+}
+
 static void a_session(rope_search *s)
 {
     rope_search_span spans[4];
@@ -436,6 +451,7 @@ int main(void)
     IS(rope_search_open(16, &s), ROPE_SEARCH_DONE);
     refusals(&s);
     pattern_errors();
+    escapes();
     a_session(&s);
     look_ups(&s);
     counts = rope_search_counted(&s);

@@ -15,6 +15,7 @@ from harness import LIBRARY, LIBRARY_FOLDER, PROGRAM, ROOM, SECONDS, SONAME, TOP
 from library import replies, reply, rope_search
 from library_changes import wrong_changes
 from library_edits import wrong_many, wrong_with
+from library_escapes import wrong_matches, wrong_rooms, wrong_rows, wrong_singles
 from library_groups import wrong_groups
 from library_in_c import STRICT, test_stack, test_under_tools
 from library_lines import wrong_edits, wrong_long, wrong_numbers, wrong_small
@@ -31,7 +32,7 @@ from test_pattern_model import mangled
 from test_replies import MORE_EXAMPLES, examples_of_page
 
 HEADER = os.path.join(TOP, "include", "rope_search.h")
-EDITED, GROUPED, LISTED, MANGLED = 4_000, 1_000, 2_000, 2_000
+EDITED, ESCAPED, GROUPED, LISTED, MANGLED = 4_000, 2_000, 1_000, 2_000, 2_000
 # The name of a parameter of C, behind its type.
 PARAMETER = re.compile(r"\s*\b(?!const\b|size_t\b|bool\b|void\b|u?int\d+_t\b|rope_search\w*\b)\w+$")
 # Where programs find the modules of the bindings, and these the library.
@@ -160,6 +161,13 @@ def test_explanations():
     same = numbers == list(range(len(numbers))) and reasons == in_lua == list(rope_search.REASONS)
     test("the header and the bindings have the same reasons", [] if same else [f"{reasons}, in Lua {in_lua}"])
     test("where and why texts are no patterns", wrong_explanations())
+
+
+def test_escapes():
+    test("texts escaped for patterns", wrong_rows())
+    test("what escaped texts leave in a caller's array", wrong_rooms())
+    test("matches of escaped characters", wrong_singles())
+    test("matches of escaped texts", [one for seed in range(ESCAPED) for one in wrong_matches(seed)])
 
 
 def wrong_replies(commands, expected):
@@ -413,8 +421,8 @@ def test_closed():
         "listed_before": (origin, rope_search._Listed(7)), "list_index": (0, 0, ctypes.c_size_t(7), ctypes.c_size_t(7)),
         "pending": (ctypes.c_size_t(7),),
     }
-    # Two calls take no session.
-    named = {"version", "open", "close", "counted", "changed", "pattern_error", *refused, *read_only}
+    # Three calls take no session.
+    named = {"version", "open", "close", "counted", "changed", "pattern_error", "escape", *refused, *read_only}
     wrong += [f"no test calls {name}" for name in sorted(set(rope_search._CALLS) - named)]
     for name, arguments in refused.items():
         if (status := getattr(calls, "rope_search_" + name)(handle, *arguments)) != 8:
@@ -596,6 +604,7 @@ def test_all():
     test_listed()
     test_pending()
     test_explanations()
+    test_escapes()
     test_programs()
     test_lua()
     test_neovim()

@@ -1,7 +1,7 @@
 //! Sessions as a program uses them: refusals, odd texts, many threads, and edits at random beside a search of
 //! the whole text.
 use rope_search::{
-    pattern_error, Counts, Encoding, Error, Match, PatternError, Position, Reason, Session, Span,
+    escape, pattern_error, Counts, Encoding, Error, Match, PatternError, Position, Reason, Session, Span,
     Stretch, TextEdit,
 };
 
@@ -102,6 +102,17 @@ fn errors_say_what_is_wrong() {
         pattern_error(deep).unwrap().unwrap().reason,
         Reason::Nesting
     );
+}
+
+#[test]
+fn an_escaped_text_matches_itself_alone() {
+    assert_eq!(escape("a.(b)").as_deref(), Ok(r"a\.\(b\)"));
+    assert_eq!(escape(""), Ok(String::new()));
+    assert_eq!(escape(b"\xff"), Err(Error::Utf8));
+    assert_eq!(escape("é".repeat(32_768)).unwrap().len(), 65_536);
+    assert_eq!(escape("^".repeat(32_769)), Err(Error::Limit));
+    let found = session("a.(b) aa(b) a.b", &escape("a.(b)").unwrap());
+    assert_eq!(spans(&found), [(0, 0, 5)]);
 }
 
 #[test]

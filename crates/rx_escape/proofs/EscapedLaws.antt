@@ -1,31 +1,30 @@
 -- The tree of an escaped text.
-use Rattle.std.proofs.Common.{◌≡◌, ◌≢◌, ℕ, ◌+◌, ◌≤◌, ◌↔◌, ◌⊎◌, Bool, true, false, List, [], ◌∷◌, ◌++◌, append-nil, length-append, append_assoc, map, length, not, max, encode_utf8_all, AllPairs, refl, sym, ap, subst, ◌∙◌, arith, inl, inr, if◌then◌else◌}
+use Rattle.std.proofs.Common.{◌≡◌, ◌≢◌, ℕ, ◌+◌, ◌≤◌, Bool, true, false, List, [], ◌∷◌, ◌++◌, append-nil, length-append, append_assoc, map, length, not, encode_utf8_all, AllPairs, refl, sym, ap, subst, ◌∙◌, arith, inl, inr, if◌then◌else◌}
 use Rattle.std.specs.Str.{all_scalars}
 use Rattle.std.specs.Char.{encode_utf8}
-use Rattle.std.specs.List.{flat_map}
 use Rattle.std.specs.Str.{IsUtf8, chars}
 use Rattle.std.proofs.Math.Utf8.{scalar, scalar_cases}
 use Rattle.std.proofs.lemmas.Bool.{and_parts, cases_Bool}
 use Rattle.std.proofs.lemmas.Bool.Decides.{nat_tests}
 use Rattle.std.proofs.lemmas.Grind.{flat_map-append}
 use Rattle.std.proofs.lemmas.Str.{encodes-append, encodes-chars, scalars-chars, chars_from_encodes}
-use Rattle.rx_sets.specs.Sets.{IsScalar, Range, ordinal, in_ranges, Holds, IsSetOf, FoldedIf}
+use Rattle.rx_sets.specs.Sets.{IsScalar, Range, ordinal, in_ranges, IsSetOf, FoldedIf}
 use Rattle.rx_sets.proofs.FoldLemmas.{ordinal-unique}
 use Rattle.rx_sets.proofs.SetLemmas.{ordinal_below}
 use Rattle.rx_grammar.specs.Settings.{Settings, default_settings}
 use Rattle.rx_grammar.specs.Sets.{Folded}
 use Rattle.rx_grammar.specs.Input.{Stops}
-use Rattle.rx_grammar.specs.Trees.{Name, Tree, one_of, concat_of, names_of, all_names_of, in_a_row}
-use Rattle.rx_grammar.specs.Escapes.{EscapedCharacter, itself, is_escapable}
+use Rattle.rx_grammar.specs.Trees.{Name, names_of, all_names_of, in_a_row}
+use Rattle.rx_grammar.specs.Escapes.{itself, is_escapable}
 use Rattle.rx_grammar.specs.Repetitions.{Postfixes, is_postfix_start}
 use Rattle.rx_grammar.specs.Repetitions as repetitions
-use Rattle.rx_grammar.specs.Grammar.{is_literal, Escape, character, PlainAtom, literal, escape, Atom, plain_atom, Items, ended, item, Branches, last, Spells}
+use Rattle.rx_grammar.specs.Grammar.{is_literal, character, PlainAtom, literal, escape, plain_atom, Items, ended, item, last, Spells}
 use Rattle.rx_escape.specs.Escaped.{SpellsText, escaped, escaped_bytes, escaped_character, is_meta, character_tree, text_tree}
 use Rattle.rx_escape.specs.Laws.{SpellsItsText}
 
 -- ---- characters
 
-scalar_value : (c : ℕ) → scalar c ≡ true → IsScalar c
+pub scalar_value : (c : ℕ) → scalar c ≡ true → IsScalar c
 scalar_value c is = elim (scalar_cases c is) [
   | inl below ↦ inl (omega arith)
   | inr above ↦ inr (omega arith, omega arith)
@@ -41,10 +40,10 @@ abbrev pub single : ℕ → List Range
 single c = (ordinal c, ordinal c) ∷ []
 
 -- the only ordinal in the range
-only_ordinal : (n m : ℕ) → in_ranges ((n, n) ∷ []) m ≡ true → m ≡ n
+pub only_ordinal : (n m : ℕ) → in_ranges ((n, n) ∷ []) m ≡ true → m ≡ n
 only_ordinal n m is = grind (arith, nat_tests)
 
-own_ordinal : (n m : ℕ) → m ≡ n → in_ranges ((n, n) ∷ []) m ≡ true
+pub own_ordinal : (n m : ℕ) → m ≡ n → in_ranges ((n, n) ∷ []) m ≡ true
 own_ordinal n m is = grind (arith, nat_tests)
 
 single_is : (c : ℕ) → IsScalar c → IsSetOf (single c) (λ d. d ≡ c)

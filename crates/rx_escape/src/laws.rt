@@ -2,10 +2,16 @@
 
 ghost use Rattle.std.specs.Prelude.{ℕ, List};
 ghost use Rattle.rx_grammar.specs.Settings.{Settings};
-ghost use Rattle.rx_escape.specs.Laws.{SpellsItsText};
+ghost use Rattle.rx_escape.specs.Laws.{MatchesItsText, SpellsItsText};
 
 /// An escaped text of at most 65,536 bytes is a pattern: the concatenation of the text's
 /// characters.
 pub fn escaped_spells_its_text()
     ensures { (text : List ℕ) (settings : Settings) → SpellsItsText text settings }
+{}
+
+/// In each search the matches of an escaped text are the occurrences of the text's bytes: from each
+/// offset there is one exactly if the bytes occur there, and it takes these bytes.
+pub fn escaped_matches_its_text()
+    ensures { (text : List ℕ) → MatchesItsText text }
 {}
