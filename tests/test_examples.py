@@ -101,7 +101,7 @@ def test_one_regex():
     found = naming("regex_cursor::engines")
     test("one file has the regex of a report", [] if found == {home} else [f"it is in {sorted(found)}"])
     found = naming("regex_cursor")
-    due = {home, "explaining.rt"}  # the other one reexports why a text is no pattern
+    due = {home, "explaining.rt", "escaping.rt"}  # the others reexport why a text is no pattern, and how one is escaped
     test("and names what it is made of", [] if found == due else [f"others name it: {sorted(found ^ due)}"])
 
 

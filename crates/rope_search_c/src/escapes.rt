@@ -1,5 +1,6 @@
 //! Escaping a text for a pattern, for C.
-ghost use Rattle.std.specs.Prelude.{◌≡◌, ◌≤◌, length};
+ghost use Rattle.std.specs.Prelude.{◌≡◌, ◌↔◌, ◌≤◌, length};
+ghost use Rattle.std.specs.Str.{IsUtf8};
 ghost use Rattle.rope_search_c.specs.Escapes.{WritesEscaped};
 ghost use Rattle.rope_search_c.specs.Reading.{with_front};
 
@@ -25,7 +26,8 @@ pub extern "C" fn rope_search_escape(
     out: &mut [u8],
     pattern_len: &mut usize,
 ) -> u32
-    ensures { WritesEscaped text.now result out.old out.new pattern_len.old pattern_len.new }
+    ensures written { WritesEscaped text.now result out.old out.new pattern_len.old pattern_len.new }
+    ensures utf8 { (result ≡ 3) ↔ ¬ (IsUtf8 text.now) }
 {
     match escape(alloc, text) {
         Ok(pattern) => {
