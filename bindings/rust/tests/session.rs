@@ -1,8 +1,8 @@
 //! Sessions as a program uses them: refusals, odd texts, many threads, and edits at random beside a search of
 //! the whole text.
 use rope_search::{
-    escape, pattern_error, Counts, Encoding, Error, Match, PatternError, Position, Reason, Session, Span,
-    Stretch, TextEdit,
+    escape, pattern_error, Counts, Encoding, Error, Match, PatternError, Position, Reason, Session,
+    Span, Stretch, TextEdit,
 };
 
 fn session(text: &str, pattern: &str) -> Session {
