@@ -257,11 +257,11 @@ uint32_t rope_search_pattern_error(const uint8_t *pattern, size_t len,
                                    rope_search_pattern_reason *error);
 
 /*
- * Escapes a text: returns a pattern that matches that text only. It is the text with a backslash
- * before each of \ . + * ? ( ) | [ { ^ $. `pattern_len` is the pattern's number of bytes. The pattern
- * is copied to the front of `out` if it fits, and else `out` is as it was; twice the bytes of the text
- * are always enough. Needs no session. Refused: UTF8; LIMIT, if the pattern would have more than
- * 65,536 bytes; MEMORY; `out` and `pattern_len` are then as they were.
+ * Escapes a text: copies a pattern that matches that text only to the front of `out`, if it fits, and
+ * writes its number of bytes to `pattern_len`. Twice the bytes of the text are always enough. The
+ * pattern is the text with a backslash before each of \ . + * ? ( ) | [ { ^ $. If it doesn't fit, `out`
+ * is as it was. Needs no session. Refused: UTF8; LIMIT, if the pattern would have more than 65,536
+ * bytes; MEMORY; `out` and `pattern_len` are then as they were.
  */
 uint32_t rope_search_escape(const uint8_t *text, size_t len, uint8_t *out, size_t out_len,
                             size_t *pattern_len);

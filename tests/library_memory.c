@@ -58,7 +58,7 @@ static void see(rope_search *s, struct seen *seen)
 
 enum kind {
     SET_TEXT, EDIT, EDIT_ALL, EDIT_BYTES, UNDO, REDO, SET_PATTERN, OFF, NEXT, REPLACE, REPLACE_MATCH,
-    REPLACE_LISTED, FORK, CHOOSE, FORGET, KEEP, JOIN, GROUPS_AT, PATTERN_ERROR, BEGIN, ADVANCE, WINDOW, CANCEL
+    REPLACE_LISTED, FORK, CHOOSE, FORGET, KEEP, JOIN, GROUPS_AT, PATTERN_ERROR, ESCAPE, BEGIN, ADVANCE, WINDOW, CANCEL
 };
 
 struct call {
@@ -77,6 +77,7 @@ static uint32_t carry_out(rope_search *s, const struct call *call)
     rope_search_text_edit edits[2];
     rope_search_span spans[8];
     bool done;
+    uint8_t out[32];
     const uint8_t *text = (const uint8_t *)(call->text ? call->text : "");
     from.line = call->line;
     from.column = call->column;
@@ -106,6 +107,7 @@ static uint32_t carry_out(rope_search *s, const struct call *call)
     case JOIN: return rope_search_join(s, call->line);
     case GROUPS_AT: return rope_search_groups_at(s, call->line, call->column, groups, 10);
     case PATTERN_ERROR: return rope_search_pattern_error(text, len, &reason);
+    case ESCAPE: return rope_search_escape(text, len, out, sizeof out, &number);
     case BEGIN: return rope_search_begin_pattern(s, text, len);
     case ADVANCE: return rope_search_advance(s, call->line, &done);
     case WINDOW: return rope_search_window(s, call->line, call->column, spans, 8, &number);
@@ -126,6 +128,7 @@ static const struct call calls[] = {
     {EDIT_BYTES, 2, 0, 7, 0, "two\none"}, CALL(UNDO),
     AT(NEXT, 0, 2), AT(GROUPS_AT, 0, 0),
     TEXT(PATTERN_ERROR, "(a|(?<name>b)|(?<name>c"), TEXT(PATTERN_ERROR, "((a)|b{1,3}"),
+    TEXT(ESCAPE, "one.two"), TEXT(ESCAPE, "\\.+*?()|[{^$\\.+*?()|[{^$"),
     CALL(UNDO), CALL(REDO), AT(JOIN, 2, 0), CALL(UNDO), CALL(REDO), TEXT(REPLACE, "<$1\n$0>"), CALL(UNDO), AT(KEEP, 5, 0), CALL(FORK),
     AT(CHOOSE, 1, 0), TEXT(EDIT, "a letter"), TEXT(SET_PATTERN, "\\be"), CALL(UNDO), CALL(OFF),
     CALL(REDO), AT(CHOOSE, 0, 0), TEXT(EDIT, "one\n"), {REPLACE_MATCH, 1, 0, 0, 0, "<$1\n$0>"}, CALL(UNDO),
