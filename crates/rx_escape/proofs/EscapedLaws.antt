@@ -1,5 +1,5 @@
 -- The tree of an escaped text.
-use Rattle.std.proofs.Common.{◌≡◌, ◌≢◌, ℕ, ◌+◌, ◌≤◌, Bool, true, false, List, [], ◌∷◌, ◌++◌, append-nil, length-append, append_assoc, map, length, not, encode_utf8_all, AllPairs, refl, sym, ap, subst, ◌∙◌, arith, inl, inr, if◌then◌else◌}
+use Rattle.std.proofs.Common.{◌≡◌, ◌≢◌, ℕ, ◌+◌, ◌*◌, ◌≤◌, Bool, true, false, List, [], ◌∷◌, ◌++◌, append-nil, length-append, append_assoc, map, length, not, encode_utf8_all, AllPairs, refl, sym, ap, subst, ◌∙◌, arith, inl, inr, if◌then◌else◌}
 use Rattle.std.specs.Str.{all_scalars}
 use Rattle.std.specs.Char.{encode_utf8}
 use Rattle.std.specs.Str.{IsUtf8, chars}
@@ -19,8 +19,10 @@ use Rattle.rx_grammar.specs.Escapes.{itself, is_escapable}
 use Rattle.rx_grammar.specs.Repetitions.{Postfixes, is_postfix_start}
 use Rattle.rx_grammar.specs.Repetitions as repetitions
 use Rattle.rx_grammar.specs.Grammar.{is_literal, character, PlainAtom, literal, escape, plain_atom, Items, ended, item, last, Spells}
+use Rattle.rx_grammar.specs.Weights.{weight_of, all_weights_of}
+use Rattle.rx_grammar.proofs.GrammarLaws.{Spells-unique}
 use Rattle.rx_escape.specs.Escaped.{SpellsText, escaped, escaped_bytes, escaped_character, is_meta, character_tree, text_tree}
-use Rattle.rx_escape.specs.Laws.{SpellsItsText}
+use Rattle.rx_escape.specs.Laws.{SpellsItsText, WeighsLittle}
 
 -- ---- characters
 
@@ -158,3 +160,19 @@ spells_text pattern text utf8 utf8' is fits =
     let characters : escaped (chars text) ≡ chars pattern = chars_from_encodes (escaped (chars text)) pattern utf8 (sym is) in
     subst (λ t. Spells t default_settings (text_tree (chars text))) characters
     (spells_its_text (chars text) default_settings (scalars-chars text utf8') refl (omega (arith, ap length is, fits)))
+
+-- ---- weight
+
+row_weight : (c d : ℕ) (text : List ℕ) → all_weights_of (in_a_row (character_tree c) (character_tree d) (map character_tree text)) ≡ 2 * length (c ∷ d ∷ text)
+row_weight c d [] = refl
+row_weight c d (e ∷ text) = omega (arith, row_weight d e text)
+
+text_weight : (text : List ℕ) → weight_of (text_tree text) ≤ 2 * length text + 1
+text_weight [] = omega arith
+text_weight (c ∷ []) = omega arith
+text_weight (c ∷ d ∷ text) = omega (arith, row_weight c d text)
+
+pub weighs_little : (text : List ℕ) → WeighsLittle text
+weighs_little text tree all spells =
+    let same : text_tree text ≡ tree = Spells-unique (escaped text) default_settings (text_tree text) tree (spells_its_text text default_settings all refl spells.size) spells in
+    omega (arith, ap weight_of same, text_weight text)

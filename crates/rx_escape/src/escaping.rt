@@ -1,7 +1,7 @@
 //! Escaping a text.
 
-ghost use Rattle.std.specs.Prelude.{◌≡◌, ◌≢◌, ◌⊎◌, ◌↔◌, ◌<◌, chars, encode_utf8_all, length, IfErr, IfOk, string_bytes};
-ghost use Rattle.rx_escape.specs.Escaped.{SpellsText, escaped, escaped_bytes, is_meta};
+ghost use Rattle.std.specs.Prelude.{◌≡◌, ◌≢◌, ◌⊎◌, ◌↔◌, ◌<◌, length, IfErr, IfOk, string_bytes};
+ghost use Rattle.rx_escape.specs.Escaped.{SpellsText, escaped_bytes, is_meta};
 
 use rx_grammar::SyntaxError;
 use std::alloc::{AllocError, Global};
@@ -49,7 +49,7 @@ fn with_backslashes(alloc: Global, text: &str) -> Result<String, AllocError>
 /// # Examples
 ///
 /// ```rust
-/// assert!(rt; escape(rt.alloc(), "f(x)^2")?.eq_str(r"f\(x\)\^2"));
+/// assert!(rt; escape(rt.alloc(), "f(x)^2")?.as_str() == r"f\(x\)\^2");
 /// ```
 pub fn escape(alloc: Global, text: &str) -> Result<String, SyntaxError>
     ensures escaped { IfOk result (λ pattern. string_bytes pattern ≡ escaped_bytes text.now) }
