@@ -16,11 +16,17 @@ Ctrl-S          writes the file, once it has asked
 Escape          leaves, and asks before if the text isn't saved; Ctrl-C leaves at once
 
 Matches are those of the report: of each line by itself. Where there is none, Enter looks for one that goes over
-lines. All replaced are those of the whole text, which may be others: docs/protocol.md tells how.
+lines.
 
 The pane goes by the library that `make lib` builds, where it is built, and else, or where one is named, by the program.
 By the library it searches a pattern in slices of some thousand lines between keys: the lines that are shown at once, and
-`+` stands behind a number of matches until all are done. A line is searched whole, however long it is.
+`+` stands behind a number of matches until all are done. A line is searched whole, however long it is. No key waits for
+more than a slice, but for a replacement, its undo, and a search for a match over lines: these go through the whole text.
+Replaced are exactly the matches that are listed, or, where none is, those over lines. Letters that are typed one after
+the other are one step to undo.
+
+By the program each letter is a step of its own, a pattern is searched whole, and replaced are the matches of the whole
+text, which may be others than those that are listed: docs/protocol.md tells how.
 """
 import os
 import signal

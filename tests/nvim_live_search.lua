@@ -99,6 +99,12 @@ local function typed(lines, pattern, seed)
   live.stop(buffer)
 end
 
+-- Replaces what is listed, as a step of its own to undo.
+local function replaced(buffer, ...)
+  vim.bo.undolevels = vim.bo.undolevels
+  return live.replace(buffer, ...)
+end
+
 local function walked()
   vim.cmd("enew!")
   local buffer = vim.api.nvim_get_current_buf()
@@ -114,11 +120,25 @@ local function walked()
   local got = table.concat(seen, ", ")
   local due = "2/4 2:3, 3/4 2:7, 4/4 3:1, 1/4 1:0, 4/4 3:1, 3/4 2:7"
   assert(got == due, got)
-  assert(live.replace(buffer, "<$0>") == 4)
+  assert(replaced(buffer, "<$0>") == 4)
   assert(text_of(buffer) == "<one> two\né <one>\r<one>\nn<one>\n", text_of(buffer))
   see(buffer, "one", "replacing")
   press("u")
+  assert(text_of(buffer) == "one two\né one\rone\nnone\n", text_of(buffer))
   see(buffer, "one", "undoing that")
+  -- In some rows, with a group and a break; and what is listed where the whole text has other matches.
+  assert(live.search(buffer, "(o)ne$"))
+  assert(replaced(buffer, "$1\n-", 1, 1) == 2)
+  assert(text_of(buffer) == "one two\né o\n-\ro\n-\nnone\n", text_of(buffer))
+  see(buffer, "(o)ne$", "replacing in some rows")
+  press("u")
+  assert(text_of(buffer) == "one two\né one\rone\nnone\n", text_of(buffer))
+  see(buffer, "(o)ne$", "undoing that")
+  assert(replaced(buffer, "") == 3)
+  assert(text_of(buffer) == "one two\né \r\nn\n", text_of(buffer))
+  press("u")
+  assert(replaced(buffer, "x", 0, 0) == 0)
+  see(buffer, "(o)ne$", "replacing nothing")
   local done, why = live.search(buffer, "(")
   assert(not done and why == "a group isn't closed, at byte 1")
 end
