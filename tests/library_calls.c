@@ -453,7 +453,7 @@ int main(void)
     look_ups(&s);
     counts = rope_search_counted(&s);
     IS(counts.rows <= 2 + 2 + 5 + 2 + 1 + 2 + 2 + 2 + 2, 1);
-    IS(counts.wholes, 2);
+    IS(counts.wholes, 3);
     moved = s;
     memset(&s, 0, sizeof s);
     IS(rope_search_text_len(&moved), 12);

@@ -130,9 +130,8 @@ class LibraryDocument:
 
     # ---- changes
 
-    def made(self):
-        """Keeps in mind that the text is another, and answers where the change ends, or the first of several begins."""
-        self.recount()
+    def place_of_change(self):
+        """Where the last change of the text ends, or the first of several begins."""
         changes = self.session.text_changes
         if not changes:
             return None
@@ -146,11 +145,19 @@ class LibraryDocument:
     def edit(self, first, last, text, is_run=False):
         """Puts a text in the place of what lies between two positions, and answers where it ends. Where it goes on with what
         was typed before, both are one step."""
+        # A CR and an LF that meet or part may touch the line before.
+        start, stop, lines = max(0, first[0] - 1), last[0] + 2, self.text.count
+        gone = self.session.count_matches(start, stop)
         self.called(lambda: self.session.edit(first, last, text))
         self.add_state()
         if is_run:
             self.join()
-        return self.made()
+        if self.is_pending:
+            self.recount()
+        else:
+            self.seen = {}
+            self.count += self.session.count_matches(start, stop + self.text.count - lines) - gone
+        return self.place_of_change()
 
     def join(self):
         """Makes the last two steps one; they stay two if there is no memory for it."""
@@ -177,13 +184,15 @@ class LibraryDocument:
         """Goes a text back, and answers where it changed."""
         self.called(self.session.undo)
         self.at -= 1
-        return self.made()
+        self.recount()
+        return self.place_of_change()
 
     def redo(self):
         """Goes a text forward, and answers where it changed."""
         self.called(self.session.redo)
         self.at += 1
-        return self.made()
+        self.recount()
+        return self.place_of_change()
 
     # ---- matches
 
