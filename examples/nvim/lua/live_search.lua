@@ -13,6 +13,8 @@ local M = {}
 -- A pattern is searched in slices of so many lines, between Neovim's own events, so nothing waits longer
 -- than one slice; a line is searched whole, however long it is.
 M.slice = 4000
+-- How many of them are looked at together where one match is looked for.
+M.few = 100
 
 local NAMESPACE = vim.api.nvim_create_namespace("live_search")
 local GROUP = vim.api.nvim_create_augroup("live_search", { clear = true })
@@ -146,11 +148,6 @@ local function matches_in(session, line)
     return assert(session:window(line, line + 1))
   end
   return session:matches(line, line + 1)
-end
-
--- How many lines are gone through at most: while a pattern is pending, a slice of them.
-local function most_lines(session, lines)
-  return session:pending() and math.min(lines, M.slice) or lines
 end
 
 -- The matches in some rows of Neovim, each as rows and columns in bytes.
@@ -370,58 +367,60 @@ local function go_to(window, match)
   vim.api.nvim_win_set_cursor(window, { row + 1, column })
 end
 
--- The first match of the report behind a position, or else the first of all; and the last one before
--- it, or else the last of all. What matches behind the last LF is no match of the buffer.
-local function listed_behind(session, at)
-  local match = session:listed_from({ at.line, at.column + 1 })
-  if not match or match.line >= lines_of(session) then
-    match = session:listed_from({ 0, 0 })
+-- The first match of a pending pattern behind a position, in a slice of lines, and the last one before it.
+local function pending_behind(session, at)
+  local stop = math.min(lines_of(session), at.line + M.slice)
+  for line = at.line, stop - 1, M.few do
+    for _, match in ipairs(assert(session:window(line, math.min(line + M.few, stop)))) do
+      if match.line > at.line or match.start > at.column then
+        return match
+      end
+    end
   end
-  return match and match.line < lines_of(session) and match or nil
 end
 
-local function listed_before(session, at)
-  return session:listed_before({ at.line, at.column }) or session:listed_before({ lines_of(session), 0 })
+local function pending_before(session, at)
+  local stop = math.max(0, at.line + 1 - M.slice)
+  for line = at.line + 1, stop + 1, -M.few do
+    local matches = assert(session:window(math.max(stop, line - M.few), line))
+    for i = #matches, 1, -1 do
+      if matches[i].line < at.line or matches[i].start < at.column then
+        return matches[i]
+      end
+    end
+  end
 end
 
--- Goes to the first match behind the cursor, or else to the first of all. While a pattern is pending, a
--- slice of lines is looked through.
+-- Goes to the first match behind the cursor, or else to the first of all; while a pattern is pending, to
+-- one in a slice of lines. What matches behind the last LF is no match of the buffer.
 function M.next(window)
   local session, at = session_of(vim.api.nvim_win_get_buf(window)), M.position(window)
-  if not session:pending() then
-    local match = listed_behind(session, at)
-    return match and go_to(window, match)
-  end
-  local last = lines_of(session) - 1
-  for line = at.line, math.min(last, at.line + most_lines(session, last)) do
-    for _, match in ipairs(matches_in(session, line)) do
-      if line > at.line or match.start > at.column then
-        return go_to(window, match)
-      end
+  local lines, match = lines_of(session), nil
+  if session:pending() then
+    match = pending_behind(session, at) or pending_behind(session, { line = 0, column = -1 })
+  else
+    match = session:listed_from({ at.line, at.column + 1 })
+    if not match or match.line >= lines then
+      match = session:listed_from({ 0, 0 })
     end
   end
-  for line = 0, most_lines(session, at.line) do
-    for _, match in ipairs(matches_in(session, line)) do
-      return go_to(window, match)
-    end
+  if match and match.line < lines then
+    go_to(window, match)
   end
 end
 
--- Goes to the last match before the cursor, or else to the last of all.
+-- Goes to the last match before the cursor, or else to the last of all, in the same way.
 function M.previous(window)
   local session, at = session_of(vim.api.nvim_win_get_buf(window)), M.position(window)
-  if not session:pending() then
-    local match = listed_before(session, at)
-    return match and go_to(window, match)
+  local lines, match = lines_of(session), nil
+  local behind = { line = lines, column = 0 }
+  if session:pending() then
+    match = pending_before(session, at) or pending_before(session, behind)
+  else
+    match = session:listed_before(at) or session:listed_before(behind)
   end
-  for step = 0, most_lines(session, lines_of(session)) do
-    local line = (at.line - step) % lines_of(session)
-    local matches = matches_in(session, line)
-    for i = #matches, 1, -1 do
-      if step > 0 or matches[i].start < at.column then
-        return go_to(window, matches[i])
-      end
-    end
+  if match then
+    go_to(window, match)
   end
 end
 
