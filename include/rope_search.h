@@ -45,7 +45,9 @@
  *   number of lines changes. undo and redo do the same for what comes back; without a pattern they
  *   are O(1).
  * - replace searches the whole text once, and takes time linear in the matches and in what comes in
- *   their place; next searches up to the match that it finds; groups_at searches one line.
+ *   their place; next searches up to the match that it finds; next_all searches the whole text once,
+ *   takes O(log n) for each match that it copies, and until it returns 16 bytes for each match of the
+ *   text; groups_at searches one line.
  *   replace_match takes the time of edit and, with a group in what takes the match's place, that of
  *   groups_at. replace_listed takes time linear in the rows from `from` up to `to`, in their matches
  *   and in what comes in their place, and O(log n) for each row with a match; with a group also that
@@ -117,6 +119,11 @@ typedef struct {
     bool found;
     rope_search_position start, stop;
 } rope_search_match;
+
+/* A match in a whole text, which may span lines: where it starts and where it ends. */
+typedef struct {
+    rope_search_position start, stop;
+} rope_search_text_match;
 
 /* A match in a line: the columns where it starts and where it ends. */
 typedef struct {
@@ -276,6 +283,17 @@ uint32_t rope_search_off(rope_search *session);
  */
 uint32_t rope_search_next(rope_search *session, rope_search_position from,
                           rope_search_match *match);
+
+/*
+ * Copies the first matches in the whole text that start at a position or after it to the front of
+ * `out`, as many as fit. They are those that `replace` would replace: all are found one after the
+ * other from the text's start, in one search, and may span lines. `next` searches from its position
+ * instead, so it may find a match that overlaps one which starts before the position. `count` is
+ * written unless the session is closed: how many were copied, or 0 if this is refused: NONE, RANGE,
+ * MEMORY. The rest of `out` is not changed.
+ */
+uint32_t rope_search_next_all(rope_search *session, rope_search_position from,
+                              rope_search_text_match *out, size_t out_len, size_t *count);
 
 /*
  * Replaces all matches in the whole text, as one step of the history. In what takes their place,

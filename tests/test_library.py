@@ -24,6 +24,7 @@ from library_pane import wrong_document
 from library_pending import small_pending, wrong_pending
 from library_replacing import wrong_listed_replacements, wrong_replacements
 from library_text_changes import small_changes, small_joins, wrong_after_edits, wrong_text_changes
+from library_text_matches import wrong_text_matches
 from protocol import Session, lines_of, place_of, position_at, positions_of, read_commands, spelled, units
 from random_patterns import Maker
 from test_edits import BACK_AND_FORWARD, OF_ALL_KINDS, SESSIONS, SESSIONS_IN_RUN, some_sessions
@@ -373,6 +374,8 @@ def test_pending():
 def test_listed():
     wrong = [one for seed in range(LISTED) for one in wrong_listed(seed)]
     test(f"listed matches looked up, in {LISTED} texts at random, beside the model", wrong)
+    wrong = [one for seed in range(LISTED) for one in wrong_text_matches(seed)]
+    test(f"the first matches of whole texts, of {LISTED} texts at random, beside the model", wrong)
 
 
 def answered(call, *arguments):
@@ -400,6 +403,7 @@ def test_closed():
         "set_text": (b"a", 1), "edit": (origin, origin, b"a", 1),
         "edit_all": ((rope_search._TextEdit * 1)(), 1, b"", 0), "undo": (), "redo": (),
         "set_pattern": (b"a", 1), "off": (), "next": (origin, rope_search._Match(True)),
+        "next_all": (origin, (rope_search._TextMatch * 1)(), 1, ctypes.c_size_t(7)),
         "replace": (b"a", 1, ctypes.c_size_t(7)), "fork": (ctypes.c_size_t(7),), "choose": (0,),
         "column_in": (8, origin, ctypes.c_size_t(7)), "position_in": (8, 0, 0, rope_search._Position()),
         "forget": (), "keep": (1,), "join": (1,), "byte_of": (origin, ctypes.c_size_t(7)), "position_of": (0, rope_search._Position()),
@@ -436,11 +440,11 @@ def test_closed():
     counts = calls.rope_search_counted(handle)
     if (counts.rows, counts.wholes, handle.is_open) != (0, 0, False):
         wrong.append("counted, or the handle, is something")
-    kept = [refused[name][-1].value for name in ("replace", "replace_listed", "fork", "byte_of", "column_in", "line_len", "window", "count_pending", "copy_pending")]
+    kept = [refused[name][-1].value for name in ("replace", "replace_listed", "fork", "byte_of", "column_in", "line_len", "window", "count_pending", "copy_pending", "next_all")]
     kept.append(refused["clamp"][-1].line)
     kept += [read_only[name][1].line for name in ("listed_from", "listed_before")]
     kept += [count.value for count in (*read_only["list_index"][2:], *read_only["pending"])]
-    if kept != [7] * 15 or not refused["next"][1].found or not refused["advance"][1].value:
+    if kept != [7] * 16 or not refused["next"][1].found or not refused["advance"][1].value:
         wrong.append(f"a call of a closed session writes: {kept}, {refused['next'][1].found}")
     if any(group.found for group in refused["groups_at"][2]):
         wrong.append("groups of a closed session are told")
@@ -516,7 +520,7 @@ def test_page():
     page = read("docs", "embedding.md")
     blocks = re.findall(r"```(c|python|lua|sh)\n(.*?)```\n\nIt prints\n\n```text\n(.*?)```", page, flags=re.S)
     kinds = [kind for kind, _, _ in blocks]
-    test("docs/embedding.md has code in four languages", [] if kinds == ["c", "python", "lua", "python", "c", "sh"] else [f"in {kinds}"])
+    test("docs/embedding.md has code in four languages", [] if kinds == ["c", "python", "lua", "python", "c", "python", "c", "sh"] else [f"in {kinds}"])
     for kind, code, due in blocks:
         file = os.path.join(ROOM, "embedded." + kind.replace("python", "py"))
         with open(file, "w", encoding="utf-8") as out:

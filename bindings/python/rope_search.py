@@ -175,6 +175,10 @@ class _Match(ctypes.Structure):
     _fields_ = [("found", ctypes.c_bool), ("start", _Position), ("stop", _Position)]
 
 
+class _TextMatch(ctypes.Structure):
+    _fields_ = [("start", _Position), ("stop", _Position)]
+
+
 class _Span(ctypes.Structure):
     _fields_ = [("line", ctypes.c_size_t), ("start", ctypes.c_size_t), ("stop", ctypes.c_size_t)]
 
@@ -219,6 +223,7 @@ _CALLS = {
     "escape": (_STATUS, _BYTES, _SIZE, _BYTES, _SIZE, ctypes.POINTER(_SIZE)),
     "off": (_STATUS, _HANDLE),
     "next": (_STATUS, _HANDLE, _Position, ctypes.POINTER(_Match)),
+    "next_all": (_STATUS, _HANDLE, _Position, ctypes.POINTER(_TextMatch), _SIZE, ctypes.POINTER(_SIZE)),
     "replace": (_STATUS, _HANDLE, _BYTES, _SIZE, ctypes.POINTER(_SIZE)),
     "replace_match": (_STATUS, _HANDLE, _SIZE, _SIZE, _BYTES, _SIZE),
     "replace_listed": (_STATUS, _HANDLE, _SIZE, _SIZE, _BYTES, _SIZE, ctypes.POINTER(_SIZE)),
@@ -302,6 +307,10 @@ def library() -> ctypes.CDLL:
 def _bytes_of(text: Text) -> bytes:
     """Its UTF-8. A lone surrogate has none, and is then refused as bytes that aren't UTF-8."""
     return text if isinstance(text, bytes) else text.encode("utf-8", "surrogatepass")
+
+
+def _match_of(match: Union[_Match, _TextMatch]) -> Match:
+    return Match(Position(match.start.line, match.start.column), Position(match.stop.line, match.stop.column))
 
 
 def _check(status: int) -> None:
@@ -402,9 +411,14 @@ class Session:
         """The first match in the whole text at a position or behind it. Refused: Nothing, Range, Memory."""
         match = _Match()
         _check(self._calls.rope_search_next(self._handle, _Position(*start), match))
-        if not match.found:
-            return None
-        return Match(Position(match.start.line, match.start.column), Position(match.stop.line, match.stop.column))
+        return _match_of(match) if match.found else None
+
+    def next_all(self, start: Tuple[int, int], room: int = 1_024) -> List[Match]:
+        """The first matches in the whole text at a position or after it, at most `room`: of those that `replace` replaces,
+        found from the text's start in one search. Refused: Nothing, Range, Memory."""
+        out, count = (_TextMatch * max(1, room))(), ctypes.c_size_t()
+        _check(self._calls.rope_search_next_all(self._handle, _Position(*start), out, room, count))
+        return [_match_of(match) for match in out[:count.value]]
 
     def replace(self, template: Text) -> int:
         """Replaces all matches, and tells how many there were. Refused: Nothing, Utf8, Size, Memory."""

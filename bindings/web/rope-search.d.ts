@@ -184,6 +184,11 @@ export class Session {
   off(): void;
   /** Finds the first match in the whole text from a position on. Refused: Nothing, Range, Memory. */
   next(from: PositionLike): Match | null;
+  /**
+   * Finds the first matches in the whole text from a position on, at most `room`, or 1,024 if it is left out: of
+   * those that `replace` replaces, found from the text's start in one search. Refused: Nothing, Range, Memory.
+   */
+  nextAll(from: PositionLike, room?: number): Match[];
   /** Replaces all matches in the whole text, and returns their number. Refused: Nothing, Utf8, Size, Memory. */
   replace(template: Text): number;
   /** Replaces the match of a number in a line's row. Refused: Nothing, Range, Utf8, Size, Memory. */

@@ -322,6 +322,10 @@ export class Library {
       }
       return this.readAll(kind, at, count);
     },
+    first: (call, words, { kind, returns }, room) => {
+      const at = this.#lend(call, measures(kind).size * room);
+      return this.readAll(kind, at, this.#copied(call, words, returns, at, room));
+    },
     filled: (call, words, { kind, returns }, count) => {
       const at = this.#lend(call, measures(kind).size * count);
       const returned = this.enter(call, [...words, BigInt(at), BigInt(count)]);

@@ -90,6 +90,13 @@ extern "C" {
     ) -> u32;
     fn rope_search_off(session: *mut RawSession) -> u32;
     fn rope_search_next(session: *mut RawSession, from: Position, found: *mut RawMatch) -> u32;
+    fn rope_search_next_all(
+        session: *mut RawSession,
+        from: Position,
+        out: *mut Match,
+        out_len: usize,
+        count: *mut usize,
+    ) -> u32;
     fn rope_search_replace(
         session: *mut RawSession,
         by: *const u8,
@@ -344,6 +351,12 @@ impl Handle {
             start: told.start,
             stop: told.stop,
         }))
+    }
+
+    pub fn next_all(&self, from: Position, out: &mut [Match]) -> Result<usize> {
+        let (out, len, mut count) = (out.as_mut_ptr(), out.len(), 0);
+        check(unsafe { rope_search_next_all(self.ptr(), from, out, len, &mut count) })?;
+        Ok(count)
     }
 
     pub fn replace(&mut self, template: &[u8]) -> Result<usize> {

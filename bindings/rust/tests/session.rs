@@ -287,6 +287,11 @@ fn matches_of_the_whole_text_span_lines() {
     assert_eq!(session.next((0, 0)), Ok(Some(found)));
     assert!(!found.is_empty());
     assert_eq!(session.next(found.stop), Ok(None));
+    let mut out = [Match::default(); 2];
+    assert_eq!(session.next_all((0, 0), &mut out), Ok(1));
+    assert_eq!(out, [found, Match::default()]);
+    assert_eq!(session.next_all((0, 1), &mut []), Ok(0));
+    assert_eq!(session.next_all((0, 4), &mut out), Err(Error::Range));
     assert_eq!(session.replace("-$0-"), Ok(1));
     assert_eq!(session.text(..).unwrap(), "on-e\r\nt-wo");
     session.edit(found.range(), "").unwrap();

@@ -30,6 +30,7 @@ mod search;
 mod session;
 mod stretches;
 mod text_changes;
+mod text_matches;
 mod texts;
 
 pub use buffer::Buffer;
@@ -53,3 +54,4 @@ pub use runs::{run, run_limited};
 pub use session::Session;
 pub use stretches::Stretch;
 pub use text_changes::TextChange;
+pub use text_matches::TextMatch;

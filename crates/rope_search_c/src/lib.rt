@@ -24,6 +24,7 @@ mod pending;
 mod pending_calls;
 mod reading;
 mod text_changes;
+mod text_matches;
 mod version;
 
 pub use commands::{
@@ -63,4 +64,5 @@ pub use text_changes::{
     rope_search_join, rope_search_keep, rope_search_redo_steps, rope_search_text_changes,
     rope_search_undo_steps,
 };
+pub use text_matches::rope_search_next_all;
 pub use version::rope_search_version;
