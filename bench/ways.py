@@ -14,14 +14,14 @@ import time
 from processes import PROGRAM, written
 from texts import TOP
 
-CALLED = r"y\(\w+"  # with which calls are measured
-RARE = r"line \d*000 "  # in one line of a thousand
+CALLED = r"y\(\w+"  # the pattern of the calls that are measured
+RARE = r"line \d*000 "  # matches in one line of a thousand
 WEB_MODULE = os.path.join(TOP, "bin", "rope_search.wasm")
 MEMORY64 = "--experimental-wasm-memory64"
 
 
 def told_by(words, **more):
-    """The medians that a program prints, each after its name."""
+    """The medians that a program prints, each after a name."""
     told = subprocess.run(words, stdout=subprocess.PIPE, check=True, text=True, env=dict(os.environ, **more)).stdout
     return [float(line.split()[1]) for line in told.splitlines()]
 
@@ -72,8 +72,8 @@ def by_rust(folder, lines, edits):
 
 
 def by_node(way, lines, edits):
-    """The same by bindings/node, which runs the program and has no window, or by bindings/web over its module, if Node
-    is installed."""
+    """The same by bindings/node, which runs the program and has no window, or by bindings/web with its module, if Node is
+    installed."""
     if not shutil.which("node") or way == WEB_MODULE and not os.path.exists(way):
         return []
     words = ["node", "--no-warnings", MEMORY64, os.path.join(TOP, "bench", "embedded.mjs"), way, str(lines), str(edits)]
@@ -81,7 +81,7 @@ def by_node(way, lines, edits):
 
 
 def by_neovim(lines, edits):
-    """The median of a letter inserted into a row of Neovim, which examples/nvim follows, and removed again."""
+    """The medians of a letter inserted into a row of Neovim, which examples/nvim follows, and removed again."""
     if not shutil.which("nvim"):
         return []
     paths = [os.path.join(TOP, folder, "?.lua") for folder in ("examples/nvim/lua", "bindings/lua")]
@@ -167,7 +167,7 @@ def by_python(lines, edits):
 
 
 def embedded(folder, tiny):
-    """A letter typed in a random line, undone, and the rows of a window, through the library that make lib builds."""
+    """A letter typed in a random line, its undo, and the rows of a window, by the library that make lib builds."""
     lines, edits = (4_000, 200) if tiny else (400_000, 2_000)
     whats = ("a letter in a random line", "undo", "a window's 50 rows")
     ways = {

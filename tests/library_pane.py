@@ -1,4 +1,5 @@
-"""The document of the search pane over the library, whose rows are made in slices: beside the model, once all are done."""
+"""The document of the search pane with the library, whose rows are made in slices, compared with the model when all are
+done."""
 import os
 import random
 import sys
@@ -18,7 +19,7 @@ SLICE = 3
 
 
 def changed(chosen, shown):
-    """Makes a call of the document at random, and gives the pattern where one is set."""
+    """Makes a random call of the document, and returns the pattern if one is set."""
     kind = chosen.choice(("pattern", "advance", "advance", "show", "edit", "undo", "many"))
     place = (chosen.randrange(len(shown.text.lines)), 0)
     if kind == "pattern":

@@ -1,5 +1,5 @@
 """The ranges of bytes that the library reports as replaced, and its number of undo steps, compared with a mirror: the
-expected ranges, and the old text with each range replaced by the new text's range, from the last one back."""
+expected ranges, and the old text with each range replaced by the new text's range, from the last to the first."""
 import functools
 import itertools
 import random
@@ -62,8 +62,8 @@ def composed(length, steps):
 
 
 def applied(old, new, ranges):
-    """The old text with each range replaced by the new one's, as a client that mirrors it does: from the last one
-    back."""
+    """The old text with each range replaced by the new text's, from the last to the first, as in a client that mirrors the
+    text."""
     for first, last, start, stop in reversed(ranges):
         old = old[:first] + new[start:stop] + old[last:]
     return old

@@ -122,7 +122,7 @@ def test_commands():
 
 
 class Killing:
-    """Replies, in the middle of which the child is killed."""
+    """Replies during which the child is killed."""
 
     def __init__(self, search):
         self.search, self.replies = search, search.replies
