@@ -169,7 +169,7 @@ TOPICS = {
         "window, by the library, its modules, and the program over pipes, which tells no window: medians, but for the "
         "buffer's, a mean",
         [ways.embedded],
-        built=("bin/bench", "bin/librope_search.a", "bin/librope_search.so"),
+        built=("bin/librope_search.a", "bin/librope_search.so"),
     ),
     "replace": Topic(
         "`replace` of all matches in 400,000 lines, with the report of the new text, beside Python's `re.sub`, which "

@@ -1,7 +1,7 @@
-"""A letter typed by each way to use the library: by calls in C, Python, Lua, Rust and WebAssembly, by commands over
-pipes, in Neovim, and by the language server. Each function returns medians in nanoseconds: of a letter typed in a
+"""A letter typed by each way to use the library: by calls in Rattle, C, Python, Lua, Rust and WebAssembly, by commands
+over pipes, in Neovim, and by the language server. Each function returns medians in nanoseconds: of a letter typed in a
 random line until the report is up to date, of its undo, and of a window's rows, as many of these as that way has; none
-if its tool isn't installed."""
+if its tool isn't installed, or its program isn't built."""
 import json
 import os
 import random
@@ -16,7 +16,7 @@ from texts import TOP
 
 CALLED = r"y\(\w+"  # the pattern of the calls that are measured
 RARE = r"line \d*000 "  # matches in one line of a thousand
-WEB_MODULE = os.path.join(TOP, "bin", "rope_search.wasm")
+BENCH, WEB_MODULE = (os.path.join(TOP, "bin", name) for name in ("bench", "rope_search.wasm"))
 MEMORY64 = "--experimental-wasm-memory64"
 
 
@@ -32,8 +32,10 @@ def lines_of_calls(lines):
 
 
 def by_buffer(folder, lines):
-    """The median of a letter typed in a buffer of `rope_search`, by bin/bench."""
-    words = [os.path.join(TOP, "bin", "bench"), "live", written(folder, "lines", lines_of_calls(lines)), CALLED]
+    """The mean of a letter typed in a buffer of `rope_search`, by bin/bench."""
+    if not os.path.exists(BENCH):
+        return []
+    words = [BENCH, "live", written(folder, "lines", lines_of_calls(lines)), CALLED]
     told = subprocess.run(words, stdout=subprocess.PIPE, check=True, text=True).stdout
     return [float(line.split("\t")[1]) for line in told.splitlines() if line.startswith("a letter in a random line\t")][:1]
 
@@ -183,5 +185,7 @@ def embedded(folder, tiny):
         "by the language server": by_server(lines, edits // 10),
     }
     for way, medians in ways.items():
+        if not medians:
+            print(f"  {way}: not measured, since its tool isn't installed or its program isn't built", flush=True)
         for what, median in zip(whats, medians):
             yield way, what, f"{median:.0f}", "ns"

@@ -167,14 +167,16 @@ def test_figures():
 def test_costs():
     """The page of ways to embed the library has the cost of a letter for each, as the page of results does."""
     results, page = read(os.path.join(TOP, "bench", "RESULTS.md")), read(os.path.join(TOP, "docs", "embedding.md"))
-    rows = re.findall(r"^\| (.*?) \| ([\d,]+) (ns|us) \|", results.split("\n## embedded\n")[1].split("\n## ")[0], re.M)
-    measured = {name: int(number.replace(",", "")) / (1000 if unit == "ns" else 1) for name, number, unit in rows}
+    rows = re.findall(r"^\| (.*?) \| ([\d,]+) (ns|us|ms) \|", results.split("\n## embedded\n")[1].split("\n## ")[0], re.M)
+    micros = {"ns": 0.001, "us": 1, "ms": 1000}
+    measured = {name: int(number.replace(",", "")) * micros[unit] for name, number, unit in rows}
     names = {"C": "in C", "Rust": "in Rust", "Python": "in Python", "Lua": "in LuaJIT", "Node": "by the program from Node",
              "A web page": "in WebAssembly, in Node", "A child process": "by the program over pipes",
              "A language server": "by the language server", "Neovim": "in Neovim, with its own edit"}
     told = dict(re.findall(r"^\| \[([^]]*)\].*\| ([\d.]+) µs \|$", page, re.M))
     due = {way: f"{measured[name]:.{int(measured[name] < 10)}f}" for way, name in names.items() if name in measured}
-    test("docs/embedding.md has what a letter costs", [] if told == due else [f"it has {told}, not {due}"])
+    wrong = [] if told == due else [f"it has {told}, not {due}: run bench/cite"]
+    test("docs/embedding.md has the time of a letter for each way that is measured", wrong)
 
 
 def anchors(text):
