@@ -72,7 +72,7 @@ def applied(old, new, ranges):
 def wrong_ranges(old, new, told, due):
     """What is wrong with the ranges that are reported for two texts in bytes."""
     if due is not None and told != due:
-        yield f"{told} are told, not {due}"
+        yield f"{told} are reported, not {due}"
     ends = [(0, 0), *((last, stop) for _, last, _, stop in told)]
     for (at, at_new), (first, last, start, stop) in zip(ends, told):
         if not (at <= first <= last <= len(old) and at_new <= start <= stop <= len(new)):
@@ -157,7 +157,7 @@ def wrong_told(session, mirror, old, place):
     """What is wrong with what a session reports after a command that the mirror executed."""
     model, number = mirror.model, mirror.model.chosen
     told = [tuple(one) for one in session.text_changes]
-    wrong = [] if told == mirror.told[number] else [f"{told} are told, not {mirror.told[number]}"]
+    wrong = [] if told == mirror.told[number] else [f"{told} are reported, not {mirror.told[number]}"]
     if old is not None:
         wrong += wrong_ranges(old.encode(), model.buffer.text.encode(), told, None)
     steps = (model.buffer.at, len(model.buffer.texts) - model.buffer.at - 1)
@@ -346,4 +346,4 @@ def wrong_join(session, text, one, other):
 
 def told_other(session, due, undo, redo):
     told, steps = [tuple(one) for one in session.text_changes], (session.undo_steps, session.redo_steps)
-    return [] if told == due and steps == (undo, redo) else [f"{told} and {steps} are told, not {due} and {undo}, {redo}"]
+    return [] if told == due and steps == (undo, redo) else [f"{told} and {steps} are reported, not {due} and {undo}, {redo}"]
