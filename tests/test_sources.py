@@ -20,13 +20,13 @@ APART = set("Advances Begins count_of is_done left_in".split())
 # Inner crates, and the crates of their group, which are the only ones to name them.
 GROUPS = {r"ropey_(tree|walk)": r"ropey\w*", r"rx_\w+": r"rx_\w+|regex_cursor\w*",
           r"rope_search_(io|changes|reports|templates)": r"rope_search\w*"}
-# Phrases that are not the field's English, in pages, in the header, and in scripts and tests with their comments; the
-# sources of crates and of what is compiled with them are not read.
+# Phrases that are not the field's English, in pages, in the header, and in scripts and tests with their comments; sources of
+# crates are not read.
 UNUSUAL = re.compile(r"\b(?:turned round|wants? of memory|lets? go of|serves? on|(?:is|are|be) come (?:by|to)|made anew|"
                      r"(?:steps?|pass(?:es)?) back|lies? in pieces|stands? (?:before|behind|there)|goes by|hands? on|"
                      r"what is told)\b", re.I)
 READ_FOR_ENGLISH = ("*.md", "docs/*.md", "crates/*/README.md", "bindings/**/*", "examples/[cds]*", "examples/language_server/*",
-                    "examples/web/*", "include/*", "Makefile", "bench/*", "bench/plain/src/*", "tests/*", "tests/compiled/*/README.md")
+                    "examples/web/*", "include/*", "Makefile", "bench/*", "bench/*/src/*", "tests/*", "tests/compiled/**/*")
 WRITTEN = {"docs/meaning.md", "docs/definitions.md", "tests/test_sources.py"}  # by tools/meaning; and this list
 # A line whose call only shows a proof an invariant of the type.
 FOR_PROOFS = r"^ *let _ = \(?[\w.]+\(\)"
@@ -223,7 +223,7 @@ def test_length():
 
 
 def test_english():
-    """Pages, the header, scripts and tests don't have certain phrases."""
+    """Pages, the header, scripts and tests have none of certain phrases."""
     paths = {path for form in READ_FOR_ENGLISH for path in glob.glob(os.path.join(TOP, form), recursive=True)}
     names = {os.path.relpath(path, TOP) for path in paths if os.path.isfile(path)} - WRITTEN
     wrong = []
