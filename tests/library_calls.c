@@ -1,4 +1,4 @@
-/* Calls of the library with what each answers: refusals, ranges, buffers, sessions that are closed and opened again. */
+/* Calls of the library and their results: refusals, ranges, buffers, sessions that are closed and opened again. */
 #include "rope_search.h"
 #include <stdio.h>
 #include <string.h>
@@ -66,7 +66,7 @@ static void refusals(rope_search *s)
     IS(rope_search_off(s), ROPE_SEARCH_DONE);
 }
 
-/* The groups of matches, of the text "hi ho\nhi ha" under another pattern, which is put back. */
+/* The groups of matches in the text "hi ho\nhi ha" under another pattern; the first pattern is restored. */
 static void groups(rope_search *s)
 {
     rope_search_group of[11];
@@ -96,7 +96,7 @@ static void groups(rope_search *s)
     IS(rope_search_set_pattern(s, bytes("h"), 1), ROPE_SEARCH_DONE);
 }
 
-/* The matches of the text "hi ho\nhi ha" under "h", looked up. */
+/* Look-ups of the matches of "h" in the text "hi ho\nhi ha". */
 static void listed(rope_search *s)
 {
     rope_search_listed match;
@@ -214,7 +214,7 @@ static rope_search_text_edit edit_at(rope_search_position from, rope_search_posi
     return edit;
 }
 
-/* Several edits as one, of the text "hi ho\nhi ha". */
+/* Several edits as one, in the text "hi ho\nhi ha". */
 static void several(rope_search *s)
 {
     uint8_t text[16];
@@ -249,7 +249,7 @@ static void several(rope_search *s)
     IS(rope_search_text_len(s), 11);
 }
 
-/* Matches replaced one by one, of the text "ab abc\rab", under a pattern, undone at the end. */
+/* Matches in the text "ab abc\rab" replaced one by one, and undone at the end. */
 static void matches(rope_search *s)
 {
     rope_search_text_change change;
@@ -288,7 +288,7 @@ static void matches(rope_search *s)
     IS(rope_search_off(s), ROPE_SEARCH_DONE);
 }
 
-/* A pending pattern of the text "ab\nb\nab", under another pattern. */
+/* A pending pattern for the text "ab\nb\nab", which has another pattern. */
 static void pending(rope_search *s)
 {
     rope_search_span spans[2] = {{7, 7, 7}, {7, 7, 7}};
@@ -342,7 +342,7 @@ static void pending(rope_search *s)
     IS(rope_search_off(s), ROPE_SEARCH_DONE);
 }
 
-/* Lines, and edits by bytes, of the text "hi ho\r\nh\303\251 \360\237\220\270", under a pattern, undone at the end. */
+/* Lines of the text "hi ho\r\nh\303\251 \360\237\220\270", and edits of it by bytes, under a pattern, undone at the end. */
 static void lines(rope_search *s)
 {
     rope_search_span spans[3];

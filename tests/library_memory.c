@@ -1,5 +1,5 @@
-/* A session of many kinds of calls, carried out once for each of its requests for memory, which is refused: the call
- * that asked answers so, and leaves all as it was; carried out again it is done. It is linked with
+/* A session with many kinds of calls, run once for each of its requests for memory, which is refused: the call that made
+ * the request returns MEMORY and changes nothing, and succeeds when it is made again. It is linked with
  * --wrap=malloc,--wrap=realloc. */
 #include "rope_search.h"
 #include <stdio.h>
@@ -30,8 +30,8 @@ void *__wrap_realloc(void *old, size_t bytes)
     return is_refused() ? NULL : __real_realloc(old, bytes);
 }
 
-/* What can be seen of a session: of the chosen buffer the text, the matches, the steps back and forward, the ranges that
- * were replaced last, and the lines and the matches that are done for a pending pattern. */
+/* The visible state of a session: the text of the chosen buffer, its matches, the undo and redo steps, the ranges that
+ * were last replaced, and the lines and matches that are done for a pending pattern. */
 struct seen {
     size_t len, rows, count, undo, redo, changes, lines, pending;
     bool is_pending;
@@ -84,7 +84,7 @@ static uint32_t carry_out(rope_search *s, const struct call *call)
     from.column = call->column;
     to.line = call->to_line;
     to.column = call->to_column;
-    /* The first of two edits puts half of the text at one position, the other the rest at the other. */
+    /* Two edits: the first inserts half of the text at one position, the second the rest at the other. */
     edits[0].from = edits[0].to = from;
     edits[1].from = edits[1].to = to;
     edits[0].len = len / 2;
@@ -146,7 +146,7 @@ static int may_ask(enum kind kind)
     return kind != OFF && kind != CHOOSE && kind != FORGET && kind != KEEP && kind != CANCEL;
 }
 
-/* The calls in turn, where one request is refused; how many requests there were. */
+/* Makes the calls, with one request refused, and returns the number of requests. */
 static unsigned long run(unsigned long at, struct seen *last)
 {
     static struct seen before, after;
@@ -180,7 +180,7 @@ static unsigned long run(unsigned long at, struct seen *last)
     return asked;
 }
 
-/* With a number N as its argument, one request in N is refused in turn. */
+/* With an argument N, only every N-th request is refused in turn. */
 int main(int words, char **word)
 {
     static struct seen due, last;

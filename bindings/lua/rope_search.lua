@@ -181,7 +181,7 @@ function M.open(limit)
 end
 
 -- Where and why a text is no pattern: { place, reason }, the byte at which the first character begins
--- that can't stand there and one of rope_search.reasons; or false, where "pattern" isn't why it is
+-- that can't be there and one of rope_search.reasons; or false, where "pattern" isn't why it is
 -- refused, if it is. No session takes part.
 function M.pattern_error(pattern)
   local told_of = ffi.new("rope_search_pattern_reason")
@@ -210,7 +210,7 @@ function Session:is_open()
   return self.handle.is_open
 end
 
--- Sets the text; its history begins anew.
+-- Sets the text, and empties its history.
 function Session:set_text(text)
   return told(calls.rope_search_set_text(self.handle, text, #text))
 end
@@ -277,7 +277,7 @@ function Session:next_all(start, room)
   return told(status, matches)
 end
 
--- Replaces all matches, and tells how many there were.
+-- Replaces all matches, and returns their number.
 function Session:replace(template)
   local count = ffi.new("size_t[1]")
   local status = calls.rope_search_replace(self.handle, template, #template, count)

@@ -54,7 +54,7 @@ class Listed(NamedTuple):
 
 
 class PatternError(NamedTuple):
-    """Where and why a text is no pattern: the byte at which the first character begins that can't stand there, the text's
+    """Where and why a text is no pattern: the byte at which the first character begins that can't be there, the text's
     length where it ends too early; and one of REASONS."""
     place: int
     reason: str
@@ -367,7 +367,7 @@ class Session:
     # ---- commands
 
     def set_text(self, text: Text) -> None:
-        """Sets the text; its history begins anew. Refused: Utf8, Size, Memory."""
+        """Sets the text, and empties its history. Refused: Utf8, Size, Memory."""
         text = _bytes_of(text)
         _check(self._calls.rope_search_set_text(self._handle, text, len(text)))
 
@@ -421,7 +421,7 @@ class Session:
         return [_match_of(match) for match in out[:count.value]]
 
     def replace(self, template: Text) -> int:
-        """Replaces all matches, and tells how many there were. Refused: Nothing, Utf8, Size, Memory."""
+        """Replaces all matches, and returns their number. Refused: Nothing, Utf8, Size, Memory."""
         template, count = _bytes_of(template), ctypes.c_size_t()
         _check(self._calls.rope_search_replace(self._handle, template, len(template), count))
         return count.value

@@ -163,7 +163,7 @@ export class Session {
 
   // ---- commands
 
-  /** Sets the text. Its history begins anew; the pattern stays. Refused: Utf8, Size, Memory. */
+  /** Sets the text, and empties the history; the pattern stays. Refused: Utf8, Size, Memory. */
   setText(text: Text): void;
   /** Replaces the text from one position to another. Refused: Range, Utf8, Size, Memory. */
   edit(start: PositionLike, stop: PositionLike, text: Text): void;
@@ -232,7 +232,7 @@ export class Session {
   line(line: number): string;
   /** The same as UTF-8. Refused: Range, Memory. */
   copyLine(line: number): Uint8Array;
-  /** The length of a line's text, in UTF-16 code units if nothing else is asked for. Refused: Range. */
+  /** The length of a line's text, in UTF-16 code units by default. Refused: Range. */
   lineLen(line: number, bits?: Bits): number;
   /** The byte at a position. Refused: Range. */
   byteOf(position: PositionLike): number;

@@ -18,7 +18,7 @@ import { CALLS, FREE_CALLS, REASONS, REFUSALS, STRUCTURES } from "./calls.js";
 
 export { REASONS };
 
-/** How many bytes a session's texts may have if nothing else is asked for: 1 GiB. */
+/** The default limit on the bytes of a session's texts: 1 GiB. */
 const LIMIT = 2 ** 30;
 /**
  * The bytes of a module's memory that short arguments and results are in: four values that a call writes, each
@@ -178,7 +178,7 @@ export class Library {
     }
   }
 
-  /** The address of so many bytes, until `free`. */
+  /** The address of this number of bytes, until `free`. */
   alloc(call, size) {
     const at = this.enter("heap_alloc", [BigInt(size)]);
     if (!at) throw refusal(Memory, call);
@@ -189,7 +189,7 @@ export class Library {
     this.enter("heap_free", [BigInt(at)]);
   }
 
-  /** The address of so many bytes while a call is under way. */
+  /** The address of this number of bytes during a call. */
   #lend(call, size) {
     const at = this.alloc(call, size);
     this.#lent.push(at);

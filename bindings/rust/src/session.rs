@@ -8,7 +8,7 @@ use crate::types::{
 use std::fmt;
 use std::ops::{Bound, Range, RangeBounds};
 
-/// The number of bytes that a text of a session may have if nothing else is asked for: 1 GiB.
+/// The default limit on the bytes of a session's text: 1 GiB.
 pub const DEFAULT_LIMIT: usize = 1 << 30;
 
 /// Buffers, of which one is chosen: all calls are about that one. It is closed when it is dropped.
@@ -66,7 +66,7 @@ impl Session {
 
     // ---- commands, on the chosen buffer
 
-    /// Sets the text. Its history begins anew; the pattern stays.
+    /// Sets the text, and empties the history; the pattern stays.
     ///
     /// # Errors
     ///
