@@ -296,6 +296,8 @@ uint32_t rope_search_next(rope_search *session, rope_search_position from,
  */
 uint32_t rope_search_next_all(rope_search *session, rope_search_position from,
                               rope_search_text_match *out, size_t out_len, size_t *count);
+
+/*
  * Replaces all matches in the whole text by a template, as one step of the history. In a template,
  * `$` and a digit mean the text of that group, and `$$` means a dollar sign. `count` is written
  * unless the session is closed: the number of matches, or 0 if the call is refused: NONE, UTF8,
