@@ -11,6 +11,7 @@ from typing import NamedTuple
 import proportion
 import sessions
 import ways
+import windows
 
 MB = 1_000_000
 EXPRESSIONS = [r"\w+\s*=>\s*\w+", "(?i)todo|error", "[0-9]+|0x[0-9a-f]+"]
@@ -105,6 +106,7 @@ AIMS = {
     },
     "embedded": dict.fromkeys(("in C", "in Rust", "in Python", "in LuaJIT"), "1 us above the buffer"),
     "replace": {sessions.by_template(*replaced[:2]): "the plain program's" for replaced in sessions.REPLACED},
+    "windows": {"the first window": "1 ms", "all slices": "1.05 times `set_pattern`"},
     "next": {f"`{pattern}`": "5 ns" for pattern in sessions.REACHED},
     "enter": {"a break under `let`": "1.2 ms"},
     "hostile": {f"`{pattern}`: 1,000,000 letters": "10 times" for pattern in sessions.HOSTILE},
@@ -183,6 +185,18 @@ TOPICS = {
         "and `text_changes` after it; `edit_all` of 50,000 edits, without a pattern",
         [sessions.whole_texts],
         left_out=": matches",
+        built=("bin/librope_search.so",),
+    ),
+    "windows": Topic(
+        "a pattern whose report is made in slices of 4,000 lines, in 2,000,000 lines of 50 bytes: the first window of 50 "
+        "lines with what `begin_pattern` takes, the longest slice, and all of them beside `set_pattern`",
+        [windows.first_windows],
+        built=("bin/librope_search.so",),
+    ),
+    "copies": Topic(
+        "matches of `\\w+` in 400,000 lines, copied with columns in UTF-16 code units and in bytes; and the first 50 of the "
+        "whole text from its middle",
+        [windows.copies],
         built=("bin/librope_search.so",),
     ),
     "next": Topic(

@@ -45,7 +45,9 @@
  *   lines changes. undo and redo do the same for the text that they restore; without a pattern they
  *   are O(1).
  * - replace searches the whole text once, and is linear in the matches and their replacements. next
- *   searches up to the match that it finds. groups_at searches one line. replace_match costs as
+ *   searches up to the match that it finds. next_all searches the whole text once; it is O(log n)
+ *   for each match that it copies, and until it returns it takes 16 bytes for each match of the
+ *   text. groups_at searches one line. replace_match costs as
  *   much as edit, and with a group in the template as much as groups_at too. replace_listed is
  *   linear in the rows from `from` up to `to`, in their matches and in the replacements, and O(log
  *   n) for each row with a match; with a group it also searches each line with a match; with many
@@ -56,7 +58,7 @@
  * - copy_text and copy_line are O(log n), and linear in what they copy.
  * - byte_of, position_of, column_in, position_in, clamp and line_len are O(log n).
  * - fork and choose are O(1), forget is linear in the texts that it drops, off and close in what
- *   the buffers hold, pattern_error in the pattern; all others are O(1), or say their cost below.
+ *   the buffers hold, pattern_error in the pattern, escape in the text; all others are O(1), or say their cost below.
  *
  * Memory: a report takes 16 bytes for each row and 16 for each match, and some more for a row with
  * several matches. A history holds each text since set_text or forget: some 4 kB for a letter in a
@@ -119,6 +121,11 @@ typedef struct {
     bool found;
     rope_search_position start, stop;
 } rope_search_match;
+
+/* A match in a whole text, which may span lines: where it starts and where it ends. */
+typedef struct {
+    rope_search_position start, stop;
+} rope_search_text_match;
 
 /* A match in a line: the columns where it starts and where it ends. */
 typedef struct {
@@ -258,6 +265,16 @@ uint32_t rope_search_set_pattern(rope_search *session, const uint8_t *pattern, s
 uint32_t rope_search_pattern_error(const uint8_t *pattern, size_t len,
                                    rope_search_pattern_reason *error);
 
+/*
+ * Escapes a text: copies a pattern that matches that text only to the front of `out`, if it fits, and
+ * writes its number of bytes to `pattern_len`. Twice the bytes of the text are always enough. The
+ * pattern is the text with a backslash before each of \ . + * ? ( ) | [ { ^ $. If it doesn't fit, `out`
+ * is as it was. Needs no session. Refused: UTF8; LIMIT, if the pattern would have more than 65,536
+ * bytes; MEMORY; `out` and `pattern_len` are then as they were.
+ */
+uint32_t rope_search_escape(const uint8_t *text, size_t len, uint8_t *out, size_t out_len,
+                            size_t *pattern_len);
+
 /* Drops the pattern, if there is one. */
 uint32_t rope_search_off(rope_search *session);
 
@@ -268,6 +285,17 @@ uint32_t rope_search_off(rope_search *session);
  */
 uint32_t rope_search_next(rope_search *session, rope_search_position from,
                           rope_search_match *match);
+
+/*
+ * Copies the first matches in the whole text that start at or after a position to the front of
+ * `out`, as many as fit. They are those that `replace` would replace: all are found one after the
+ * other from the text's start, in one search, and may span lines. `next` searches from its position
+ * instead, so it may find a match that overlaps one which starts before the position. `count` is
+ * written unless the session is closed: how many were copied, or 0 if this is refused: NONE, RANGE,
+ * MEMORY. The rest of `out` is not changed.
+ */
+uint32_t rope_search_next_all(rope_search *session, rope_search_position from,
+                              rope_search_text_match *out, size_t out_len, size_t *count);
 
 /*
  * Replaces all matches in the whole text by a template, as one step of the history. In a template,

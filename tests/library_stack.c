@@ -49,7 +49,9 @@ static void search(rope_search *s, char *pattern)
     rope_search_match match;
     rope_search_group groups[10];
     rope_search_listed listed;
+    uint8_t out[64];
     (void)rope_search_pattern_error(bytes, len, &error);
+    (void)rope_search_escape(bytes, len, out, sizeof out, &count);
     (void)rope_search_set_pattern(s, bytes, len);
     (void)rope_search_next(s, start, &match);
     (void)rope_search_groups_at(s, 0, 0, groups, 10);

@@ -6,10 +6,12 @@ from library_groups import due_groups
 from library_lines import ENCODINGS, clamped, line_text, places_of
 from library_edits import places_in
 from library_listed import all_listed
+from library_pending import line_at, spans_of
 from library_replacing import places_of_match
 from library_text_changes import Mirror, ranges_of
 from pattern_model import is_literal, pattern_weight, tree_of
-from protocol import PATTERN_LIMIT, expanded, is_utf8, lines_of, place_of, position_at, positions_of, rows_of, units
+from protocol import (PATTERN_LIMIT, expanded, is_utf8, lines_of, place_of, position_at, positions_of, refused_pattern,
+                      rows_of, units)
 from random_sessions import is_light, may_be_heavy
 from test_explanations import is_front
 
@@ -20,9 +22,11 @@ BITS = dict(zip((8, 16, 32), ENCODINGS.values()))
 MOST_CHARACTERS, MOST_OF_LITERALS = 150, 3_000  # of a text in which patterns are searched for
 COMMANDS = {"SetText": "text", "Edit": "edit", "Undo": "undo", "Redo": "redo", "SetPattern": "pattern", "Off": "off", "Next":
             "next", "Replace": "replace", "Fork": "fork", "Choose": "use"}
-REFUSED_IF_CLOSED = (*COMMANDS, "EditAll", "EditBytes", "ReplaceMatch", "Forget", "Keep", "Join", "GroupsAt", "ByteOf",
-                     "PositionOf", "ColumnIn", "PositionIn", "Clamp", "LineLen")
-WITH_PAYLOAD = ("EditAll", "EditBytes", "ReplaceMatch")
+CHANGING = ("SetText", "Edit", "EditAll", "EditBytes", "Undo", "Redo", "Replace", "ReplaceMatch", "ReplaceListed")
+REFUSED_IF_CLOSED = (*COMMANDS, *CHANGING, "Forget", "Keep", "Join", "GroupsAt", "ByteOf", "PositionOf", "ColumnIn",
+                     "PositionIn", "Clamp", "LineLen", "BeginPattern", "Advance", "Cancel", "CountPending", "CopyPending",
+                     "Window")
+WITH_PAYLOAD = ("EditAll", "EditBytes", "ReplaceMatch", "ReplaceListed", "BeginPattern")
 
 
 class Unclear(Exception):
@@ -44,6 +48,7 @@ class Plain:
 
     def __init__(self):
         self.mirror, self.limit = None, 0
+        self.pending = {}  # the pending pattern of a buffer's number, and how many lines are done
 
     @property
     def model(self):
@@ -71,22 +76,38 @@ class Plain:
         if self.mirror is None:
             return refused(CLOSED if name in REFUSED_IF_CLOSED else 0)
         if name in COMMANDS:
-            return self.command(COMMANDS[name], numbers, payload)
-        return getattr(self, name)(*numbers, **({"payload": payload} if name in WITH_PAYLOAD else {}))
+            answer = self.command(COMMANDS[name], numbers, payload)
+        else:
+            answer = getattr(self, name)(*numbers, **({"payload": payload} if name in WITH_PAYLOAD else {}))
+        if answer[0] == 0:
+            self.follow(name)
+        return answer
+
+    def follow(self, name):
+        """What is pending follows an accepted call."""
+        number = self.model.chosen
+        if name in ("SetPattern", "Off", "Cancel"):
+            self.pending.pop(number, None)
+        elif name in CHANGING and number in self.pending:
+            pattern, done = self.pending[number]
+            ranges = self.mirror.told[number]
+            self.pending[number] = pattern, min([done, *(line_at(self.text, start) for _, _, start, _ in ranges)])
 
     def open(self, limit):
         if limit >= 1 << 63:
             return refused(SIZE)
-        self.mirror = Mirror()
+        self.mirror, self.pending = Mirror(), {}
         self.model.limit = limit
         return refused(0)
 
     def check_light(self):
         """Gives up if the Python models would search for long."""
-        if self.pattern is None:
-            return
-        most = MOST_OF_LITERALS if is_literal(self.pattern) else MOST_CHARACTERS
-        if not is_known(self.pattern) or len(self.text) > most:
+        if self.pattern is not None:
+            self.check_pattern(self.pattern)
+
+    def check_pattern(self, pattern):
+        most = MOST_OF_LITERALS if is_literal(pattern) else MOST_CHARACTERS
+        if not is_known(pattern) or len(self.text) > most:
             raise Unclear
 
     def command(self, word, numbers, payload):
@@ -139,11 +160,15 @@ class Plain:
         made += self.text[at:]
         if len(made.encode()) > self.model.limit:
             return refused(SIZE)
-        told, number = ranges_of(self.text, changes), self.model.chosen
+        self.add(made, ranges_of(self.text, changes))
+        return refused(0)
+
+    def add(self, text, told):
+        """Adds a text to the history, with the ranges that led to it."""
+        number = self.model.chosen
         self.mirror.led[number][self.model.buffer.at + 1 :] = [told]
         self.mirror.told[number] = told
-        self.model.buffer.add(made)
-        return refused(0)
+        self.model.buffer.add(text)
 
     def ReplaceMatch(self, line, number, payload):
         if self.pattern is None:
@@ -155,6 +180,50 @@ class Plain:
             return refused(3)
         start, end, texts = places_of_match(self.text, line, self.pattern, number)
         return self.EditBytes(start, end, expanded(payload.decode(), texts).encode())
+
+    def ReplaceListed(self, first, last, payload):
+        if self.pattern is None:
+            return 1, [0], b""
+        if not is_utf8(payload):
+            return 3, [0], b""
+        old, new, at, ranges, rows = self.text.encode(), b"", 0, [], self.rows()
+        for line in range(first, min(last, len(rows))):
+            for number in range(len(rows[line])):
+                start, end, texts = places_of_match(self.text, line, self.pattern, number)
+                new += old[at:start]
+                by = expanded(payload.decode(), texts).encode()
+                ranges.append((start, end, len(new), len(new) + len(by)))
+                new, at = new + by, end
+        new += old[at:]
+        if len(new) > self.model.limit:
+            return SIZE, [0], b""
+        self.add(new.decode(), ranges)
+        return 0, [len(ranges)], b""
+
+    def BeginPattern(self, payload):
+        if not is_utf8(payload):
+            return refused(3)
+        if may_be_heavy(payload):
+            raise Unclear
+        if refusal := refused_pattern(payload.decode()):
+            return refused(STATUS[b"error " + refusal])
+        self.pending[self.model.chosen] = payload.decode(), 0
+        return refused(0)
+
+    def Advance(self, lines):
+        if not (here := self.pending.get(self.model.chosen)):
+            return 1, [0], b""
+        pattern, done = here
+        is_over = lines >= len(lines_of(self.text)) - done
+        if is_over:
+            del self.pending[self.model.chosen]
+            self.model.buffer.pattern = pattern
+        else:
+            self.pending[self.model.chosen] = pattern, done + lines
+        return 0, [int(is_over)], b""
+
+    def Cancel(self):
+        return refused(0)
 
     def Join(self, steps):
         return refused(0 if self.mirror.join(steps) else 1)
@@ -180,6 +249,24 @@ class Plain:
         return 0, [one for group in told for one in group], b""
 
     # ---- what is read
+
+    def Pending(self):
+        here = self.pending.get(self.model.chosen)
+        return (1, [here[1]], b"") if here else refused(0)
+
+    def CountPending(self, first, last):
+        return self.CopyPending(first, last, 0)
+
+    def CopyPending(self, first, last, room):
+        here = self.pending.get(self.model.chosen)
+        return self.Window(first, min(last, here[1]), room) if here else (1, [0], b"")
+
+    def Window(self, first, last, room):
+        if not (here := self.pending.get(self.model.chosen)):
+            return 1, [0], b""
+        self.check_pattern(here[0])
+        spans = spans_of(rows_of(self.text, here[0])[first:last], first)
+        return 0, [len(spans), *(number for span in spans[:room] for number in span)], b""
 
     def Buffers(self):
         return refused(len(self.model.buffers))

@@ -79,9 +79,9 @@ def compared(*words):
     return [one.rstrip("\n") for one in failed], int(counts[-3])
 
 
-def failures(seed, first, count):
-    """The same of these sessions of a seed."""
-    return compared("check", seed, first, count)
+def failures(seed, first, count, is_quick=False):
+    """The same of these sessions of a seed; or quickly, the name of the first that fails alone."""
+    return compared("quick" if is_quick else "check", seed, first, count)
 
 
 def failures_of(paths):

@@ -9,7 +9,7 @@ from protocol import WEIGHT_LIMIT, Session, listed, positions_of, spelled
 from random_patterns import Maker
 from walks import spelled as spelled_tree
 
-CHARACTERS = "aab\r\r\n\n\u2028🐸éA "
+CHARACTERS = "aab\r\r\n\n\u2028🐸éÀA "
 SESSIONS, SESSIONS_IN_RUN = max(500, share_of(20_000)), 500
 # The frequency of each command in a random session: one with all kinds, and one with many undos and redos.
 WORDS = ("edit", "undo", "redo", "list", "print", "pattern", "text", "fork", "use", "off", "next", "replace")

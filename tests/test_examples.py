@@ -101,7 +101,7 @@ def test_one_regex():
     found = naming("regex_cursor::engines")
     test("one file has the regex of a report", [] if found == {home} else [f"it is in {sorted(found)}"])
     found = naming("regex_cursor")
-    due = {home, "explaining.rt"}  # the other one re-exports why a text is no pattern
+    due = {home, "explaining.rt", "escaping.rt"}  # the other two re-export why a text is no pattern, and how to escape one
     test("and names what it is made of", [] if found == due else [f"others name it: {sorted(found ^ due)}"])
 
 

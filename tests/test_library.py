@@ -15,6 +15,7 @@ from harness import LIBRARY, LIBRARY_FOLDER, PROGRAM, ROOM, SECONDS, SONAME, TOP
 from library import replies, reply, rope_search
 from library_changes import wrong_changes
 from library_edits import wrong_many, wrong_with
+from library_escapes import wrong_matches, wrong_rooms, wrong_rows, wrong_singles
 from library_groups import wrong_groups
 from library_in_c import STRICT, test_stack, test_under_tools
 from library_lines import wrong_edits, wrong_long, wrong_numbers, wrong_small
@@ -23,6 +24,7 @@ from library_pane import wrong_document
 from library_pending import small_pending, wrong_pending
 from library_replacing import wrong_listed_replacements, wrong_replacements
 from library_text_changes import small_changes, small_joins, wrong_after_edits, wrong_text_changes
+from library_text_matches import wrong_text_matches
 from protocol import Session, lines_of, place_of, position_at, positions_of, read_commands, spelled, units
 from random_patterns import Maker
 from test_edits import BACK_AND_FORWARD, OF_ALL_KINDS, SESSIONS, SESSIONS_IN_RUN, some_sessions
@@ -31,7 +33,8 @@ from test_pattern_model import mangled
 from test_replies import MORE_EXAMPLES, examples_of_page
 
 HEADER = os.path.join(TOP, "include", "rope_search.h")
-EDITED, GROUPED, LISTED, MANGLED = 4_000, 1_000, 2_000, 2_000
+EDITED, ESCAPED, GROUPED, LISTED, MANGLED = 4_000, 2_000, 1_000, 2_000, 2_000
+# The name of a parameter of C, behind its type.
 # The name of a parameter of C, after its type.
 PARAMETER = re.compile(r"\s*\b(?!const\b|size_t\b|bool\b|void\b|u?int\d+_t\b|rope_search\w*\b)\w+$")
 # The paths under which programs find the modules of the bindings, and these the library.
@@ -160,6 +163,13 @@ def test_explanations():
     same = numbers == list(range(len(numbers))) and reasons == in_lua == list(rope_search.REASONS)
     test("the header and the bindings have the same reasons", [] if same else [f"{reasons}, in Lua {in_lua}"])
     test("where and why texts are no patterns", wrong_explanations())
+
+
+def test_escapes():
+    test("texts escaped for patterns", wrong_rows())
+    test("what escaped texts leave in a caller's array", wrong_rooms())
+    test("matches of escaped characters", wrong_singles())
+    test("matches of escaped texts", [one for seed in range(ESCAPED) for one in wrong_matches(seed)])
 
 
 def wrong_replies(commands, expected):
@@ -365,6 +375,8 @@ def test_pending():
 def test_listed():
     wrong = [one for seed in range(LISTED) for one in wrong_listed(seed)]
     test(f"listed matches looked up, in {LISTED} texts at random, beside the model", wrong)
+    wrong = [one for seed in range(LISTED) for one in wrong_text_matches(seed)]
+    test(f"the first matches of whole texts, of {LISTED} texts at random, beside the model", wrong)
 
 
 def answered(call, *arguments):
@@ -392,6 +404,7 @@ def test_closed():
         "set_text": (b"a", 1), "edit": (origin, origin, b"a", 1),
         "edit_all": ((rope_search._TextEdit * 1)(), 1, b"", 0), "undo": (), "redo": (),
         "set_pattern": (b"a", 1), "off": (), "next": (origin, rope_search._Match(True)),
+        "next_all": (origin, (rope_search._TextMatch * 1)(), 1, ctypes.c_size_t(7)),
         "replace": (b"a", 1, ctypes.c_size_t(7)), "fork": (ctypes.c_size_t(7),), "choose": (0,),
         "column_in": (8, origin, ctypes.c_size_t(7)), "position_in": (8, 0, 0, rope_search._Position()),
         "forget": (), "keep": (1,), "join": (1,), "byte_of": (origin, ctypes.c_size_t(7)), "position_of": (0, rope_search._Position()),
@@ -413,8 +426,8 @@ def test_closed():
         "listed_before": (origin, rope_search._Listed(7)), "list_index": (0, 0, ctypes.c_size_t(7), ctypes.c_size_t(7)),
         "pending": (ctypes.c_size_t(7),),
     }
-    # Two calls need no session.
-    named = {"version", "open", "close", "counted", "changed", "pattern_error", *refused, *read_only}
+    # Three calls need no session.
+    named = {"version", "open", "close", "counted", "changed", "pattern_error", "escape", *refused, *read_only}
     wrong += [f"no test calls {name}" for name in sorted(set(rope_search._CALLS) - named)]
     for name, arguments in refused.items():
         if (status := getattr(calls, "rope_search_" + name)(handle, *arguments)) != 8:
@@ -428,11 +441,11 @@ def test_closed():
     counts = calls.rope_search_counted(handle)
     if (counts.rows, counts.wholes, handle.is_open) != (0, 0, False):
         wrong.append("counted, or the handle, is something")
-    kept = [refused[name][-1].value for name in ("replace", "replace_listed", "fork", "byte_of", "column_in", "line_len", "window", "count_pending", "copy_pending")]
+    kept = [refused[name][-1].value for name in ("replace", "replace_listed", "fork", "byte_of", "column_in", "line_len", "window", "count_pending", "copy_pending", "next_all")]
     kept.append(refused["clamp"][-1].line)
     kept += [read_only[name][1].line for name in ("listed_from", "listed_before")]
     kept += [count.value for count in (*read_only["list_index"][2:], *read_only["pending"])]
-    if kept != [7] * 15 or not refused["next"][1].found or not refused["advance"][1].value:
+    if kept != [7] * 16 or not refused["next"][1].found or not refused["advance"][1].value:
         wrong.append(f"a call of a closed session writes: {kept}, {refused['next'][1].found}")
     if any(group.found for group in refused["groups_at"][2]):
         wrong.append("groups of a closed session are told")
@@ -508,7 +521,7 @@ def test_page():
     page = read("docs", "embedding.md")
     blocks = re.findall(r"```(c|python|lua|sh)\n(.*?)```\n\nIt prints\n\n```text\n(.*?)```", page, flags=re.S)
     kinds = [kind for kind, _, _ in blocks]
-    test("docs/embedding.md has code in four languages", [] if kinds == ["c", "python", "lua", "python", "c", "sh"] else [f"in {kinds}"])
+    test("docs/embedding.md has code in four languages", [] if kinds == ["c", "python", "lua", "python", "c", "python", "c", "sh"] else [f"in {kinds}"])
     for kind, code, due in blocks:
         file = os.path.join(ROOM, "embedded." + kind.replace("python", "py"))
         with open(file, "w", encoding="utf-8") as out:
@@ -596,6 +609,7 @@ def test_all():
     test_listed()
     test_pending()
     test_explanations()
+    test_escapes()
     test_programs()
     test_lua()
     test_neovim()

@@ -24,13 +24,23 @@ NEEDLES = [
     [b"abcdefgh"],
     [b"b" * 64, b"ab"],
     [b"\x00"],
+    # By a table of their first three bytes: many first bytes, common ones, needles that mix these bytes.
+    [b"abb", b"bab", b"cab", "éa".encode()],
+    [b"aab", b"abab", b"aba", b"abb"],
+    [b"bab", b"abba", b"\x00\xc3\xa9", b"cde"],
 ]
 HAYSTACKS = [b"", b"a", b"ab", b"aab", b"abab", b"babba", b"aaabaaab", "aéb".encode(), b"\x00\xc3\xa9\x00"]
-HAYSTACKS += [b"xabcdefgh", b"abcdefgabcdefgh", b"a" + b"b" * 70, b"b" * 63]
+HAYSTACKS += [b"xabcdefgh", b"abcdefgabcdefgh", b"a" + b"b" * 70, b"b" * 63, b"ababbab", b"cbabbacd"]
 
 # Lists that are refused as needles: none, one that is empty, too many, one that is too long.
 REFUSED = [[], [b""], [b"a", b""], [b"a"] * 17, [b"a" * 65]]
 ACCEPTED = [[b"a"] * 16, [b"a" * 64]]
+
+
+def cases(word):
+    """A word in each mix of capitals and small letters."""
+    return ["".join(letters) for letters in itertools.product(*[(letter.upper(), letter) for letter in word])]
+
 
 # Patterns, and the literals that their matches begin with, if there are any. Literals continue through repetitions of at
 # least one, groups, assertions and empty items. Branches, sets of at most four members and optional items are followed in
@@ -49,7 +59,10 @@ BEGINNINGS = [
     ("(ab)+c", ["ab"]),
     ("ab[cd]", ["ab"]),
     ("é[ab]", ["é"]),
-    ("e[a-d]x", ["e"]),
+    ("e[a-d]x", ["eax", "ebx", "ecx", "edx"]),
+    ("e[a-d]", []),
+    ("e[ab]", ["ea", "eb"]),
+    ("e[a-e]x", ["e"]),
     ("x(ab)+c", ["xab"]),
     ("a{3}b", ["aaab"]),
     ("(?:ab|ac)", ["ab", "ac"]),
@@ -84,13 +97,22 @@ BEGINNINGS = [
     ("ab|cd|xf", ["ab", "cd", "xf"]),
     ("ab|cd|ef|gh", []),
     ("[bc]{2}d", ["bbd", "bcd", "cbd", "ccd"]),
-    ("[ab]{2}c", []),
+    ("[ab]{2}c", ["aac", "abc", "bac", "bbc"]),
+    ("[ab]{2}", []),
     ("x[a-d]", ["xa", "xb", "xc", "xd"]),
     ("x[a-e]", ["x"]),
     ("x[ace-f]", ["xa", "xc", "xe", "xf"]),
     ("[a-e]x", []),
     ("[b-d]x", ["bx", "cx", "dx"]),
     ("\\bfoo|^bar$", ["foo", "bar"]),
+    # Several begin with many different bytes, or with common ones, if each has three bytes or more.
+    ("(?i)err", ["ERR", "ERr", "ErR", "Err", "eRR", "eRr", "erR", "err"]),
+    ("(?i)todo|error", [*cases("tod"), *cases("err")]),
+    ("(?i)todo|error|x", []),
+    ("(?i)todo|error|warn", []),
+    ("error|warning|info|debug|trace", ["error", "warning", "info", "debug", "trace"]),
+    ("the|and|are", ["the", "and", "are"]),
+    ("the|and|are|it", []),
     ("(?:foo){0,2}bar", ["foo", "bar"]),
     ("foo|[^\\s\\S]", ["foo"]),
     # Of 16 literals at most, these are made longer first.
@@ -98,7 +120,7 @@ BEGINNINGS = [
 ]
 
 # Words of random patterns. Each begins with one of few bytes.
-WORDS = ["x", "xy", "foo", "fob", "bar", "yb", "é", "éa", "[xy]b", "f[a-c]", "f[^f]", "x?b", "b*y", "(?i:fo)", "(?i:é)x"]
+WORDS = ["oxy", "(?i:foé)", "x", "xy", "foo", "fob", "bar", "yb", "é", "éa", "[xy]b", "f[a-c]", "f[^f]", "x?b", "b*y", "(?i:fo)", "(?i:é)x"]
 
 # Patterns, and the literal that equals each of their matches, if there is one: only characters, of at most 64 bytes.
 WHOLES = [
@@ -203,6 +225,8 @@ BETWEEN = [
     (["[0-9]*"], None),
     (["[0-9]?|x"], None),
     (["[0-9]", "x*"], None),
+    (["(?i)todo|error"], [*cases("tod"), *cases("err")]),
+    (["error|warning|info|debug|trace"], ["error", "warning", "info", "debug", "trace"]),
 ]
 
 

@@ -71,9 +71,9 @@ def test_regexes():
     wrong = [crate for crate, libraries in listed().items() if crate.startswith("rope_search") and "regex_cursor" in libraries]
     test("no other crate above names regex_cursor", [] if wrong == ["rope_search_reports"] else [f"{wrong}"])
     kept = ("rope_search_reports/src/rows/counted.rt", "rope_search_reports/src/laws.rt",
-            "rope_search_reports/src/explaining.rt")
-    shown = re.findall(r"\w+", " ".join(re.findall(r"regex_cursor::([^;]+);", dict(above)[kept[2]])))
-    due = ["util", "syntax", "Config", "Mistake", "Reason", "Refusal", "explain"]
+            "rope_search_reports/src/explaining.rt", "rope_search_reports/src/escaping.rt")
+    shown = re.findall(r"\w+", " ".join(re.findall(r"regex_cursor::([^;]+);", "".join(map(dict(above).get, kept[2:])))))
+    due = ["util", "syntax", "Config", "Mistake", "Reason", "Refusal", "explain", "SyntaxError", "escape"]
     test("what reports re-export of regex_cursor searches nothing", [] if shown == due else [f"{shown}"])
     reports = [(path, re.sub(r"^ *ghost use .*", "", text, flags=re.M)) for path, text in above
                if path.startswith("rope_search_reports/") and path not in kept]

@@ -208,6 +208,8 @@ def wrong_tables(node):
     calls = declared(header).items()
     due = {name.removeprefix("rope_search_"): row_of(result, list(kinds)) for name, (result, *kinds) in calls}
     due.pop("open")
+    # It writes how many it copied, and not how many there are.
+    due["next_all"][1][0] = "first"
     rows = {**tables["CALLS"], **tables["FREE_CALLS"]}
     wrong = differing("calls", {name: table_row(*row) for name, row in rows.items()}, due)
     forms = {}

@@ -140,6 +140,12 @@ export class Library {
 
   /** Returns where and why a text is no pattern, or null. Refused: Utf8, Memory. */
   patternError(pattern: Text): PatternError | null;
+
+  /**
+   * Returns a pattern that matches that text only: the text with a backslash before each character that has a
+   * meaning of its own in a pattern. Refused: Utf8; Limit, if the pattern would have more than 65,536 bytes; Memory.
+   */
+  escape(text: Text): string;
 }
 
 /**
@@ -178,6 +184,11 @@ export class Session {
   off(): void;
   /** Finds the first match in the whole text from a position on. Refused: Nothing, Range, Memory. */
   next(from: PositionLike): Match | null;
+  /**
+   * Finds the first matches in the whole text from a position on, at most `room`, or 1,024 if it is left out: of
+   * those that `replace` replaces, found from the text's start in one search. Refused: Nothing, Range, Memory.
+   */
+  nextAll(from: PositionLike, room?: number): Match[];
   /** Replaces all matches in the whole text, and returns their number. Refused: Nothing, Utf8, Size, Memory. */
   replace(template: Text): number;
   /** Replaces the match of a number in a line's row. Refused: Nothing, Range, Utf8, Size, Memory. */

@@ -322,6 +322,10 @@ export class Library {
       }
       return this.readAll(kind, at, count);
     },
+    first: (call, words, { kind, returns }, room) => {
+      const at = this.#lend(call, measures(kind).size * room);
+      return this.readAll(kind, at, this.#copied(call, words, returns, at, room));
+    },
     filled: (call, words, { kind, returns }, count) => {
       const at = this.#lend(call, measures(kind).size * count);
       const returned = this.enter(call, [...words, BigInt(at), BigInt(count)]);
@@ -355,6 +359,11 @@ export class Library {
   patternError(pattern) {
     const { reason, place } = this.call("pattern_error", [pattern]);
     return reason === 0 ? null : { place, reason: REASONS[reason - 1] };
+  }
+
+  /** A pattern that matches that text only. */
+  escape(text) {
+    return new TextDecoder().decode(this.call("escape", [text]));
   }
 }
 

@@ -4,7 +4,7 @@ use std::fmt;
 /// The calls of include/rope_search.h, but for `changed` and `counted`, which are read after each
 /// command. The comments name the numbers of a call; its `bytes` are its text.
 ///
-/// Calls that the model lacks: advance, begin_pattern, cancel, copy_pending, count_pending, pending, replace_listed, window.
+/// Calls that the model lacks: escape, next_all.
 #[derive(Debug, Clone, Copy, PartialEq, Eq)]
 pub enum Kind {
     /// The limit.
@@ -27,6 +27,8 @@ pub enum Kind {
     Replace,
     /// A line and a number.
     ReplaceMatch,
+    /// Two lines.
+    ReplaceListed,
     Fork,
     /// A number.
     Choose,
@@ -77,10 +79,21 @@ pub enum Kind {
     /// The room.
     TextChanges,
     Version,
+    BeginPattern,
+    /// A number of lines.
+    Advance,
+    Cancel,
+    Pending,
+    /// Two lines.
+    CountPending,
+    /// Two lines and the room.
+    CopyPending,
+    /// Two lines and the room.
+    Window,
 }
 
-/// Calls that read, and one that is not seen but by its count.
-pub const READS: [Kind; 25] = [
+/// Calls that read, and two that are not seen but by their count.
+pub const READS: [Kind; 29] = [
     Kind::Buffers,
     Kind::Chosen,
     Kind::CanUndo,
@@ -106,6 +119,10 @@ pub const READS: [Kind; 25] = [
     Kind::ListedBefore,
     Kind::ListIndex,
     Kind::TextChanges,
+    Kind::Pending,
+    Kind::CountPending,
+    Kind::CopyPending,
+    Kind::Window,
 ];
 
 impl Kind {
@@ -126,13 +143,17 @@ impl Kind {
                 | Next
                 | Replace
                 | ReplaceMatch
+                | ReplaceListed
                 | Fork
                 | Join
                 | GroupsAt
+                | BeginPattern
+                | Advance
+                | Window
         )
     }
 
-    /// Whether it may change what is seen of a session.
+    /// Whether it may change what is seen of a session, or what it counted.
     pub fn is_command(self) -> bool {
         use Kind::*;
         matches!(
@@ -149,6 +170,7 @@ impl Kind {
                 | Next
                 | Replace
                 | ReplaceMatch
+                | ReplaceListed
                 | Fork
                 | Choose
                 | Forget
@@ -156,10 +178,15 @@ impl Kind {
                 | Join
                 | PatternError
                 | GroupsAt
+                | BeginPattern
+                | Advance
+                | Cancel
+                | Window
         )
     }
 
-    /// Whether it changes which rows and ranges were replaced last, if it is accepted.
+    /// Whether it changes which rows were replaced last, if it is accepted. Of `advance` the last slice
+    /// does, too.
     pub fn replaces_rows(self) -> bool {
         use Kind::*;
         matches!(
@@ -174,6 +201,7 @@ impl Kind {
                 | Off
                 | Replace
                 | ReplaceMatch
+                | ReplaceListed
         )
     }
 }

@@ -63,8 +63,20 @@ impl Checker {
         for number in 0..buffers as u64 {
             self.command(&Call::new(Kind::Choose, &[number], &[]))?;
             self.see_all()?;
+            self.end_pending()?;
         }
         Ok(())
+    }
+
+    /// Searches all lines for the pending pattern, if there is one, and then sets the same pattern:
+    /// either leaves the same.
+    fn end_pending(&mut self) -> Checked {
+        let pending = self.model.buffer().and_then(|buffer| buffer.pending.as_ref());
+        let Some(bytes) = pending.map(|pending| pending.bytes.clone()) else { return Ok(()) };
+        self.command(&Call::new(Kind::Advance, &[MOST], &[]))?;
+        self.see_all()?;
+        self.command(&Call::new(Kind::SetPattern, &[], &bytes))?;
+        self.see_all()
     }
 
     fn wrong(&self, said: String) -> Checked {
@@ -98,8 +110,9 @@ impl Checker {
         let cost = if lacks_memory { None } else { Some(self.model.cost) };
         self.counts(call, was_counted, cost)?;
         let is_same = chosen == self.model.open.as_ref().map(|open| open.chosen);
-        let is_accepted = is_same && got.status == DONE;
-        self.changed(call, is_accepted, &before)?;
+        let replaces_rows =
+            if call.kind == Kind::Advance { got.numbers == [1] } else { call.kind.replaces_rows() };
+        self.changed(call, is_same && got.status == DONE && replaces_rows, &before)?;
         self.see(lacks_memory)
     }
 
@@ -107,7 +120,7 @@ impl Checker {
         self.model.buffer().map_or_else(|| Ok(Rc::default()), |buffer| buffer.rows())
     }
 
-    /// Compares what was counted with the most that a command may count.
+    /// Compares what was counted with the least and the most that a command may count.
     fn counts(&mut self, call: &Call, before: [u64; 2], cost: Option<Cost>) -> Checked {
         let counted = self.session.counted();
         if matches!(call.kind, Kind::Open | Kind::Close) {
@@ -116,10 +129,11 @@ impl Checker {
             return if is_kept || is_new { Ok(()) } else { self.wrong(format!("{counted:?}")) };
         }
         let falls = counted[0] < before[0] || counted[1] < before[1];
-        let is_more = cost.is_some_and(|cost| {
-            counted[0] - before[0] > cost.rows || counted[1] - before[1] > cost.wholes
+        let is_other = cost.is_some_and(|cost| {
+            let rows = counted[0].wrapping_sub(before[0]);
+            !(cost.least..=cost.rows).contains(&rows) || counted[1] - before[1] > cost.wholes
         });
-        if falls || is_more {
+        if falls || is_other {
             return self.wrong(format!(
                 "{call}: {counted:?} are counted after {before:?}, which may be {cost:?} more"
             ));
@@ -128,13 +142,13 @@ impl Checker {
     }
 
     /// Compares which rows the library says were replaced with those that were.
-    fn changed(&mut self, call: &Call, is_accepted: bool, before: &[Row]) -> Checked {
-        let (told, most) = (self.session.changed(), self.model.cost.added);
+    fn changed(&mut self, call: &Call, replaces_rows: bool, before: &[Row]) -> Checked {
+        let (told, cost) = (self.session.changed(), self.model.cost);
         let after = self.rows()?;
         let Some(buffer) = self.model.buffer() else {
             return if told == [0; 3] { Ok(()) } else { self.wrong(format!("changed: {told:?}")) };
         };
-        if !(is_accepted && call.kind.replaces_rows()) {
+        if !replaces_rows {
             let due = buffer.stretch;
             return if told == due {
                 Ok(())
@@ -143,7 +157,7 @@ impl Checker {
             };
         }
         buffer.stretch = told;
-        match wrong_stretch(before, &after, told, most) {
+        match wrong_stretch(before, &after, told, cost) {
             Some(said) => self.wrong(format!("{call}: {told:?} are told as changed, but {said}")),
             None => Ok(()),
         }
@@ -164,30 +178,42 @@ impl Checker {
 /// Calls that read all that can be seen of a session and of its chosen buffer.
 pub fn what_is_seen(model: &mut Model) -> Result<Vec<Call>, TooLong> {
     let (mut len, mut count, mut changes) = (0, 0, 0);
+    let mut has_pending = false;
     if let Some(buffer) = model.buffer() {
         len = buffer.text().byte_len();
         count = buffer.rows()?.iter().map(|row| row.len() as u64).sum();
         changes = buffer.told.len() as u64;
+        has_pending = buffer.pending.is_some();
     }
     use Kind::*;
-    let numbers =
-        [TextLen, TextLines, Rows, UndoSteps, RedoSteps, CanUndo, CanRedo, Buffers, Chosen];
+    let numbers = [
+        TextLen, TextLines, Rows, UndoSteps, RedoSteps, CanUndo, CanRedo, Buffers, Chosen, Pending,
+    ];
     let mut calls: Vec<Call> = numbers.iter().map(|&kind| Call::new(kind, &[], &[])).collect();
     calls.push(Call::new(CopyText, &[0, len, len], &[]));
     calls.push(Call::new(CopyMatches, &[0, MOST, count], &[]));
     calls.push(Call::new(TextChanges, &[changes], &[]));
+    if has_pending {
+        let counting = Call::new(CountPending, &[0, MOST], &[]);
+        let pending = model.read(&counting)?.numbers[0];
+        calls.push(counting);
+        calls.push(Call::new(CopyPending, &[0, MOST, pending], &[]));
+    }
     Ok(calls)
 }
 
 /// What is wrong with rows that are told as replaced, if anything is.
-fn wrong_stretch(before: &[Row], after: &[Row], told: [u64; 3], most: u64) -> Option<String> {
+fn wrong_stretch(before: &[Row], after: &[Row], told: [u64; 3], cost: Cost) -> Option<String> {
     let [first, removed, added] = told.map(|number| number as usize);
-    let (old_end, new_end) = (first.checked_add(removed)?, first.checked_add(added)?);
+    let (old_end, new_end) = (first.saturating_add(removed), first.saturating_add(added));
     if old_end > before.len() || new_end > after.len() {
         return Some(format!("there are {} and {} rows", before.len(), after.len()));
     }
     if before[..first] != after[..first] || before[old_end..] != after[new_end..] {
         return Some("other rows are changed".to_string());
     }
-    (told[2] > most).then(|| format!("no more than {most} may be added"))
+    if cost.all && told != [0, before.len() as u64, after.len() as u64] {
+        return Some("all rows are".to_string());
+    }
+    (told[2] > cost.added).then(|| format!("no more than {} may be added", cost.added))
 }

@@ -83,6 +83,14 @@ unsafe extern "C" {
         by: *const u8,
         len: usize,
     ) -> u32;
+    fn rope_search_replace_listed(
+        s: *mut Handle,
+        from: usize,
+        to: usize,
+        by: *const u8,
+        len: usize,
+        count: *mut usize,
+    ) -> u32;
     fn rope_search_fork(s: *mut Handle, number: *mut usize) -> u32;
     fn rope_search_choose(s: *mut Handle, number: u64) -> u32;
     fn rope_search_forget(s: *mut Handle) -> u32;
@@ -157,11 +165,33 @@ unsafe extern "C" {
     ) -> bool;
     fn rope_search_changed(s: *mut Handle) -> Stretch;
     fn rope_search_text_changes(s: *mut Handle, out: *mut Words<4>, room: usize) -> usize;
+    fn rope_search_begin_pattern(s: *mut Handle, pattern: *const u8, len: usize) -> u32;
+    fn rope_search_advance(s: *mut Handle, most: usize, done: *mut u8) -> u32;
+    fn rope_search_cancel(s: *mut Handle) -> u32;
+    fn rope_search_pending(s: *mut Handle, lines: *mut usize) -> bool;
+    fn rope_search_count_pending(s: *mut Handle, from: usize, to: usize, count: *mut usize) -> u32;
+    fn rope_search_copy_pending(
+        s: *mut Handle,
+        from: usize,
+        to: usize,
+        out: *mut Words<3>,
+        room: usize,
+        count: *mut usize,
+    ) -> u32;
+    fn rope_search_window(
+        s: *mut Handle,
+        from: usize,
+        to: usize,
+        out: *mut Words<3>,
+        room: usize,
+        count: *mut usize,
+    ) -> u32;
     fn rope_search_counted(s: *mut Handle) -> Counts;
 }
 
-/// A word that no call has written.
+/// A word that no call has written, and a byte.
 const UNTOUCHED: usize = 0xA5A5_A5A5_A5A5_A5A5;
+const UNTOUCHED_BYTE: u8 = 0xA5;
 
 /// A session of the library.
 pub struct Session {
@@ -184,7 +214,7 @@ fn written(words: &[usize]) -> Vec<u64> {
 /// that.
 fn found(words: &[usize], of_none: &[usize]) -> Vec<u64> {
     match words[0] as u8 {
-        0xA5 if words[1..].iter().all(|&word| word == UNTOUCHED) => Vec::new(),
+        UNTOUCHED_BYTE if words[1..].iter().all(|&word| word == UNTOUCHED) => Vec::new(),
         0 => [0].iter().chain(of_none).map(|&word| word as u64).collect(),
         one => [one as usize].iter().chain(&words[1..]).map(|&word| word as u64).collect(),
     }
@@ -209,10 +239,10 @@ fn array<const N: usize>(room: u64) -> Vec<Words<N>> {
 
 /// What a copy of bytes wrote, and whether it did.
 fn copied(room: u64, copy: impl FnOnce(*mut u8, usize) -> bool) -> Answer {
-    let mut out = vec![0xA5; room as usize + 1];
+    let mut out = vec![UNTOUCHED_BYTE; room as usize + 1];
     let at = out.as_mut_ptr();
     let done = starved(|| copy(at, room as usize));
-    let len = out.iter().rposition(|&byte| byte != 0xA5).map_or(0, |last| last + 1);
+    let len = out.iter().rposition(|&byte| byte != UNTOUCHED_BYTE).map_or(0, |last| last + 1);
     out.truncate(len);
     Answer { status: done.into(), numbers: Vec::new(), bytes: out }
 }
@@ -238,6 +268,8 @@ impl Session {
             Kind::PatternError => out.reason(),
             Kind::Next => found(&out.words, &[]),
             Kind::GroupsAt => out.groups.iter().flat_map(|group| group_of(group)).collect(),
+            Kind::Advance => out.byte_written(),
+            Kind::Window => counted_spans(out.word, &out.spans),
             _ => written(&[out.word]),
         };
         Answer::new(status.into(), numbers)
@@ -263,18 +295,38 @@ impl Session {
     }
 }
 
+/// The number of matches, and those that were copied, if the number was written.
+fn counted_spans(count: usize, spans: &[Words<3>]) -> Vec<u64> {
+    let number = written(&[count]);
+    let copied = front(spans, if number.is_empty() { 0 } else { count });
+    [number, copied].concat()
+}
+
 /// What commands write to.
 struct Out {
+    byte: u8,
     word: usize,
     words: Words<5>,
     error: Words<2>,
     groups: Vec<Words<4>>,
+    spans: Vec<Words<3>>,
 }
 
 impl Out {
     fn new(call: &Call) -> Out {
-        let groups = array(if call.kind == Kind::GroupsAt { call.numbers[2] } else { 0 });
-        Out { word: UNTOUCHED, words: [UNTOUCHED; 5], error: [UNTOUCHED; 2], groups }
+        let room = |kind| if call.kind == kind { call.numbers[2] } else { 0 };
+        Out {
+            byte: UNTOUCHED_BYTE,
+            word: UNTOUCHED,
+            words: [UNTOUCHED; 5],
+            error: [UNTOUCHED; 2],
+            groups: array(room(Kind::GroupsAt)),
+            spans: array(room(Kind::Window)),
+        }
+    }
+
+    fn byte_written(&self) -> Vec<u64> {
+        if self.byte == UNTOUCHED_BYTE { Vec::new() } else { vec![self.byte.into()] }
     }
 
     /// A reason, which has 32 bits, and a byte.
@@ -308,6 +360,10 @@ unsafe fn change_text(
             Kind::ReplaceMatch => {
                 rope_search_replace_match(s, n[0] as usize, n[1] as usize, text, len)
             }
+            Kind::ReplaceListed => {
+                let (from, to) = (n[0] as usize, n[1] as usize);
+                rope_search_replace_listed(s, from, to, text, len, &mut out.word)
+            }
             _ => return None,
         }
     })
@@ -335,6 +391,13 @@ unsafe fn carry_out(s: *mut Handle, call: &Call, out: &mut Out) -> u32 {
             Kind::GroupsAt => {
                 let (to, room) = (out.groups.as_mut_ptr(), n[2] as usize);
                 rope_search_groups_at(s, n[0] as usize, n[1] as usize, to, room)
+            }
+            Kind::BeginPattern => rope_search_begin_pattern(s, text, len),
+            Kind::Advance => rope_search_advance(s, n[0] as usize, &mut out.byte),
+            Kind::Cancel => rope_search_cancel(s),
+            Kind::Window => {
+                let (to, room, count) = (out.spans.as_mut_ptr(), n[2] as usize, &mut out.word);
+                rope_search_window(s, n[0] as usize, n[1] as usize, to, room, count)
             }
             kind => unreachable!("{kind:?} is no command"),
         }
@@ -396,6 +459,8 @@ unsafe fn read_place(s: *mut Handle, call: &Call) -> Option<Answer> {
                 let [index, count] = &mut place;
                 rope_search_list_index(s, size(0), size(1), index, count).into()
             }
+            Kind::Pending => rope_search_pending(s, &mut word).into(),
+            Kind::CountPending => rope_search_count_pending(s, size(0), size(1), &mut word),
             _ => return None,
         })
     });
@@ -431,6 +496,14 @@ unsafe fn read_array(s: *mut Handle, call: &Call) -> Option<Answer> {
                 rope_search_copy_matches_in(s, bits, size(1), size(2), to, size(3))
             });
             Answer::new(count as u64, front(&out, count))
+        }
+        Kind::CopyPending => {
+            let (mut out, mut count) = (array::<3>(n[2]), UNTOUCHED);
+            let to = out.as_mut_ptr();
+            let status = starved(|| unsafe {
+                rope_search_copy_pending(s, size(0), size(1), to, size(2), &mut count)
+            });
+            Answer::new(status.into(), counted_spans(count, &out))
         }
         Kind::TextChanges => {
             let mut out = array::<4>(n[0]);

@@ -1,6 +1,7 @@
 //! Sessions of the library at random, in one process, beside a plain model of it.
 //!
 //!     sessions UNICODE check SEED FIRST COUNT    compares these sessions of a seed
+//!     sessions UNICODE quick SEED FIRST COUNT    compares them up to the first that fails, and names it
 //!     sessions UNICODE tell SEED FIRST COUNT     prints their calls and what the model answers
 //!     sessions UNICODE planted SEED FIRST COUNT  shortens the first in which an undo follows a pattern
 //!                                                with a bar, as if the library failed there
@@ -16,6 +17,7 @@ mod library;
 mod memory;
 mod model;
 mod patterns;
+mod pending;
 mod processes;
 mod programs;
 mod random;
@@ -133,9 +135,19 @@ fn check_all(sessions: &Sessions, first: u64) -> Told {
     told
 }
 
-/// Compares sessions, prints how many of them failed, and ends with a status that says so.
-fn check_and_end(sessions: &Sessions, first: u64) {
-    let (told, count) = (check_all(sessions, first), sessions.end - first);
+/// Compares sessions up to the first that fails, and prints its name alone.
+fn check_quickly(sessions: &Sessions, first: u64) -> Told {
+    let progress = Progress::new();
+    let ended = processes::in_child(|| check_some(sessions, first, &progress));
+    let wrong = u64::from(ended != Ended::Exit(0));
+    if wrong > 0 {
+        println!("FAILED: {}", (sessions.name)(progress.begun()));
+    }
+    Told { wrong, too_long: progress.too_long() }
+}
+
+/// Prints how many of some sessions failed, and ends with a status that says so.
+fn end(told: Told, count: u64) {
     println!("{count} sessions, {} failed, {} in part", told.wrong, told.too_long);
     std::process::exit(if told.wrong > 0 { 1 } else { 0 });
 }
@@ -144,17 +156,25 @@ fn check_files(paths: &[String], patterns: &Rc<Patterns>) {
     let bytes = |number: u64| std::fs::read(&paths[number as usize]).expect("a file of bytes");
     let of = |number| writer::session_of_bytes(&bytes(number), patterns);
     let name = |number: u64| paths[number as usize].clone();
-    check_and_end(&Sessions { end: paths.len() as u64, of: &of, name: &name, patterns }, 0);
+    let sessions = Sessions { end: paths.len() as u64, of: &of, name: &name, patterns };
+    end(check_all(&sessions, 0), sessions.end);
 }
 
 fn named(seed: u64, number: u64) -> String {
     format!("session {number} of seed {seed}")
 }
 
-fn check_seed(seed: u64, first: u64, end: u64, patterns: &Rc<Patterns>) {
+fn check_seed(
+    seed: u64,
+    first: u64,
+    count: u64,
+    patterns: &Rc<Patterns>,
+    check: fn(&Sessions, u64) -> Told,
+) {
     let of = |number| writer::session(seed, number, patterns);
     let name = |number| named(seed, number);
-    check_and_end(&Sessions { end, of: &of, name: &name, patterns }, first);
+    let sessions = Sessions { end: first + count, of: &of, name: &name, patterns };
+    end(check(&sessions, first), count);
 }
 
 /// Prints a call with what the model answers, if it does.
@@ -202,6 +222,7 @@ fn main() {
             }
         }
         "planted" => tell_planted(seed, first, first + count, &patterns),
-        _ => check_seed(seed, first, first + count, &patterns),
+        "quick" => check_seed(seed, first, count, &patterns, check_quickly),
+        _ => check_seed(seed, first, count, &patterns, check_all),
     }
 }

@@ -2,7 +2,8 @@
 //! history is kept whole, and all that is asked of it is computed from it.
 use crate::calls::*;
 use crate::patterns::{Pattern, Patterns, Refused, Row, mistake_in};
-use crate::replacing::{expanded, names_a_group, replaced};
+use crate::pending::Pending;
+use crate::replacing::{expanded, names_a_group, replaced, replaced_in_lines};
 use crate::texts::{Text, line_count};
 use crate::walks::TooLong;
 use std::rc::Rc;
@@ -21,6 +22,7 @@ pub struct Buffer {
     steps: Vec<Step>,
     at: usize,
     pub pattern: Option<Rc<Pattern>>,
+    pub pending: Option<Pending>,
     /// The ranges that the last accepted call replaced.
     pub told: Rc<Vec<Change>>,
     /// The rows that the library says the last accepted call replaced.
@@ -31,8 +33,8 @@ pub struct Buffer {
 impl Buffer {
     fn new(text: Rc<Text>) -> Buffer {
         let steps = vec![Step { text, led: Rc::default() }];
-        let told = Rc::default();
-        Buffer { steps, at: 0, pattern: None, told, stretch: [0; 3], rows: None }
+        let (pattern, pending, told) = (None, None, Rc::default());
+        Buffer { steps, at: 0, pattern, pending, told, stretch: [0; 3], rows: None }
     }
 
     pub fn text(&self) -> Rc<Text> {
@@ -54,7 +56,21 @@ impl Buffer {
         self.steps.truncate(self.at + 1);
         self.steps.push(Step { text: Rc::new(text), led });
         self.at += 1;
+        self.has_other_text();
+    }
+
+    /// Another text is current. The rows of the pending pattern that are done stay done as far as they
+    /// are before the first change.
+    fn has_other_text(&mut self) {
         self.rows = None;
+        if let Some(pending) = &mut self.pending {
+            pending.keep_before(&self.steps[self.at].text, &self.told);
+        }
+    }
+
+    /// Has this pattern, or none, in place of its own and of a pending one.
+    pub fn set_pattern(&mut self, pattern: Option<Rc<Pattern>>) {
+        (self.pattern, self.pending, self.rows) = (pattern, None, None);
     }
 
     /// The report: a row for each line, or none without a pattern.
@@ -80,8 +96,12 @@ impl Buffer {
 #[derive(Debug, Default, Clone, Copy)]
 pub struct Cost {
     pub rows: u64,
+    /// What it counts at least.
+    pub least: u64,
     pub wholes: u64,
     pub added: u64,
+    /// Whether it says that all rows were replaced.
+    pub all: bool,
 }
 
 pub struct Open {
@@ -117,15 +137,20 @@ impl Model {
 
     /// What a call answers if memory is refused to it.
     pub fn lacks_memory(call: &Call) -> Answer {
-        let writes_none = matches!(call.kind, Kind::Next | Kind::Replace | Kind::Fork);
+        use Kind::*;
+        let writes_none =
+            matches!(call.kind, Next | Replace | ReplaceListed | Fork | Advance | Window);
         Answer::new(MEMORY, if writes_none { vec![0] } else { Vec::new() })
     }
 
     /// Whether memory may be refused to a call now.
     pub fn may_lack_memory(&mut self, call: &Call) -> bool {
         let has_pattern = self.buffer().is_some_and(|buffer| buffer.pattern.is_some());
+        let has_pending = self.buffer().is_some_and(|buffer| buffer.pending.is_some());
         match call.kind {
             Kind::Undo | Kind::Redo => has_pattern,
+            Kind::Advance | Kind::Window => has_pending,
+            Kind::ReplaceListed => has_pattern && std::str::from_utf8(&call.bytes).is_ok(),
             Kind::Join => call.numbers[0] > 1,
             kind => kind.may_need_memory(),
         }
@@ -151,18 +176,23 @@ impl Model {
             Kind::Next => return self.next((call.numbers[0], call.numbers[1])),
             Kind::Replace => return self.replace(&call.bytes),
             Kind::ReplaceMatch => self.replace_match(call)?,
+            Kind::ReplaceListed => return self.replace_listed(call),
             Kind::Fork => return Ok(self.fork()),
             Kind::Choose => self.choose(call.numbers[0]),
             Kind::Forget => self.keep(0),
             Kind::Keep => self.keep(call.numbers[0]),
             Kind::Join => self.join(call.numbers[0]),
             Kind::GroupsAt => return self.groups_at(&call.numbers),
+            Kind::BeginPattern => self.begin_pattern(&call.bytes)?,
+            Kind::Advance => return Ok(self.advance(call.numbers[0])),
+            Kind::Cancel => self.cancel(),
+            Kind::Window => return self.window(&call.numbers),
             kind => unreachable!("{kind:?} is no command"),
         };
         Ok(Answer::new(status, Vec::new()))
     }
 
-    fn session(&mut self) -> &mut Open {
+    pub fn session(&mut self) -> &mut Open {
         self.open.as_mut().expect("the session is open")
     }
 
@@ -185,9 +215,10 @@ impl Model {
         let buffer = self.session().buffer();
         let change = [0, buffer.text().byte_len(), 0, text.byte_len()];
         buffer.steps = vec![Step { text: Rc::new(text), led: Rc::default() }];
-        (buffer.at, buffer.rows, buffer.told) = (0, None, Rc::new(vec![change]));
+        (buffer.at, buffer.told) = (0, Rc::new(vec![change]));
+        buffer.has_other_text();
         if buffer.pattern.is_some() {
-            self.cost = Cost { rows: lines, added: lines, wholes: 0 };
+            self.cost = Cost { rows: lines, added: lines, ..Cost::default() };
         }
         DONE
     }
@@ -229,24 +260,32 @@ impl Model {
             Rc::new(buffer.steps[buffer.at].led.iter().map(back).collect())
         };
         buffer.at = if forward { buffer.at + 1 } else { buffer.at - 1 };
-        buffer.rows = None;
+        buffer.has_other_text();
         if buffer.pattern.is_some() {
             self.cost = cost_of(&buffer.text(), &buffer.told.clone());
         }
         DONE
     }
 
+    /// The pattern that these bytes spell, or why they are refused.
+    pub fn pattern_of(&self, bytes: &[u8]) -> Result<Result<Rc<Pattern>, u64>, TooLong> {
+        let Some(text) = Text::read(bytes) else { return Ok(Err(UTF8)) };
+        let status = |refused| match refused {
+            Refused::Limit => LIMIT,
+            Refused::Mistake => PATTERN,
+        };
+        Ok(self.patterns.read(&text.chars)?.map_err(status))
+    }
+
     fn set_pattern(&mut self, bytes: &[u8]) -> Result<u64, TooLong> {
-        let Some(text) = Text::read(bytes) else { return Ok(UTF8) };
-        let pattern = match self.patterns.read(&text.chars)? {
+        let pattern = match self.pattern_of(bytes)? {
             Ok(pattern) => pattern,
-            Err(Refused::Limit) => return Ok(LIMIT),
-            Err(Refused::Mistake) => return Ok(PATTERN),
+            Err(status) => return Ok(status),
         };
         let buffer = self.session().buffer();
-        (buffer.pattern, buffer.rows) = (Some(pattern), None);
+        buffer.set_pattern(Some(pattern));
         let lines = buffer.text().lines.len() as u64;
-        self.cost = Cost { rows: lines, added: lines, wholes: 0 };
+        self.cost = Cost { rows: lines, added: lines, all: true, ..Cost::default() };
         Ok(DONE)
     }
 
@@ -260,8 +299,7 @@ impl Model {
     }
 
     fn off(&mut self) -> u64 {
-        let buffer = self.session().buffer();
-        (buffer.pattern, buffer.rows) = (None, None);
+        self.session().buffer().set_pattern(None);
         DONE
     }
 
@@ -322,6 +360,27 @@ impl Model {
         );
         self.cost.rows += u64::from(names_a_group(&template.chars));
         Ok(status)
+    }
+
+    /// Replaces the matches of the report in some lines. It may count a row for the groups of each line
+    /// with a match, also where the new text is too long.
+    fn replace_listed(&mut self, call: &Call) -> Answered {
+        let (text, limit) = (self.session().buffer().text(), self.session().limit);
+        let none = |status| Ok(Answer::new(status, vec![0]));
+        let Some(pattern) = self.session().buffer().pattern.clone() else { return none(NONE) };
+        let Some(template) = Text::read(&call.bytes) else { return none(UTF8) };
+        let lines = (call.numbers[0], call.numbers[1]);
+        let (parts, searched) = replaced_in_lines(&text, &pattern, &template.chars, lines)?;
+        let count = parts.len() as u64;
+        let answer = match put(&text, parts, limit) {
+            Err(status) => none(status),
+            Ok((new, changes)) => {
+                self.add(new, changes);
+                Ok(Answer::new(DONE, vec![count]))
+            }
+        };
+        self.cost.rows += if names_a_group(&template.chars) { searched } else { 0 };
+        answer
     }
 
     fn fork(&mut self) -> Answer {
@@ -426,7 +485,8 @@ fn cost_of(text: &Text, changes: &[Change]) -> Cost {
     };
     let rows = changes.iter().map(|change| part(change[2], change[3])).sum();
     let hull = changes.first().zip(changes.last());
-    Cost { rows, wholes: 0, added: hull.map_or(0, |(first, last)| part(first[2], last[3])) }
+    let added = hull.map_or(0, |(first, last)| part(first[2], last[3]));
+    Cost { rows, added, ..Cost::default() }
 }
 
 /// The text with its parts replaced, unless it has more bytes than the limit.

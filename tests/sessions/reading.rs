@@ -2,6 +2,7 @@
 use crate::calls::*;
 use crate::model::{Answered, Buffer, Model};
 use crate::patterns::Row;
+use crate::pending::read_pending;
 use crate::texts::Text;
 use crate::walks::TooLong;
 
@@ -24,6 +25,9 @@ impl Model {
             return Ok(Answer::new(number as u64, Vec::new()));
         }
         let buffer = session.buffer();
+        if let Some(answer) = read_pending(buffer, call)? {
+            return Ok(answer);
+        }
         match read_number(buffer, call.kind)?.or_else(|| read_text(buffer, call)) {
             Some(answer) => Ok(answer),
             None => read_report(buffer, call),
@@ -34,7 +38,10 @@ impl Model {
 /// What a call that reads a closed session answers.
 fn of_closed(kind: Kind) -> Answer {
     use Kind::*;
-    let is_refused = matches!(kind, ByteOf | PositionOf | ColumnIn | PositionIn | Clamp | LineLen);
+    let is_refused = matches!(
+        kind,
+        ByteOf | PositionOf | ColumnIn | PositionIn | Clamp | LineLen | CountPending | CopyPending
+    );
     Answer::new(if is_refused { CLOSED } else { 0 }, Vec::new())
 }
 
@@ -104,14 +111,19 @@ fn copied(chars: Option<&[char]>, room: u64) -> Answer {
     }
 }
 
-/// The matches of some rows, by lines and numbers.
-fn listed(rows: &[Row], from: u64, to: u64) -> Vec<Listed> {
-    let (from, to) = (from.min(rows.len() as u64), to.min(rows.len() as u64));
-    let lines = (from..to).flat_map(|line| {
-        let row = rows[line as usize].iter().enumerate();
-        row.map(move |(number, span)| (line, number as u64, span.start, span.stop))
+/// The matches of rows, by lines and numbers: the first row is that of the line `first`.
+pub fn listed_from(first: u64, rows: &[Row]) -> Vec<Listed> {
+    let lines = rows.iter().zip(first..).flat_map(|(row, line)| {
+        let spans = row.iter().zip(0..);
+        spans.map(move |(span, number)| (line, number, span.start, span.stop))
     });
     lines.collect()
+}
+
+/// The matches of some of the rows.
+fn listed(rows: &[Row], from: u64, to: u64) -> Vec<Listed> {
+    let to = to.min(rows.len() as u64);
+    listed_from(from, &rows[from.min(to) as usize..to as usize])
 }
 
 /// The bounds of a match in a line, by columns in units of so many bits.
@@ -137,7 +149,8 @@ fn read_report(buffer: &mut Buffer, call: &Call) -> Answered {
     })
 }
 
-fn matches_in(text: &Text, bits: u64, matches: Vec<Listed>, room: u64) -> Answer {
+/// How many matches there are, and the bounds of those that there is room for.
+pub fn matches_in(text: &Text, bits: u64, matches: Vec<Listed>, room: u64) -> Answer {
     if text.count(bits, 0, 0).is_none() {
         return Answer::default();
     }

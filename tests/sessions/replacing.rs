@@ -13,6 +13,27 @@ pub fn replaced(text: &Text, pattern: &Pattern, template: &[char]) -> Result<Vec
     Ok(parts.collect())
 }
 
+/// The matches that the report lists in the lines from one up to another as such parts, and the number
+/// of these lines that have a match.
+pub fn replaced_in_lines(
+    text: &Text,
+    pattern: &Pattern,
+    template: &[char],
+    (from, to): (u64, u64),
+) -> Result<(Vec<Part>, u64), TooLong> {
+    let (mut parts, mut lines) = (Vec::new(), 0);
+    for (start, end) in text.lines_between(from, to) {
+        let line = &text.chars[start..end];
+        let matches = pattern.matches(line)?;
+        lines += u64::from(!matches.is_empty());
+        parts.extend(matches.into_iter().map(|slots| {
+            let (first, last) = bounds(&slots, 0).expect("a match has bounds");
+            (start + first, start + last, expanded(line, template, &slots))
+        }));
+    }
+    Ok((parts, lines))
+}
+
 fn bounds(slots: &Slots, group: usize) -> Option<(usize, usize)> {
     Some(((*slots.get(2 * group)?)?, (*slots.get(2 * group + 1)?)?))
 }

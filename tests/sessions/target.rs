@@ -9,6 +9,7 @@ mod library;
 mod memory;
 mod model;
 mod patterns;
+mod pending;
 mod programs;
 mod random;
 mod reader;

@@ -64,6 +64,12 @@ impl Text {
         self.lines.get(usize::try_from(line).ok()?).copied()
     }
 
+    /// The bounds of the lines from one up to, not including, another, as far as there are such.
+    pub fn lines_between(&self, from: u64, to: u64) -> impl Iterator<Item = (usize, usize)> {
+        let to = to.min(self.lines.len() as u64);
+        self.lines[from.min(to) as usize..to as usize].iter().copied()
+    }
+
     pub fn line_text(&self, line: u64) -> Option<&[char]> {
         self.line(line).map(|(start, end)| &self.chars[start..end])
     }

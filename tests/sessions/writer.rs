@@ -7,9 +7,11 @@ use crate::some_patterns::{PATTERNS, hostile, mangled, pattern};
 use crate::texts::Text;
 use std::rc::Rc;
 
+/// The last bytes of `À` and of U+10000 are the least that no ASCII character has.
 const CHARACTERS: &[char] =
-    &['a', 'a', 'b', '\r', '\r', '\n', '\n', '\u{2028}', '🐸', 'é', 'A', ' '];
-const LINES: &[&str] = &["", "a", "mark", "a mark", "- ab -", "é🐸é", "xyz ab xyz ab", "\u{2028}"];
+    &['a', 'a', 'b', '\r', '\r', '\n', '\n', '\u{2028}', '🐸', 'é', 'À', '\u{10000}', 'A', ' '];
+const LINES: &[&str] =
+    &["", "a", "mark", "a mark", "- ab -", "é🐸é", "xyz ab xyz ab", "\u{2028}", "Àmark\u{10000}a"];
 const BREAKS: &[&str] = &["\n", "\n", "\n", "\r\n", "\r"];
 const LITERALS: &[&str] = &["mark", "a", "ab", "é", "🐸", "\r", "\n", "k\nm", "xyz", "-"];
 /// Patterns that are found in long texts in time linear in these.
@@ -38,7 +40,7 @@ const LEAF: usize = 984;
 const MOST: u64 = u64::MAX;
 const TEXT_LIMIT: u64 = 1 << 30;
 /// How often a session has each command: one of all kinds, and one that goes back and forward.
-const WORDS: [Kind; 20] = [
+const WORDS: [Kind; 25] = [
     Kind::Edit,
     Kind::EditBytes,
     Kind::EditAll,
@@ -59,11 +61,18 @@ const WORDS: [Kind; 20] = [
     Kind::Close,
     Kind::ReplaceMatch,
     Kind::Join,
+    Kind::ReplaceListed,
+    Kind::BeginPattern,
+    Kind::Advance,
+    Kind::Cancel,
+    Kind::Window,
 ];
-const OF_ALL_KINDS: &[u32] = &[24, 10, 12, 14, 6, 7, 2, 3, 5, 1, 8, 8, 1, 2, 6, 2, 1, 1, 8, 6];
+const OF_ALL_KINDS: &[u32] =
+    &[24, 10, 12, 14, 6, 7, 2, 3, 5, 1, 8, 8, 1, 2, 6, 2, 1, 1, 8, 6, 7, 9, 24, 1, 5];
 const BACK_AND_FORWARD: &[u32] =
-    &[10, 5, 10, 28, 18, 2, 1, 1, 1, 2, 0, 14, 1, 4, 2, 0, 0, 0, 8, 14];
-const OF_LONG_HISTORIES: &[u32] = &[60, 10, 2, 6, 3, 1, 0, 0, 0, 0, 2, 1, 0, 1, 1, 0, 0, 0, 6, 2];
+    &[10, 5, 10, 28, 18, 2, 1, 1, 1, 2, 0, 14, 1, 4, 2, 0, 0, 0, 8, 14, 8, 6, 20, 1, 3];
+const OF_LONG_HISTORIES: &[u32] =
+    &[60, 10, 2, 6, 3, 1, 0, 0, 0, 0, 2, 1, 0, 1, 1, 0, 0, 0, 6, 2, 1, 4, 12, 1, 2];
 
 struct Writer {
     random: Random,
@@ -121,7 +130,7 @@ impl Writer {
             let number = self.random.between(1, most) as u64;
             call.refusal = Some(Refusal { number, all: self.random.per_mille(500) });
         }
-        if kind.is_command() && kind != Kind::GroupsAt {
+        if kind.is_command() && !matches!(kind, Kind::GroupsAt | Kind::Window) {
             self.is_over = self.model.carry_out(&call).is_err();
         }
         self.calls.push(call);
@@ -155,7 +164,8 @@ impl Writer {
         let limit =
             self.random.one_of(&[TEXT_LIMIT, TEXT_LIMIT, TEXT_LIMIT, TEXT_LIMIT, 0, 3, 10, 40]);
         self.write(Kind::Open, &[limit], &[]);
-        let text = self.some_text(14);
+        let most = self.random.one_of(&[14, 14, 40]);
+        let text = self.some_text(most);
         self.say(Kind::SetText, &text);
         if self.random.per_mille(800) {
             let pattern = pattern(&mut self.random);
@@ -252,22 +262,29 @@ impl Writer {
         self.write(Kind::Open, &[TEXT_LIMIT], &[]);
         self.say(Kind::SetText, text);
         for _ in 0..self.random.between(1, 2) {
-            let literal = self.random.one_of(LITERALS);
-            let pattern = match self.random.below(10) {
-                0..5 => literal.to_string(),
-                _ if !patterns.is_empty() => self.random.one_of(patterns).to_string(),
-                5..8 => self.random.one_of(PATTERNS).to_string(),
-                _ => self.random.one_of(QUICK).to_string(),
-            };
-            self.say(Kind::SetPattern, &pattern);
+            let pattern = self.pattern_of(patterns);
+            let kinds = [Kind::SetPattern, Kind::SetPattern, Kind::BeginPattern];
+            let kind = self.random.one_of(&kinds);
+            self.say(kind, pattern);
             for _ in 0..self.random.between(2, most) {
-                self.long_command();
+                self.long_command(patterns);
                 self.some_read();
             }
         }
     }
 
-    fn long_command(&mut self) {
+    /// A literal, or one of some patterns, or if these are none any of a list.
+    fn pattern_of<'a>(&mut self, patterns: &[&'a str]) -> &'a str {
+        let literal = self.random.one_of(LITERALS);
+        match self.random.below(10) {
+            0..5 => literal,
+            _ if !patterns.is_empty() => self.random.one_of(patterns),
+            5..8 => self.random.one_of(PATTERNS),
+            _ => self.random.one_of(QUICK),
+        }
+    }
+
+    fn long_command(&mut self, patterns: &[&str]) {
         let kinds = [
             Kind::Edit,
             Kind::Edit,
@@ -283,16 +300,24 @@ impl Writer {
             Kind::Keep,
             Kind::Join,
             Kind::GroupsAt,
+            Kind::ReplaceListed,
+            Kind::BeginPattern,
+            Kind::Advance,
+            Kind::Advance,
+            Kind::Window,
         ];
         let kind = self.random.one_of(&kinds);
         let text = self.text();
-        if matches!(kind, Kind::Edit | Kind::EditBytes) {
+        if kind == Kind::BeginPattern {
+            let pattern = self.pattern_of(patterns);
+            self.say(kind, pattern);
+        } else if matches!(kind, Kind::Edit | Kind::EditBytes) {
             let (first, last) = self.some_range(&text);
             let new = self.long_payload();
             let is_bytes = kind == Kind::EditBytes;
             let numbers = ends(&text, first, last, is_bytes);
             self.write(kind, &numbers, new.as_bytes());
-        } else if kind != Kind::Replace || text.chars.len() < 60_000 {
+        } else if text.chars.len() < 60_000 || !is_of_all(kind) {
             self.command(kind);
         }
     }
@@ -347,7 +372,20 @@ impl Writer {
         if matches!(last, Some(Kind::Undo | Kind::Redo)) && self.random.per_mille(400) {
             kind = Kind::Redo;
         }
+        if last == Some(Kind::BeginPattern) && self.random.per_mille(600) {
+            kind = Kind::Advance;
+        }
         self.command(kind);
+    }
+
+    /// A command for a pending pattern, as a rule where there is one.
+    fn pending_command(&mut self, kind: Kind, text: &Text) {
+        let has_pending = self.model.buffer().is_some_and(|buffer| buffer.pending.is_some());
+        if !has_pending && self.random.per_mille(800) {
+            return self.command(Kind::BeginPattern);
+        }
+        let numbers = self.numbers_of(kind, text);
+        self.write(kind, &numbers, &[]);
     }
 
     /// A command of a kind.
@@ -360,7 +398,7 @@ impl Writer {
                 let count = self.random.one_of(&[0, 1, 1, 2, 2, 3, 5]);
                 self.edit_all(&text, count);
             }
-            Kind::SetPattern => {
+            Kind::SetPattern | Kind::BeginPattern => {
                 let pattern = pattern(&mut self.random);
                 self.bad_or(kind, &pattern);
             }
@@ -385,7 +423,13 @@ impl Writer {
                 let template = self.template(is_long);
                 self.bad_or_at(kind, &place, &template);
             }
+            Kind::ReplaceListed => {
+                let lines = self.some_lines(&text);
+                let template = self.template(is_long);
+                self.bad_or_at(kind, &lines, &template);
+            }
             Kind::GroupsAt => self.groups_at(&text),
+            Kind::Advance | Kind::Window => self.pending_command(kind, &text),
             _ => self.plain_command(kind),
         }
     }
@@ -510,6 +554,17 @@ impl Writer {
         }
     }
 
+    /// Two lines: as a rule one line or some, or all.
+    fn some_lines(&mut self, text: &Text) -> [u64; 2] {
+        let most = text.lines.len() as u64 + 1;
+        let first = self.some_number(most);
+        match self.random.below(10) {
+            0..3 => [0, MOST],
+            3..6 => [first, first.saturating_add(self.random.one_of(&[1, 1, 2, 5]))],
+            _ => [first, self.some_number(most)],
+        }
+    }
+
     /// A call that reads, about something that is there or isn't.
     fn some_read(&mut self) {
         let text = self.text();
@@ -524,7 +579,6 @@ impl Writer {
     fn numbers_of(&mut self, kind: Kind, text: &Text) -> Vec<u64> {
         let position = self.some_position(text);
         let bits = self.random.one_of(&[8, 16, 32, 8, 16, 32, 8, 16, 32, 0, 7, 64]);
-        let lines = text.lines.len() as u64;
         match kind {
             Kind::CopyText => {
                 let (first, last) = self.some_range(text);
@@ -545,18 +599,27 @@ impl Writer {
                 let room = (len.unwrap_or(3) + 1).saturating_sub(self.random.one_of(&[0, 1, 2]));
                 vec![position[0], room]
             }
-            Kind::CountMatches => vec![self.some_number(lines + 1), self.some_number(lines + 1)],
-            Kind::CopyMatches | Kind::CopyMatchesIn => {
+            Kind::CountMatches | Kind::CountPending => self.some_lines(text).to_vec(),
+            Kind::CopyMatches | Kind::CopyMatchesIn | Kind::CopyPending | Kind::Window => {
                 let room = self.random.one_of(&[0, 1, 3, 40, 400]);
-                let rows = [self.some_number(lines + 1), self.some_number(lines + 1)];
-                let bits = if kind == Kind::CopyMatches { vec![] } else { vec![bits] };
+                let rows = self.some_lines(text);
+                let bits = if kind == Kind::CopyMatchesIn { vec![bits] } else { vec![] };
                 [bits, rows.to_vec(), vec![room]].concat()
             }
             Kind::ListIndex => vec![position[0], self.some_number(2)],
             Kind::TextChanges => vec![self.random.one_of(&[0, 1, 2, 5, 50])],
+            Kind::Advance if text.lines.len() > 40 => {
+                vec![self.random.one_of(&[0, 1, 7, 40, 40, 300, MOST])]
+            }
+            Kind::Advance => vec![self.random.one_of(&[0, 1, 1, 1, 1, 2, 2, 3, MOST])],
             _ => Vec::new(),
         }
     }
+}
+
+/// Whether a command may replace many matches of a text.
+fn is_of_all(kind: Kind) -> bool {
+    matches!(kind, Kind::Replace | Kind::ReplaceListed)
 }
 
 /// The bounds of an edit, as positions or as bytes.
