@@ -1,40 +1,41 @@
 # make          builds bin/rope-search, the proved program
-# make demo     gives it the commands of examples/first.session, and shows each with its reply; where
-#               it isn't built, rt runs it with checks in place of proofs, within two minutes
-# make check    while one works and before a commit: lays out, proves and tests what changed and all that
-#               stands on it, over the work that earlier runs kept, with the programs, and the gate's
-#               edits of the files that changed. CRATES='NAME ..' names more crates
-# make test     all tests with nothing proved, in ten minutes in a fresh clone on four cores: what they need is
-#               compiled with checks; where bin/rope-search and the library are built of these sources, and so
-#               proved, these are tested
-# make gate     every proof and test, with nothing taken from out/, the edits that must be refused, then the
-#               tests of the built program and library and of what is compiled with checks
-# make edits    tries each edit of code that the prover must refuse: those of crates/NAME/must-fail-gate,
-#               which the gate tries too, and those of crates/NAME/must-fail-more. CRATES='NAME ..'
-#               names some crates, or files as NAME/src/FILE, JOBS=N tries N crates at a time
-# make lib      builds the library that C links, bin/librope_search.a, the shared bin/librope_search.so, and
+# make demo     runs it on the commands of examples/first.session, and shows each with its reply; if it
+#               isn't built, rt runs it with checks instead of proofs, within two minutes
+# make check    before a commit: formats, proves and tests the crates that changed and every crate above
+#               them, using results of earlier runs, with the programs, and the gate's must-fail edits of
+#               the files that changed. CRATES='NAME ..' adds crates
+# make test     runs all tests without proofs, in ten minutes in a fresh clone on four cores: the programs are
+#               compiled with checks; a current bin/rope-search and library, which are proved, are tested
+#               instead
+# make gate     proves and tests everything, uses nothing in out/, tries the must-fail edits, then tests the
+#               built program and library and what is compiled with checks
+# make edits    tries all must-fail edits: those in crates/NAME/must-fail-gate, which the gate tries too, and
+#               those in crates/NAME/must-fail-more. CRATES='NAME ..' chooses crates, or files as
+#               NAME/src/FILE; JOBS=N tries N crates at a time
+# make lib      builds the library for C, bin/librope_search.a, the shared bin/librope_search.so, and
 #               bin/rope_search.pc for pkg-config; include/rope_search.h declares it
-# make web      builds the library as a module of WebAssembly, bin/rope_search.wasm, from what its build
-#               leaves: nothing is proved again, and nothing proves this step
-# make install  puts the program, its manual, the library with its header and modules, also that of
-#               WebAssembly, and the pages below PREFIX (/usr/local), or below DESTDIR and that
-# make release  packs the same as bin/rope-search-VERSION-x86_64-linux.tar.gz, for those who don't have the kit, with all
-#               pages, the examples and the modules where they are here, so that links lead and the examples run
-# make bench    measures texts, reports, edits, ropes, patterns and searches. TOPICS='NAME ..' names some
-#               of the topics in bench/topics.py; TOPICS=--write puts the figures into bench/RESULTS.md
+# make web      builds the library as a WebAssembly module, bin/rope_search.wasm, from files that the build
+#               of the library leaves: nothing is proved again, and this step is not proved
+# make install  installs the program, its manual, the library with its header and modules, the WebAssembly
+#               module and the pages below PREFIX (/usr/local), or below DESTDIR followed by PREFIX
+# make release  packs the same as bin/rope-search-VERSION-x86_64-linux.tar.gz, for users without the kit, with
+#               all pages, the examples and the modules in their folders, so that links work and examples run
+# make bench    measures texts, reports, edits, ropes, patterns and searches. TOPICS='NAME ..' chooses topics
+#               of bench/topics.py; TOPICS=--write puts the figures into bench/RESULTS.md
 # make clean    removes what these made
 
-# The version of the program and the library. The manifests of bindings/rust and bindings/node repeat it, and a
-# test compares them.
+# The version of the program and the library. A test compares it with the manifests of bindings/rust and
+# bindings/node.
 version := $(shell cat VERSION)
-# The name by which a program finds the shared library when it runs: up to 1.0 its number is the first two of the version.
+# The name under which a program finds the shared library when it runs. Before 1.0 it ends in the first two numbers of
+# the version.
 soname := librope_search.so.$(basename $(version))
 PREFIX ?= /usr/local
 
 # The command of the Rattle kit; make RT=PROGRAM names another.
 RT ?= rt
 program := bin/rope-search
-# Those that only tests take, compiled with checks and not proved.
+# Programs that only tests use, compiled with checks and not proved.
 drivers := bin/run-driver bin/rope-driver bin/search-driver
 programs := $(program) $(drivers)
 session := examples/first.session
@@ -43,7 +44,7 @@ sources := crates.txt $(shell find crates -name out -prune -o -type f \
 missing := the command '$(RT)' was not found: install the Rattle kit and put its folder bin on PATH
 need_rt = $(if $(shell command -v $(RT) 2>/dev/null),,$(error $(missing)))
 
-# Of what rt says while it proves: the crate that it is at, how far it is, and each that is done.
+# Shows from the output of rt: the crate that it proves, its progress, and each crate that is done.
 news := sed -unE -e 's/^rt: chose .* for (.*)/\1/p' -e 's/^so far: ([0-9]+ of [0-9]+ functions).*/    \1/p' \
 	-e 's/^(logic=[^ ]+ functions=[0-9]+).*/    \1/p'
 
@@ -57,8 +58,8 @@ bin/librope_search_c.a: minutes := an hour or two on four cores
 
 programs: $(programs)
 
-# rt builds a program only once it is proved, with all crates below it, and then runs it: here on empty
-# input. All that rt says stands in out/rt.log of the program's crate.
+# rt builds a program only after it and all crates below it are proved, and then runs it, here on empty
+# input. The output of rt is in out/rt.log of the program's crate.
 $(program): $(sources)
 	@:$(need_rt)
 	@echo '$@ is built once all its crates are proved: $(minutes) in a fresh clone, seconds where nothing changed'
@@ -68,14 +69,14 @@ $(program): $(sources)
 	@RT='$(RT)' tests/check --stamp
 	@cp crates/rope_search_cli/out/rope_search_cli $@.new && mv $@.new $@
 
-# A minute or two each, seconds where no source changed.
+# A minute or two each, seconds if no source changed.
 $(drivers): bin/%: $(sources) tests/compile tests/compiled/list.txt $(shell find tests/compiled -name '*.rt.txt')
 	@:$(need_rt)
 	@RT='$(RT)' tests/compile $(subst -,_,$*) $@
 
 lib: bin/librope_search.a bin/librope_search.so bin/rope_search.pc
 
-# The static library as rt builds it, once it is proved with all crates below it.
+# The static library as rt builds it, after it and all crates below it are proved.
 bin/librope_search_c.a: $(sources)
 	@:$(need_rt)
 	@echo '$@ is built once all its crates are proved: $(minutes) in a fresh clone, seconds where nothing changed'
@@ -84,14 +85,14 @@ bin/librope_search_c.a: $(sources)
 	@cd crates/rope_search_c && [ "$$(cat out/rt.status)" = 0 ] || { tail -n 40 out/rt.log; false; }
 	@cp crates/rope_search_c/out/librope_search_c.a $@.new && mv $@.new $@
 
-# With the kit's calls of malloc, which it stands on.
+# The kit's calls of malloc, which the library uses.
 heap = $(dir $(shell $(RT) doc))c/liblibc_c.a
 
 bin/librope_search.a: bin/librope_search_c.a
 	@:$(need_rt)
 	@rm -f $@.new && printf 'create $@.new\naddlib $<\naddlib $(heap)\nsave\nend\n' | $(AR) -M && mv $@.new $@
 
-# It shows the calls of include/rope_search.h and nothing else.
+# It exports the calls of include/rope_search.h and nothing else.
 bin/librope_search.so: bin/librope_search_c.a VERSION
 	@:$(need_rt)
 	@printf '{ global: rope_search_*; local: *; };\n' > $@.map
@@ -105,8 +106,8 @@ bin/rope_search.pc: bin/librope_search.a VERSION
 
 web: bin/rope_search.wasm
 
-# What the kit's clang was given for the library. The proof that rt lib keeps is taken, and none made; where
-# tests/static built the library, it has left this.
+# The bitcode that the kit's clang compiled for the library. The proof that rt lib left is reused. If tests/static built
+# the library, this file is there already.
 bin/librope_search_c.bc: bin/librope_search_c.a
 	@:$(need_rt)
 	@RT='$(RT)' tests/static --bitcode rope_search_c '$(CURDIR)' $@ crates/rope_search_c/out/incremental
@@ -115,7 +116,7 @@ bin/rope_search.wasm: bin/librope_search_c.bc $(addprefix bindings/web/,build re
 	@:$(need_rt)
 	@RT='$(RT)' bindings/web/build $< $@
 
-# What is installed, below $(root): there the modules look for the library in lib/.
+# What is installed below $(root), where the modules look for the library in lib/.
 root = $(DESTDIR)$(PREFIX)
 pages := README.md CHANGELOG.md LICENSE-APACHE LICENSE-MIT NOTICE docs/protocol.md docs/patterns.md docs/embedding.md
 
@@ -146,7 +147,7 @@ release := rope-search-$(version)-x86_64-linux
 packed := README.md CHANGELOG.md CONTRIBUTING.md LICENSE-APACHE LICENSE-MIT NOTICE VERSION docs examples bindings \
 	bench/RESULTS.md bench/plain/src crates.txt $(wildcard crates/*/README.md)
 
-# Where the archive is made; the tests name a folder of their own.
+# The folder of the archive; the tests use their own.
 RELEASES ?= bin
 
 release: root = $(RELEASES)/$(release)
@@ -185,7 +186,8 @@ bin/bench: $(program) bench/build $(shell find bench/program -type f)
 	@echo '$@ is built once it is proved: some ten minutes, once its libraries are'
 	@mkdir -p bench/out && { RT='$(RT)' bench/build > bench/out/rt.log 2>&1 || { tail -n 40 bench/out/rt.log; false; }; }
 
-# What is measured beside it; the figures leave it out where cargo or Debian's librust-regex+default-dev is missing.
+# The plain program that is measured for comparison; it is left out if cargo or Debian's librust-regex+default-dev is
+# missing.
 bin/plain: bench/plain/src/main.rs bench/plain/Cargo.toml
 	@mkdir -p $(@D)
 	cd bench/plain && cargo build --quiet --release --offline --target-dir ../out/plain

@@ -1,9 +1,9 @@
-"""Measures whether the worst inputs known take time and memory in proportion to the text: each at a size and at four times
-that size, by instructions, which are the same in each run, and by the most memory that the program holds; the largest by
-the processor's time.
+"""Measures whether the worst known inputs take time and memory in proportion to the text: each at one size and at four
+times that size, by instructions, which are the same in each run, and by the peak of memory; the largest ones by processor
+time.
 
-An input is a name, its smaller size, a function from a size to the commands before what is measured and to these, and what
-the size counts: bytes, lines, buffers, steps or edits. Each command has a reply of one line.
+An input is a name, its smaller size, a function from a size to the commands before the measurement and those measured, and
+what the size counts: bytes, lines, buffers, steps or edits. Each command has a reply of one line.
 """
 import os
 import random
@@ -12,10 +12,10 @@ import subprocess
 from processes import PROGRAM, command, instructions, peak_of, taken, tells_peak, text_and_pattern, written
 from texts import TOP
 
-TIMES = 4  # how many times the smaller size the larger one is
+TIMES = 4  # the larger size as a multiple of the smaller one
 WORDS = 10_000
 EXPLODING = "(a|b)*a(a|b){20}"
-# Patterns that weigh nearly as much as they may, 262,144: what each is, the pattern, and what of its text repeats.
+# Patterns with nearly the greatest weight, 262,144: a name, the pattern, and the part that their text repeats.
 HEAVY = {
     "65,535 times `[a-cx]`": ("[a-cx]{65535}", b"abcx"),
     r"300 times `\w`": (r"\w{300}", "aé".encode()),
@@ -24,7 +24,7 @@ HEAVY = {
     "10,000 words": (None, b"abcd"),
     "10,000 words in each case": ("(?i)", b"aBcd"),
 }
-# Patterns that match each letter `a`, and each search of which reads on to the end.
+# Patterns that match each letter `a`; each of their searches reads to the end.
 HOSTILE = ["a*b|a", ".*?x|a", ".*x|.", "(a|b)*c|a", "(?:a{0,200})*b|a"]
 
 
@@ -77,13 +77,13 @@ def buffers(size):
 
 
 def split(commands):
-    """Three commands, of which the first two are a line each."""
+    """Three commands, the first two of one line each."""
     first, second, third = commands.split(b"\n", 2)
     return first + b"\n", second + b"\n", third
 
 
 def steps(*words_of_step):
-    """Letters typed, and then as many steps back, or the like."""
+    """Letters typed, and then the same number of undos, or the like."""
     def of(size):
         typed = [b"edit %d 0 %d 0 1\na" % (place % 1_000, place % 1_000) for place in range(size)]
         return [*text_and_pattern(b"a line\n" * 1_000, "a+"), *typed], [word for word in words_of_step for _ in range(size)]
@@ -132,13 +132,13 @@ def counted(before, measured):
 
 
 def held(folder, before, measured):
-    """The most kilobytes that the program holds at a time."""
+    """The peak of the program's memory, in kilobytes."""
     return peak_of([PROGRAM], written(folder, "session", *before, *measured))
 
 
 def grow_worst(folder, tiny):
-    """For each input the instructions for a byte, or a line, or whatever its size counts; how many times as many four times
-    the size takes; and the memory."""
+    """For each input the instructions per byte, line or other unit of its size; the ratio of instructions for four times
+    the size; and the memory."""
     for name, size, of, unit in inputs():
         size = max(20, size // 1_000) if tiny else size
         small, large = (counted(*of(number)) for number in (size, TIMES * size))
@@ -152,7 +152,7 @@ def grow_worst(folder, tiny):
 
 
 def time_largest(folder, tiny):
-    """The same by time: of each byte or line, and beside a quarter of the size."""
+    """The same by time: per byte or line, and compared with a quarter of the size."""
     for name, size, of, unit in largest():
         size = max(20, size // 1_000) if tiny else size
         small, large = (taken(PROGRAM, before, measured, runs=3)[0][0] for before, measured in (of(size), of(TIMES * size)))
@@ -162,7 +162,7 @@ def time_largest(folder, tiny):
 
 
 def grow_edits(folder, tiny):
-    """Edits made as one by the library, which the program has no command for, and their undo."""
+    """Several edits as one by the library, for which the program has no command, and their undo."""
     made = os.path.join(folder, "at_once")
     library = os.path.join(os.environ.get("ROPE_SEARCH_LIBRARIES") or os.path.join(TOP, "bin"), "librope_search.a")
     source, headers = os.path.join(TOP, "bench", "at_once.c"), os.path.join(TOP, "include")
@@ -175,7 +175,7 @@ def grow_edits(folder, tiny):
 
 
 def instructions_of(words_of_program):
-    """The instructions of a whole run of a program, which has to end well."""
+    """The instructions of a whole run of a program, which must succeed."""
     words_of_tool = ["valgrind", "--tool=callgrind", "--callgrind-out-file=/dev/null"]
     ran = subprocess.run([*words_of_tool, *words_of_program], stdout=subprocess.PIPE, stderr=subprocess.PIPE, check=True)
     return int(ran.stderr.split(b"Collected : ")[1].split()[0])

@@ -1,6 +1,6 @@
-"""Measures the program bin/rope-search by whole sessions, beside programs and calls that do the like. Each function is
-a run of a topic: it gives each figure with what it is of, what it is, and its unit, which is `failed` where an answer
-is wrong. A figure is the median of some runs."""
+"""Measures the program bin/rope-search by whole sessions, and programs and calls that do the same. Each function is a run
+of a topic: it yields what a figure is of, its name, the figure, and its unit, which is `failed` if an answer is wrong. A
+figure is the median of several runs."""
 import os
 import random
 import re
@@ -29,23 +29,23 @@ from processes import (
 from texts import TOP, lines_of, source_text
 
 UNDO = b"undo\n"
-LITERALS = ["let", "e", "xyz"]  # in about three lines of ten, in nearly each and in none
+LITERALS = ["let", "e", "xyz"]  # in about three of ten lines, in nearly each, and in none
 EXPRESSIONS = [r"\w+\s*=>\s*\w+", "(?i)todo|error", "[0-9]+|0x[0-9a-f]+"]
-# Patterns that find something in this line alone, which `next` has to reach.
+# Patterns that match only in this line, which `next` has to reach.
 LAST_LINE = "zebra ZEBRA := 1.5;"
 REACHED = [
     "ZEBRA", "(?i)zebra", "zebra|gnu|okapi", "[A-Z]{2,}", r"[0-9]+\.[0-9]+", r"\w+\s*:=\s*\w+", ".*;"
 ]
-# Patterns that match each letter `a` of a line, and each search of which reads on to the line's end.
+# Patterns that match each letter `a` of a line; each of their searches reads to the end of the line.
 HOSTILE = ["a*b|a", ".*?x|a", ".*x|.", "(a|b)*c|a", "(?:a{0,200})*b|a"]
-# A pattern, a template, and what Python calls that.
+# A pattern, a template, and the template in Python's syntax.
 REPLACED = [
     ("marker", "bookmarks", "bookmarks"),
     ("(mark)(er)", "$2$1$$", r"\2\1$"),
     (r"\w+", "<$0>", r"<\g<0>>"),
     (r"(\w+) (\w+)", "$2 $1", r"\2 \1"),
 ]
-# Of which instructions are counted: patterns of reports, and of replacements with their templates.
+# The patterns whose instructions are counted: of reports, and of replacements with their templates.
 REPORTED = ["TODO", *EXPRESSIONS, "e", "found nowhere", "[a-z]+", r"\w+", ".*x", r"(\w+) (\w+)"]
 REWRITTEN = [("e", "E"), (r"\w+", "<$0>"), (r"(\w+) (\w+)", "$2 $1")]
 SAMPLES = {
@@ -89,7 +89,7 @@ def load_print(folder, tiny):
 
 
 def listed(lines, pattern):
-    """How many matches there are, by Python line by line, and in how many lines."""
+    """The number of matches, by Python line by line, and of lines with a match."""
     rows = [sum(1 for _ in pattern.finditer(line)) for line in lines]
     return sum(rows), sum(map(bool, rows))
 
@@ -127,20 +127,20 @@ def letters_at(places):
 
 
 def letters_in(lines, count, columns=40):
-    """So many of them, in lines and columns drawn by lot."""
+    """This number of them, in random lines and columns."""
     chance = random.Random(11)
     return letters_at([(chance.randrange(lines), chance.randrange(columns)) for _ in range(count)])
 
 
 def words_in(lines, count):
-    """The same as a typist types them: one behind the other, forty in a line drawn by lot."""
+    """The same as a typist types them: one after the other, forty in a random line."""
     chance = random.Random(13)
     chosen = [chance.randrange(lines) for _ in range(-(-count // 40))]
     return letters_at([(line, column) for line in chosen for column in range(40)][:count])
 
 
 def edit_lines(folder, tiny):
-    """Letters typed under a pattern, taken back, and what their history keeps. The plain program makes few edits."""
+    """Letters typed under a pattern, undone, and the memory of their history. The plain program makes few edits."""
     lines, edits = (4_000, 200) if tiny else (400_000, 20_000)
     text = lines_of(lines)
     at_random, typed = letters_in(lines, edits), words_in(lines, edits)
@@ -158,10 +158,10 @@ def edit_lines(folder, tiny):
 
 
 def grow(folder, tiny):
-    """A letter typed in texts of 10 kB, and of ten times as much each, up to 100 MB."""
+    """A letter typed in texts of 10 kB, 100 kB and so on, up to 100 MB."""
     for lines in (200, 2_000) if tiny else (200, 2_000, 20_000, 200_000, 2_000_000):
         settings = text_and_pattern(lines_of(lines), "let")
-        few = min(10 * lines, 20_000)  # so that the text stays about as long
+        few = min(10 * lines, 20_000)  # so that the length of the text hardly changes
         counts = {OURS: few, THEIRS: min(few, max(2, 1_000_000 // lines))}
         for name, program in programs().items():
             [(all_of_them, said)] = taken(program, settings, letters_in(lines, counts[name]), runs=3)
@@ -170,7 +170,7 @@ def grow(folder, tiny):
 
 
 def break_at_top(folder, tiny):
-    """Breaks and letters put in at the top, and taken back. The rows of all lines behind a break move."""
+    """Breaks and letters inserted at the top, and undone. The rows of all lines after a break move."""
     lines, many = (4_000, 20) if tiny else (400_000, 100)
     text = lines_of(lines)
     under_let, bare = text_and_pattern(text, "let"), [command("text", text)]
@@ -188,7 +188,7 @@ def break_at_top(folder, tiny):
 
 
 def one_line(folder, tiny):
-    """The report of a long line, and edits, each of which searches it whole again."""
+    """The report of a long line, and edits, which each search the whole line again."""
     line = lines_of(400 if tiny else 20_000).replace(b"\n", b" ")
     letters = letters_in(1, 10, columns=len(line))
     for pattern in LITERALS + EXPRESSIONS:
@@ -202,14 +202,14 @@ def one_line(folder, tiny):
 
 
 def grow_hostile(folder, tiny):
-    """The report of patterns that read on to the line's end before they are sure of each letter."""
+    """The report of patterns that read to the end of the line to match each letter."""
     for pattern in HOSTILE:
         last = {}
         for letters in (1_000, 10_000) if tiny else (10_000, 100_000, 1_000_000):
             text, setting = text_and_pattern(b"a" * letters, pattern)
             for name, program in programs().items():
                 if name != OURS and name in last:
-                    continue  # it takes as long as the square
+                    continue  # its time grows with the square
                 [(report, said)] = taken(program, [text], [setting], runs=3)
                 yield f"`{pattern}`: {letters:,} letters", name, nanos([report]), unit_of(said == b"ok\n")
                 if last.get(name):
@@ -218,7 +218,7 @@ def grow_hostile(folder, tiny):
 
 
 def reach_last(folder, tiny):
-    """`next` from a text's start to its last line, a byte of what it passes."""
+    """`next` from the start of a text to its last line, for each byte that it passes."""
     lines = 2_600 if tiny else 260_000
     text = lines_of(lines) + LAST_LINE.encode()
     for pattern in REACHED:
@@ -231,7 +231,7 @@ def reach_last(folder, tiny):
 
 
 def marked(lines, gap):
-    """The lines, with a match at the start of one in so many."""
+    """The lines, with a match at the start of every `gap`-th one."""
     chosen = lines_of(lines).decode().split("\n")
     for line in range(0, lines, gap):
         chosen[line] = "marker" + chosen[line][6:]
@@ -239,7 +239,7 @@ def marked(lines, gap):
 
 
 def replace_matches(folder, tiny):
-    """Matches replaced in lines of which each fourth begins with `marker`, and taken back."""
+    """Matches replaced in lines, every fourth of which begins with `marker`, and undone."""
     text = marked(4_000 if tiny else 400_000, 4)
     for pattern, template, named in REPLACED:
         of, settings = by_template(pattern, template), text_and_pattern(text.encode(), pattern)
@@ -258,7 +258,7 @@ def replace_matches(folder, tiny):
 
 
 def build_patterns(patterns, folder, tiny):
-    """Each of the patterns set once: what that takes, and the peak of memory."""
+    """Each of the patterns set once: the time, and the peak of memory."""
     bare = peak_of([PROGRAM], written(folder, "session", b"off\n")) if tells_peak() else 0
     for name, pattern in patterns:
         session = written(folder, "session", command("pattern", pattern.encode()))
@@ -278,7 +278,7 @@ def whole_texts(folder, tiny):
     lines, edits = (4_000, 500) if tiny else (400_000, 50_000)
 
     def taking(session, call, due, is_undone=True):
-        """The nanoseconds of a call, which is undone before it is timed again, and whether it answers as is due."""
+        """The nanoseconds of a call, which is undone before it is timed again, and whether its result is right."""
         times, is_right = [], True
         for _ in range(RUNS):
             start = time.perf_counter_ns()
@@ -312,8 +312,8 @@ def whole_texts(folder, tiny):
 
 
 def count_instructions(folder, tiny):
-    """What is counted over lines of source text, of which each fifth ends in `// TODO`. They change as the sources do,
-    and the plain program's numbers with them."""
+    """Counts over lines of source text, every fifth of which ends in `// TODO`. The lines change with the sources, and so do
+    the plain program's numbers."""
     lines = (source_text().split("\n") * 5)[: 1_000 if tiny else 20_000]
     lines[::5] = [line + " // TODO" for line in lines[::5]]
     scripts = with_scripts(lines)
@@ -325,7 +325,7 @@ def count_instructions(folder, tiny):
 
 
 def with_scripts(lines):
-    """The lines, of which three in five end in a word of another script."""
+    """The lines, three of five of which end in a word of another script."""
     ends = ["", " naïve", " かな", " 🐸", ""]
     return [line + ends[at % 5] for at, line in enumerate(lines)]
 
@@ -340,7 +340,7 @@ def counted_reports(lines, program):
 
 
 def counted(lines, program, edits):
-    """The instructions of reports, replacements and so many edits, each less what comes before it in the session."""
+    """The instructions of reports, replacements and this number of edits, each less what precedes it in the session."""
 
     def of(*commands):
         return instructions(program, *commands)

@@ -1,8 +1,8 @@
-"""What is measured, which `bench/run` reads.
+"""The topics of `bench/run`.
 
-A text is KIND and a size: `ascii`, `mixed`, `japanese` and `emoji` are source text, source text with Japanese comments,
-Japanese text and emoji, of so many bytes; `lines` are so many lines of 50 bytes, `short` of 13; `pattern` is a text
-below `PATTERNS`.
+A text is a kind and a size: `ascii`, `mixed`, `japanese` and `emoji` are source text, source text with Japanese comments,
+Japanese text and emoji, with a size in bytes; `lines` are lines of 50 bytes, `short` of 13, with their number; `pattern` is
+a text of `PATTERNS`.
 """
 import functools
 import itertools
@@ -11,6 +11,7 @@ from typing import NamedTuple
 import proportion
 import sessions
 import ways
+import windows
 
 MB = 1_000_000
 EXPRESSIONS = [r"\w+\s*=>\s*\w+", "(?i)todo|error", "[0-9]+|0x[0-9a-f]+"]
@@ -23,7 +24,7 @@ def class_of(numbers):
     return "[" + "".join(map(chr, numbers)) + "]"
 
 
-# Patterns of up to 65,536 bytes: what each is, whether letters match in each case, and the pattern.
+# Patterns of up to 65,536 bytes: a name, `fold` if case is ignored, and the pattern.
 PATTERNS = {
     r"32,768 times `\w`": ("", r"\w" * 32768),
     r"16,384 times `[\w]`": ("", r"[\w]" * 16384),
@@ -47,7 +48,7 @@ PATTERNS = {
 
 
 def over(texts, *told):
-    """A run over each text for each thing told."""
+    """A run over each text with each argument."""
     return [(text, more) for text in texts for more in told or ("",)]
 
 
@@ -56,8 +57,8 @@ def over_patterns():
 
 
 def built():
-    """The patterns as the command takes them: `(?i)` in front of those that match in each case, which then have an item
-    less where they would be too long."""
+    """The patterns as the command takes them: `(?i)` before those that ignore case, which have one item less if they would
+    be too long."""
     for name, (case, pattern) in PATTERNS.items():
         is_too_long = case and len(pattern.encode()) + 4 > 65_536
         is_class = pattern.startswith("[") and pattern.find("]") == len(pattern) - 1
@@ -73,10 +74,10 @@ TEXTS = sized("ascii", "mixed", "japanese", sizes=(10 * MB,))
 
 
 class Topic(NamedTuple):
-    """What is measured, by runs: each the text that it is measured over, and what `bin/bench` is told beside it, or a
-    call of `sessions`, which measures the program itself. The page leaves out what a form finds in `OF: WHAT`, and the
-    topic where that is all. The topic of `bin/bench` may have another name. Some take what is built besides. Behind the
-    table the page tells what is in the way of aims that are missed."""
+    """A topic: what it measures, and its runs, each a text and a further argument of `bin/bench`, or a call of `sessions`,
+    which measures the program itself. The page leaves out figures whose `OF: WHAT` matches `left_out`, and the topic if
+    these are all. `named` is the topic of `bin/bench`, if it has another name; `built` are other files that it needs;
+    `in_the_way` says after the table why aims are missed."""
 
     measures: str
     runs: list
@@ -86,7 +87,7 @@ class Topic(NamedTuple):
     in_the_way: str = ""
 
 
-# The most that a figure should be, or of a speed the least, by the topic and by what it is or what it is of.
+# The aims, by topic and by the name of a figure or what it is of: the greatest value of a figure, the least of a speed.
 AIMS = {
     "load": {"text and print": "4 times `cat`", "memory": "250 %"},
     "list": {"rope-search": "the plain program's, for literals 0.7 of it"},
@@ -105,6 +106,7 @@ AIMS = {
     },
     "embedded": dict.fromkeys(("in C", "in Rust", "in Python", "in LuaJIT"), "1 us above the buffer"),
     "replace": {sessions.by_template(*replaced[:2]): "the plain program's" for replaced in sessions.REPLACED},
+    "windows": {"the first window": "1 ms", "all slices": "1.05 times `set_pattern`"},
     "next": {f"`{pattern}`": "5 ns" for pattern in sessions.REACHED},
     "enter": {"a break under `let`": "1.2 ms"},
     "hostile": {f"`{pattern}`: 1,000,000 letters": "10 times" for pattern in sessions.HOSTILE},
@@ -169,7 +171,7 @@ TOPICS = {
         "window, by the library, its modules, and the program over pipes, which tells no window: medians, but for the "
         "buffer's, a mean",
         [ways.embedded],
-        built=("bin/bench", "bin/librope_search.a", "bin/librope_search.so"),
+        built=("bin/librope_search.a", "bin/librope_search.so"),
     ),
     "replace": Topic(
         "`replace` of all matches in 400,000 lines, with the report of the new text, beside Python's `re.sub`, which "
@@ -183,6 +185,18 @@ TOPICS = {
         "and `text_changes` after it; `edit_all` of 50,000 edits, without a pattern",
         [sessions.whole_texts],
         left_out=": matches",
+        built=("bin/librope_search.so",),
+    ),
+    "windows": Topic(
+        "a pattern whose report is made in slices of 4,000 lines, in 2,000,000 lines of 50 bytes: the first window of 50 "
+        "lines with what `begin_pattern` takes, the longest slice, and all of them beside `set_pattern`",
+        [windows.first_windows],
+        built=("bin/librope_search.so",),
+    ),
+    "copies": Topic(
+        "matches of `\\w+` in 400,000 lines, copied with columns in UTF-16 code units and in bytes; and the first 50 of the "
+        "whole text from its middle",
+        [windows.copies],
         built=("bin/librope_search.so",),
     ),
     "next": Topic(

@@ -1,7 +1,7 @@
-"""A letter typed by each way to use the library: by calls in C, Python, Lua, Rust and WebAssembly, by commands over
-pipes, in Neovim, and by the language server. Each function returns medians in nanoseconds: of a letter typed in a
+"""A letter typed by each way to use the library: by calls in Rattle, C, Python, Lua, Rust and WebAssembly, by commands
+over pipes, in Neovim, and by the language server. Each function returns medians in nanoseconds: of a letter typed in a
 random line until the report is up to date, of its undo, and of a window's rows, as many of these as that way has; none
-if its tool isn't installed."""
+if its tool isn't installed, or its program isn't built."""
 import json
 import os
 import random
@@ -14,14 +14,14 @@ import time
 from processes import PROGRAM, written
 from texts import TOP
 
-CALLED = r"y\(\w+"  # with which calls are measured
-RARE = r"line \d*000 "  # in one line of a thousand
-WEB_MODULE = os.path.join(TOP, "bin", "rope_search.wasm")
+CALLED = r"y\(\w+"  # the pattern of the calls that are measured
+RARE = r"line \d*000 "  # matches in one line of a thousand
+BENCH, WEB_MODULE = (os.path.join(TOP, "bin", name) for name in ("bench", "rope_search.wasm"))
 MEMORY64 = "--experimental-wasm-memory64"
 
 
 def told_by(words, **more):
-    """The medians that a program prints, each after its name."""
+    """The medians that a program prints, each after a name."""
     told = subprocess.run(words, stdout=subprocess.PIPE, check=True, text=True, env=dict(os.environ, **more)).stdout
     return [float(line.split()[1]) for line in told.splitlines()]
 
@@ -32,8 +32,10 @@ def lines_of_calls(lines):
 
 
 def by_buffer(folder, lines):
-    """The median of a letter typed in a buffer of `rope_search`, by bin/bench."""
-    words = [os.path.join(TOP, "bin", "bench"), "live", written(folder, "lines", lines_of_calls(lines)), CALLED]
+    """The mean of a letter typed in a buffer of `rope_search`, by bin/bench."""
+    if not os.path.exists(BENCH):
+        return []
+    words = [BENCH, "live", written(folder, "lines", lines_of_calls(lines)), CALLED]
     told = subprocess.run(words, stdout=subprocess.PIPE, check=True, text=True).stdout
     return [float(line.split("\t")[1]) for line in told.splitlines() if line.startswith("a letter in a random line\t")][:1]
 
@@ -72,8 +74,8 @@ def by_rust(folder, lines, edits):
 
 
 def by_node(way, lines, edits):
-    """The same by bindings/node, which runs the program and has no window, or by bindings/web over its module, if Node
-    is installed."""
+    """The same by bindings/node, which runs the program and has no window, or by bindings/web with its module, if Node is
+    installed."""
     if not shutil.which("node") or way == WEB_MODULE and not os.path.exists(way):
         return []
     words = ["node", "--no-warnings", MEMORY64, os.path.join(TOP, "bench", "embedded.mjs"), way, str(lines), str(edits)]
@@ -81,7 +83,7 @@ def by_node(way, lines, edits):
 
 
 def by_neovim(lines, edits):
-    """The median of a letter inserted into a row of Neovim, which examples/nvim follows, and removed again."""
+    """The medians of a letter inserted into a row of Neovim, which examples/nvim follows, and removed again."""
     if not shutil.which("nvim"):
         return []
     paths = [os.path.join(TOP, folder, "?.lua") for folder in ("examples/nvim/lua", "bindings/lua")]
@@ -167,7 +169,7 @@ def by_python(lines, edits):
 
 
 def embedded(folder, tiny):
-    """A letter typed in a random line, undone, and the rows of a window, through the library that make lib builds."""
+    """A letter typed in a random line, its undo, and the rows of a window, by the library that make lib builds."""
     lines, edits = (4_000, 200) if tiny else (400_000, 2_000)
     whats = ("a letter in a random line", "undo", "a window's 50 rows")
     ways = {
@@ -183,5 +185,7 @@ def embedded(folder, tiny):
         "by the language server": by_server(lines, edits // 10),
     }
     for way, medians in ways.items():
+        if not medians:
+            print(f"  {way}: not measured, since its tool isn't installed or its program isn't built", flush=True)
         for what, median in zip(whats, medians):
             yield way, what, f"{median:.0f}", "ns"

@@ -5,7 +5,7 @@
         search.ask(command(b"edit 0 2 0 6", b"toad"))       # b"ok\\n"
         search.ask(b"print\\n")                              # b"text 6\\na toad\\n"
 
-A refusal is a reply, `error` and a word. A child that has ended, or answers no whole reply in time, is told by `Ended`.
+A refusal is a reply, `error` and a word. If the child has ended, or does not reply completely in time, `Ended` is raised.
 """
 import io
 import os
@@ -50,7 +50,7 @@ def read_reply(replies):
         line = replies.readline()
         parts.append(line)
     is_whole = line.endswith(b"\n")
-    if is_whole and line.startswith(b"text "):  # of print: so many bytes, and LF
+    if is_whole and line.startswith(b"text "):  # of print: the text's bytes, and LF
         length = int(line[5:]) + 1
         parts.append(replies.read(length))
         is_whole = len(parts[-1]) == length

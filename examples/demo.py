@@ -1,12 +1,12 @@
 #!/usr/bin/env python3
-"""Gives the commands of a session to the program, and shows each with its reply.
+"""Sends the commands of a session to the program, and shows each with its reply.
 
-    examples/demo.py [SESSION [PROGRAM]]     SESSION is examples/first.session where none is given
+    examples/demo.py [SESSION [PROGRAM]]     SESSION is examples/first.session by default
 
-The program is PROGRAM, or bin/rope-search where that has been built: it is proved, and gets one command
-after the other. Where there is neither, rt runs it over the whole session, compiled with checks and with
-nothing proved, which needs one minute or two; RT names another command than rt. What is sent stands
-behind '>', a payload on lines of its own: the last of them is empty where the payload ends with LF.
+The program is PROGRAM, or bin/rope-search if it is built: it is proved, and gets one command after the
+other. Otherwise rt runs the program over the whole session, compiled with checks and not proved, which
+takes one or two minutes; RT names another command than rt. Lines that are sent begin with '>'. A payload
+has its own lines, the last of which is empty if the payload ends with LF.
 """
 import io
 import os

@@ -16,11 +16,17 @@ Ctrl-S          writes the file, once it has asked
 Escape          leaves, and asks before if the text isn't saved; Ctrl-C leaves at once
 
 Matches are those of the report: of each line by itself. Where there is none, Enter looks for one that goes over
-lines. All replaced are those of the whole text, which may be others: docs/protocol.md tells how.
+lines.
 
 The pane goes by the library that `make lib` builds, where it is built, and else, or where one is named, by the program.
 By the library it searches a pattern in slices of some thousand lines between keys: the lines that are shown at once, and
-`+` stands behind a number of matches until all are done. A line is searched whole, however long it is.
+`+` stands behind a number of matches until all are done. A line is searched whole, however long it is. No key waits for
+more than a slice, but for a replacement, its undo, and a search for a match over lines: these go through the whole text.
+Replaced are exactly the matches that are listed, or, where none is, those over lines. Letters that are typed one after
+the other are one step to undo.
+
+By the program each letter is a step of its own, a pattern is searched whole, and replaced are the matches of the whole
+text, which may be others than those that are listed: docs/protocol.md tells how.
 """
 import os
 import signal
@@ -30,10 +36,11 @@ import time
 import tty
 
 sys.dont_write_bytecode = True
-from calls import Calls, rope_search
+from calls import rope_search
 from client import PROGRAM, Client, Ended
 from pane_parts.document import Document, Refused
 from pane_parts.keys import Keys
+from pane_parts.library import LibraryDocument
 from pane_parts.pane import Left, Pane
 
 SECONDS = 30  # for a reply of the program
@@ -42,9 +49,9 @@ BEGIN = "\x1b[?1049h\x1b[?7l\x1b[?2004h"  # another screen, on which nothing is 
 END = "\x1b[?2004l\x1b[?7h\x1b[?1049l"
 
 
-def client_of(program):
-    """What carries out commands: the program, or the library where none is named."""
-    return Client(program, SECONDS) if program else Calls()
+def document_of(program, text):
+    """A text in the program, or in the library where none is named."""
+    return Document(Client(program, SECONDS), text) if program else LibraryDocument(text)
 
 
 def is_built():
@@ -52,18 +59,17 @@ def is_built():
 
 
 class Session:
-    """A pane in a terminal, over a program that is begun anew if it ends: the text is kept here too."""
+    """A pane in a terminal. A program is begun anew if it ends: its text is kept here too."""
 
     def __init__(self, program, text, path):
-        self.program, self.client = program, client_of(program)
-        self.pane = Pane(Document(self.client, text), path)
+        self.program = program
+        self.pane = Pane(document_of(program, text), path)
 
     def begin_anew(self, ended):
         """Goes on with another child, which has the text, and no history."""
         pane, is_saved = self.pane, self.pane.document.state() is self.pane.saved
-        self.client.close()
-        self.client = client_of(self.program)
-        pane.document = Document(self.client, pane.document.text.whole())
+        pane.document.close()
+        pane.document = document_of(self.program, pane.document.text.whole())
         pane.saved = pane.document.state() if is_saved else object()  # which is no state
         pane.typed, pane.found, pane.mode = "", None, "search" if pane.mode == "template" else pane.mode
         pane.asked, pane.place = pane.spelled(), pane.document.text.clamped(*pane.place)
@@ -153,7 +159,7 @@ def main(path=None, program=None, *more):
     finally:
         print(END, end="", flush=True)
         termios.tcsetattr(0, termios.TCSADRAIN, before)
-        session.client.close()
+        session.pane.document.close()
     return why
 
 

@@ -1,4 +1,4 @@
-/* A text searched, edited and undone: cc -Iinclude examples/session.c bin/librope_search.a */
+/* Searches a text, edits it and undoes that: cc -Iinclude examples/session.c lib/librope_search.a (bin/ in the repository) */
 #include "rope_search.h"
 #include <stdio.h>
 #include <string.h>

@@ -1,4 +1,5 @@
-// A class over a session, which moves and ends itself: c++ -Iinclude examples/session.cpp bin/librope_search.a
+// A class for a session, which can be moved and closes itself: c++ -Iinclude examples/session.cpp lib/librope_search.a
+// (bin/ in the repository)
 #include "rope_search.h"
 #include <cstdio>
 #include <stdexcept>

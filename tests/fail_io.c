@@ -1,11 +1,11 @@
-// A library to preload into a program: it cuts what the program reads from standard input and writes
-// to standard output into small pieces, and can fail one read or one write. The call after that goes on
-// where the one before had ended, so whoever tries again loses nothing.
+// A library to preload into a program. It limits the size of reads from standard input and of writes to
+// standard output, and can fail one read or one write. The next call continues where the last one ended,
+// so a program that tries again loses nothing.
 //
-//   FAIL_IO_READ_MOST=N      a read gives N bytes at most
-//   FAIL_IO_WRITE_MOST=N     a write takes N bytes at most
+//   FAIL_IO_READ_MOST=N      a read returns at most N bytes
+//   FAIL_IO_WRITE_MOST=N     a write takes at most N bytes
 //   FAIL_IO_READ_AT=N        the N-th read, counted from 1, is interrupted
-//   FAIL_IO_WRITE_AT=N       the N-th write is
+//   FAIL_IO_WRITE_AT=N       the N-th write is interrupted
 
 #include <errno.h>
 #include <stddef.h>
@@ -22,7 +22,7 @@ static unsigned long setting(const char *name)
     return value == NULL ? 0 : strtoul(value, NULL, 10);
 }
 
-// How many of so many bytes a call may move, by the setting of this name.
+// The number of these bytes that a call may move, by the setting with this name.
 static size_t at_most(const char *name, size_t bytes)
 {
     unsigned long most = setting(name);

@@ -1,4 +1,4 @@
-/* Calls of the library with what each answers: refusals, ranges, buffers, sessions that are closed and opened again. */
+/* Calls of the library and their results: refusals, ranges, buffers, sessions that are closed and opened again. */
 #include "rope_search.h"
 #include <stdio.h>
 #include <string.h>
@@ -39,12 +39,16 @@ static void refusals(rope_search *s)
 {
     size_t count = 9;
     rope_search_match match;
+    rope_search_text_match text_match;
     IS(rope_search_undo(s), ROPE_SEARCH_NONE);
     IS(rope_search_redo(s), ROPE_SEARCH_NONE);
     IS(rope_search_choose(s, 1), ROPE_SEARCH_NONE);
     IS(rope_search_choose(s, UINT64_MAX), ROPE_SEARCH_NONE);
     IS(rope_search_next(s, at(0, 0), &match), ROPE_SEARCH_NONE);
     IS(match.found, false);
+    IS(rope_search_next_all(s, at(9, 9), &text_match, 1, &count), ROPE_SEARCH_NONE);
+    IS(count, 0);
+    count = 9;
     IS(rope_search_replace(s, bytes("a"), 1, &count), ROPE_SEARCH_NONE);
     IS(count, 0);
     IS(rope_search_replace_match(s, 0, 0, bytes("\377"), 1), ROPE_SEARCH_NONE);
@@ -62,7 +66,7 @@ static void refusals(rope_search *s)
     IS(rope_search_off(s), ROPE_SEARCH_DONE);
 }
 
-/* The groups of matches, of the text "hi ho\nhi ha" under another pattern, which is put back. */
+/* The groups of matches in the text "hi ho\nhi ha" under another pattern; the first pattern is restored. */
 static void groups(rope_search *s)
 {
     rope_search_group of[11];
@@ -92,7 +96,7 @@ static void groups(rope_search *s)
     IS(rope_search_set_pattern(s, bytes("h"), 1), ROPE_SEARCH_DONE);
 }
 
-/* The matches of the text "hi ho\nhi ha" under "h", looked up. */
+/* Look-ups of the matches of "h" in the text "hi ho\nhi ha". */
 static void listed(rope_search *s)
 {
     rope_search_listed match;
@@ -130,9 +134,25 @@ static void pattern_errors(void)
     IS(told.reason == ROPE_SEARCH_NO_REASON && told.place == 0, 1);
 }
 
+static void escapes(void)
+{
+    uint8_t out[8];
+    size_t len = 77;
+    memset(out, 0x5a, sizeof out);
+    IS(rope_search_escape(bytes("\377"), 1, out, sizeof out, &len), ROPE_SEARCH_UTF8);
+    IS(len == 77 && out[0] == 0x5a, 1);
+    IS(rope_search_escape(bytes("a.b"), 3, out, 3, &len), ROPE_SEARCH_DONE);
+    IS(len == 4 && out[0] == 0x5a, 1);
+    IS(rope_search_escape(bytes("a.b"), 3, out, 4, &len), ROPE_SEARCH_DONE);
+    IS(len == 4 && memcmp(out, "a\\.bZ", 5) == 0, 1);
+    IS(rope_search_escape(bytes(""), 0, out, 0, &len), ROPE_SEARCH_DONE);
+    IS(len, 0);
+}
+
 static void a_session(rope_search *s)
 {
     rope_search_span spans[4];
+    rope_search_text_match found[3];
     rope_search_match match;
     rope_search_stretch changed;
     uint8_t text[16];
@@ -156,6 +176,14 @@ static void a_session(rope_search *s)
     IS(rope_search_edit(s, at(0, 5), at(0, 5), bytes("h"), 1), ROPE_SEARCH_DONE);
     IS(rope_search_next(s, at(0, 4), &match), ROPE_SEARCH_DONE);
     IS(match.found && match.start.line == 0 && match.start.column == 5 && match.stop.column == 6, 1);
+    memset(found, 0x5a, sizeof found);
+    IS(rope_search_next_all(s, at(0, 4), found, 2, &number), ROPE_SEARCH_DONE);
+    IS(number, 2);
+    IS(found[0].start.line == 0 && found[0].start.column == 5 && found[0].stop.column == 6, 1);
+    IS(found[1].start.line == 1 && found[1].start.column == 0 && found[1].stop.column == 1, 1);
+    IS(found[2].start.line, (size_t)0x5a5a5a5a5a5a5a5a);
+    IS(rope_search_next_all(s, at(0, 7), found, 3, &number), ROPE_SEARCH_RANGE);
+    IS(number, 0);
     changed = rope_search_changed(s);
     IS(changed.first == 0 && changed.removed == 1 && changed.added == 1, 1);
     IS(rope_search_copy_text(s, 3, 12, text, sizeof text), 1);
@@ -186,7 +214,7 @@ static rope_search_text_edit edit_at(rope_search_position from, rope_search_posi
     return edit;
 }
 
-/* Several edits as one, of the text "hi ho\nhi ha". */
+/* Several edits as one, in the text "hi ho\nhi ha". */
 static void several(rope_search *s)
 {
     uint8_t text[16];
@@ -221,7 +249,7 @@ static void several(rope_search *s)
     IS(rope_search_text_len(s), 11);
 }
 
-/* Matches replaced one by one, of the text "ab abc\rab", under a pattern, undone at the end. */
+/* Matches in the text "ab abc\rab" replaced one by one, and undone at the end. */
 static void matches(rope_search *s)
 {
     rope_search_text_change change;
@@ -260,7 +288,7 @@ static void matches(rope_search *s)
     IS(rope_search_off(s), ROPE_SEARCH_DONE);
 }
 
-/* A pending pattern of the text "ab\nb\nab", under another pattern. */
+/* A pending pattern for the text "ab\nb\nab", which has another pattern. */
 static void pending(rope_search *s)
 {
     rope_search_span spans[2] = {{7, 7, 7}, {7, 7, 7}};
@@ -314,7 +342,7 @@ static void pending(rope_search *s)
     IS(rope_search_off(s), ROPE_SEARCH_DONE);
 }
 
-/* Lines, and edits by bytes, of the text "hi ho\r\nh\303\251 \360\237\220\270", under a pattern, undone at the end. */
+/* Lines of the text "hi ho\r\nh\303\251 \360\237\220\270", and edits of it by bytes, under a pattern, undone at the end. */
 static void lines(rope_search *s)
 {
     rope_search_span spans[3];
@@ -436,11 +464,12 @@ int main(void)
     IS(rope_search_open(16, &s), ROPE_SEARCH_DONE);
     refusals(&s);
     pattern_errors();
+    escapes();
     a_session(&s);
     look_ups(&s);
     counts = rope_search_counted(&s);
     IS(counts.rows <= 2 + 2 + 5 + 2 + 1 + 2 + 2 + 2 + 2, 1);
-    IS(counts.wholes, 2);
+    IS(counts.wholes, 3);
     moved = s;
     memset(&s, 0, sizeof s);
     IS(rope_search_text_len(&moved), 12);

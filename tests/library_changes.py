@@ -88,7 +88,7 @@ def wrong_changes(session, commands):
             wrong += wrong_stretch(before, watched.rows(), stretch, watched.most_added(command[0], command[2], change))
             watched.told[number] = stretch
         elif stretch != watched.told[number]:
-            wrong.append(f"{stretch} is told, not {watched.told[number]}")
+            wrong.append(f"{stretch} is reported, not {watched.told[number]}")
         if wrong:
             return [f"command {place}, {command[:2]}: {one}" for one in wrong]
     return []

@@ -1,5 +1,5 @@
-"""Several edits as one by the library, beside what the model makes of them: the text and the report after them, which
-rows they replace, how many they may make, and that one undo takes all back."""
+"""Several edits as one by the library, compared with the model: the text and the report after them, the rows that they
+replace, how many they may make, and that one undo reverts all."""
 import random
 
 from library import rope_search
@@ -12,8 +12,7 @@ FAULTS = {"range": rope_search.Range, "utf8": rope_search.Utf8, "size": rope_sea
 
 
 def some_edits(chosen, text):
-    """Edits of a text: as a rule one behind the other, where some touch; now and then in another order, over one another,
-    or nowhere."""
+    """Edits of a text: mostly in order, some of them touching; sometimes out of order, overlapping, or not in the text."""
     spots = sorted(chosen.choices(positions_of(text), k=2 * chosen.choice((0, 1, 1, 2, 2, 3, 5))))
     parts = [(start, start if chosen.random() < 0.3 else stop) for start, stop in zip(spots[::2], spots[1::2])]
     roll = chosen.random()
@@ -34,7 +33,7 @@ def some_payload(chosen):
 
 
 def places_in(text, edits):
-    """From where to where each edit reaches, in characters; None where one lies nowhere, or before the end of the last."""
+    """The range of each edit, in characters; None if one isn't in the text, or starts before the end of the preceding one."""
     places, behind = [], 0
     for start, stop, _ in edits:
         first, last = place_of(text, *start), place_of(text, *stop)
@@ -46,7 +45,7 @@ def places_in(text, edits):
 
 
 def after(text, edits):
-    """The text after edits, or why they are refused; and from where to where they reach in it, if there is any."""
+    """The text after edits, or why they are refused; and their extent in it, if there is any edit."""
     places = places_in(text, edits)
     if places is None:
         return None, "range", None
@@ -63,7 +62,7 @@ def after(text, edits):
 
 
 def wrong_edit(session, text, pattern, edits):
-    """What is wrong with some edits of a session with this text; and the text after them, None where they are refused."""
+    """What is wrong with some edits of a session with this text; and the text after them, None if they are refused."""
     new, fault, reach = after(text, edits)
     counted, told, got = session.counted, session.changed, None
     try:
@@ -91,7 +90,7 @@ def spans_of(rows):
 
 
 def wrong_with(seed):
-    """What is wrong with edits of a text at random, and with the way back from them and forward again."""
+    """What is wrong with random edits of a text, their undo and their redo."""
     chosen = random.Random(f"edits {seed}")
     text = some_text(chosen, 12)
     pattern = chosen.choice((None, *PATTERNS))
@@ -124,7 +123,7 @@ def wrong_ways(session, texts, pattern):
 
 
 def wrong_many():
-    """What is wrong with edits of a long text, one in each of some lines: where they are few it is edited, else rebuilt."""
+    """What is wrong with edits of a long text, one in each of some lines: with few it is edited, otherwise rebuilt."""
     lines = [f"line {number} of\tthe text 🐸" for number in range(4_000)]
     for count in (0, 1, 50, 70, 4_000):
         chosen, new = random.Random(f"many edits {count}"), list(lines)

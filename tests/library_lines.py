@@ -54,7 +54,7 @@ def wrong_lines(session, text):
     for line in (*range(lines + 2), MOST):
         due = line_text(text, line) if line < lines else rope_search.Range
         if (told := answered(session.line_text, line)) != due:
-            yield f"line {line} of {text!r} is told as {told!r}"
+            yield f"line {line} of {text!r} is returned as {told!r}"
     if answered(session.clamp, 0, 0, "utf-7") is not rope_search.Range or answered(session.line_len, 0, "utf-7") is not rope_search.Range:
         yield "another encoding is taken"
 
@@ -126,7 +126,7 @@ def wrong_long():
                     yield f"column {column} of a long line is clamped to {told} by {encoding}"
             due = [(line, count(own[:place]), count(own[: place + 2])) for line in range(3) for place in range(2, len(own) - 1, 3)]
             if [tuple(span) for span in session.matches(encoding=encoding)] != due:
-                yield f"the matches of long lines are told wrong by {encoding}"
+                yield f"the matches of long lines are wrong in {encoding}"
 
 
 # ---- edits by bytes

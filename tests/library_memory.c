@@ -1,5 +1,5 @@
-/* A session of many kinds of calls, carried out once for each of its requests for memory, which is refused: the call
- * that asked answers so, and leaves all as it was; carried out again it is done. It is linked with
+/* A session with many kinds of calls, run once for each of its requests for memory, which is refused: the call that made
+ * the request returns MEMORY and changes nothing, and succeeds when it is made again. It is linked with
  * --wrap=malloc,--wrap=realloc. */
 #include "rope_search.h"
 #include <stdio.h>
@@ -30,8 +30,8 @@ void *__wrap_realloc(void *old, size_t bytes)
     return is_refused() ? NULL : __real_realloc(old, bytes);
 }
 
-/* What can be seen of a session: of the chosen buffer the text, the matches, the steps back and forward, the ranges that
- * were replaced last, and the lines and the matches that are done for a pending pattern. */
+/* The visible state of a session: the text of the chosen buffer, its matches, the undo and redo steps, the ranges that
+ * were last replaced, and the lines and matches that are done for a pending pattern. */
 struct seen {
     size_t len, rows, count, undo, redo, changes, lines, pending;
     bool is_pending;
@@ -57,8 +57,8 @@ static void see(rope_search *s, struct seen *seen)
 }
 
 enum kind {
-    SET_TEXT, EDIT, EDIT_ALL, EDIT_BYTES, UNDO, REDO, SET_PATTERN, OFF, NEXT, REPLACE, REPLACE_MATCH,
-    REPLACE_LISTED, FORK, CHOOSE, FORGET, KEEP, JOIN, GROUPS_AT, PATTERN_ERROR, BEGIN, ADVANCE, WINDOW, CANCEL
+    SET_TEXT, EDIT, EDIT_ALL, EDIT_BYTES, UNDO, REDO, SET_PATTERN, OFF, NEXT, NEXT_ALL, REPLACE,
+    REPLACE_MATCH, REPLACE_LISTED, FORK, CHOOSE, FORGET, KEEP, JOIN, GROUPS_AT, PATTERN_ERROR, ESCAPE, BEGIN, ADVANCE, WINDOW, CANCEL
 };
 
 struct call {
@@ -76,13 +76,15 @@ static uint32_t carry_out(rope_search *s, const struct call *call)
     rope_search_pattern_reason reason;
     rope_search_text_edit edits[2];
     rope_search_span spans[8];
+    rope_search_text_match matches[8];
     bool done;
+    uint8_t out[32];
     const uint8_t *text = (const uint8_t *)(call->text ? call->text : "");
     from.line = call->line;
     from.column = call->column;
     to.line = call->to_line;
     to.column = call->to_column;
-    /* The first of two edits puts half of the text at one position, the other the rest at the other. */
+    /* Two edits: the first inserts half of the text at one position, the second the rest at the other. */
     edits[0].from = edits[0].to = from;
     edits[1].from = edits[1].to = to;
     edits[0].len = len / 2;
@@ -97,6 +99,7 @@ static uint32_t carry_out(rope_search *s, const struct call *call)
     case SET_PATTERN: return rope_search_set_pattern(s, text, len);
     case OFF: return rope_search_off(s);
     case NEXT: return rope_search_next(s, from, &match);
+    case NEXT_ALL: return rope_search_next_all(s, from, matches, 8, &number);
     case REPLACE: return rope_search_replace(s, text, len, &number);
     case REPLACE_MATCH: return rope_search_replace_match(s, call->line, call->column, text, len);
     case REPLACE_LISTED: return rope_search_replace_listed(s, call->line, call->to_line, text, len, &number);
@@ -106,6 +109,7 @@ static uint32_t carry_out(rope_search *s, const struct call *call)
     case JOIN: return rope_search_join(s, call->line);
     case GROUPS_AT: return rope_search_groups_at(s, call->line, call->column, groups, 10);
     case PATTERN_ERROR: return rope_search_pattern_error(text, len, &reason);
+    case ESCAPE: return rope_search_escape(text, len, out, sizeof out, &number);
     case BEGIN: return rope_search_begin_pattern(s, text, len);
     case ADVANCE: return rope_search_advance(s, call->line, &done);
     case WINDOW: return rope_search_window(s, call->line, call->column, spans, 8, &number);
@@ -124,8 +128,9 @@ static const struct call calls[] = {
     {EDIT, 1, 0, 2, 3, "ONE\nof many\none\n"},
     {EDIT_ALL, 0, 3, 2, 1, "a one\n\nand one"},
     {EDIT_BYTES, 2, 0, 7, 0, "two\none"}, CALL(UNDO),
-    AT(NEXT, 0, 2), AT(GROUPS_AT, 0, 0),
+    AT(NEXT, 0, 2), AT(NEXT_ALL, 0, 2), AT(GROUPS_AT, 0, 0),
     TEXT(PATTERN_ERROR, "(a|(?<name>b)|(?<name>c"), TEXT(PATTERN_ERROR, "((a)|b{1,3}"),
+    TEXT(ESCAPE, "one.two"), TEXT(ESCAPE, "\\.+*?()|[{^$\\.+*?()|[{^$"),
     CALL(UNDO), CALL(REDO), AT(JOIN, 2, 0), CALL(UNDO), CALL(REDO), TEXT(REPLACE, "<$1\n$0>"), CALL(UNDO), AT(KEEP, 5, 0), CALL(FORK),
     AT(CHOOSE, 1, 0), TEXT(EDIT, "a letter"), TEXT(SET_PATTERN, "\\be"), CALL(UNDO), CALL(OFF),
     CALL(REDO), AT(CHOOSE, 0, 0), TEXT(EDIT, "one\n"), {REPLACE_MATCH, 1, 0, 0, 0, "<$1\n$0>"}, CALL(UNDO),
@@ -141,7 +146,7 @@ static int may_ask(enum kind kind)
     return kind != OFF && kind != CHOOSE && kind != FORGET && kind != KEEP && kind != CANCEL;
 }
 
-/* The calls in turn, where one request is refused; how many requests there were. */
+/* Makes the calls, with one request refused, and returns the number of requests. */
 static unsigned long run(unsigned long at, struct seen *last)
 {
     static struct seen before, after;
@@ -175,7 +180,7 @@ static unsigned long run(unsigned long at, struct seen *last)
     return asked;
 }
 
-/* With a number N as its argument, one request in N is refused in turn. */
+/* With an argument N, only every N-th request is refused in turn. */
 int main(int words, char **word)
 {
     static struct seen due, last;

@@ -1,5 +1,5 @@
-"""A pending pattern by the library, beside a model of it: the lines that are done, their rows, windows, the counts, and the
-report once all lines are done."""
+"""A pending pattern by the library, compared with a model: the lines that are done, their rows, windows, the counts, and
+the report after all lines are done."""
 import functools
 import itertools
 
@@ -17,17 +17,17 @@ BROKEN = ("(", "[", "a{2", "\\")
 
 @functools.lru_cache(maxsize=1_000)
 def rows_of(text, pattern):
-    """The rows of a text, which are asked for again and again."""
+    """The rows of a text, cached because they are used often."""
     return protocol.rows_of(text, pattern)
 
 
 def spans_of(rows, first=0):
-    """The matches of rows, each with its line: the first row is that of line `first`."""
+    """The matches of rows, each with its line; the first row is that of line `first`."""
     return [(line, *span) for line, row in enumerate(rows, first) for span in row]
 
 
 def line_at(text, byte):
-    """The line of a byte of a text."""
+    """The line of a byte offset in a text."""
     return position_at(text, len(text.encode()[:byte].decode()))[0]
 
 
@@ -46,7 +46,7 @@ class Model:
         return self.pending[self.session.chosen]
 
     def carried_out(self, command):
-        """Carries out a command: those of the lines that are done stay that are before the first change."""
+        """Executes a command: lines that are done stay done if they are before the first change."""
         number, accepted = self.session.chosen, not self.session.refusal(*command)
         answer = self.mirror.carried_out(command)
         if not accepted:
@@ -62,7 +62,7 @@ class Model:
         return answer
 
     def advanced(self, lines):
-        """Searches further lines: how many those are, and whether all are done."""
+        """Searches further lines, and returns how many, and whether all are done."""
         (pattern, done), buffer = self.here, self.session.buffer
         left = len(lines_of(buffer.text)) - done
         if left > lines:
@@ -82,7 +82,7 @@ def is_refused(call, *arguments):
 
 
 def wrong_state(session, model):
-    """What is wrong with what a session shows of the chosen buffer."""
+    """What is wrong with the visible state of the chosen buffer."""
     buffer, here = model.session.buffer, model.here
     if (told := session.pending) != (here and here[1]):
         yield f"{told} lines are done, not {here and here[1]}"
@@ -128,7 +128,7 @@ def wrong_advance(session, model, lines):
 
 
 def wrong_call(session, model, chosen):
-    """Makes a call for a pending pattern at random."""
+    """Makes a random call for a pending pattern."""
     kind = chosen.choice(("begin", "begin", "advance", "advance", "advance", "window", "window", "cancel", "broken"))
     if kind == "begin":
         pattern = chosen.choice(PATTERNS) if chosen.random() < 0.7 else spelled(Maker(chosen, most_nodes=20).tree())
@@ -152,8 +152,8 @@ def wrong_call(session, model, chosen):
 
 
 def wrong_pending(session, commands, chosen):
-    """What is wrong with a session of commands, between which calls for a pending pattern are made, up to the first that is
-    wrong; and with the end of each pending search."""
+    """What is wrong with a session of commands and calls for a pending pattern between them, up to the first wrong answer;
+    and with the end of each pending search."""
     model = Model()
     for place, command in enumerate(commands):
         for _ in range(chosen.randrange(4)):
@@ -175,7 +175,7 @@ def wrong_pending(session, commands, chosen):
 
 
 def wrong_at(session, text, one, done, pattern):
-    """What is wrong with the pending rows once an edit is made with so many lines done, on the way back and forward."""
+    """What is wrong with the pending rows after an edit with this number of lines done, after its undo, and after its redo."""
     start, stop, new, after_edit = one
     session.set_text(text)
     session.begin_pattern(pattern)
@@ -199,7 +199,7 @@ def wrong_at(session, text, one, done, pattern):
 
 
 def small_pending(length):
-    """What is wrong after each edit of each text of so many characters over CR, LF and `a`, with each number of lines done."""
+    """The same for each edit of each text of this number of characters from CR, LF and `a`, with each number of lines done."""
     with rope_search.Session() as session:
         for text in map("".join, itertools.product(SMALL, repeat=length)):
             for one, done in itertools.product(edits_of(text), range(len(lines_of(text)))):

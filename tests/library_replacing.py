@@ -1,5 +1,5 @@
-"""Matches of a report replaced by the library, one alone or all of some lines, beside the model: the text, the report, the
-ranges and the rows after each, why it is refused, and the way back."""
+"""Matches of a report replaced by the library, one or all of some lines, compared with the model: the text, the report,
+the ranges and the rows after each, why it is refused, and its undo."""
 import random
 
 from library import rope_search
@@ -16,7 +16,7 @@ TEMPLATES = ("", "x", "$0", "<$0>", "$1", "$2$1", "$1\n$0", "\r", "\n", "$$1$9",
 
 
 def places_of_match(text, line, pattern, number):
-    """Where a listed match starts and ends in the text's bytes, and the texts of its groups."""
+    """The byte range of a listed match, and the texts of its groups."""
     start, end = lines_of(text)[line]
     own, before = text[start:end].encode(), len(text[:start].encode())
     groups = matches_with_groups(pattern, text[start:end])[number]
@@ -41,13 +41,13 @@ def replaced(text, pattern, line, number, template):
 
 
 def rows_allowed(template, inserted):
-    """How many rows may be made: one for groups that a template names, and one for each line of what comes."""
+    """The number of rows that may be made: one if the template names a group, and one for each line of the replacement."""
     named = any(f"${number}" in template.decode().replace("$$", "") for number in range(1, 10))
     return int(named) + len(lines_of(inserted))
 
 
 def wrong_replacement(session, text, pattern, line, number, template):
-    """What is wrong with a match that is replaced; and the text that is left."""
+    """What is wrong with the replacement of a match; and the text after it."""
     due, counted, told = replaced(text, pattern, line, number, template), session.counted, session.text_changes
     got = answered(session.replace_match, line, number, template)
     if isinstance(due, type):
@@ -67,7 +67,7 @@ def wrong_replacement(session, text, pattern, line, number, template):
 
 
 def some_match(chosen, text, pattern):
-    """A listed match of a text, or now and then one that isn't there."""
+    """A listed match of a text, or sometimes one that doesn't exist."""
     listed = [(line, number) for line, row in enumerate(rows_of(text, pattern)) for number in range(len(row))] if pattern is not None else []
     if listed and chosen.random() < 0.8:
         return chosen.choice(listed)
@@ -75,7 +75,7 @@ def some_match(chosen, text, pattern):
 
 
 def wrong_replacements(seed):
-    """What is wrong with matches that are replaced one after the other, and with the way back."""
+    """What is wrong with matches that are replaced one after the other, and with their undo."""
     chosen = random.Random(f"replace {seed}")
     text = some_text(chosen, 14)
     pattern = chosen.choice(PATTERNS) if chosen.random() < 0.5 else spelled(Maker(chosen, most_nodes=20).tree())
@@ -102,7 +102,7 @@ def wrong_replacements(seed):
 # ---- all matches of some lines
 
 def listed_places(text, pattern, first, last):
-    """The listed matches of some lines, a list for each: where each starts and ends, and the texts of its groups."""
+    """The listed matches of some lines, a list for each: their byte ranges, and the texts of their groups."""
     rows = rows_of(text, pattern)
     return [[places_of_match(text, line, pattern, number) for number in range(len(rows[line]))]
             for line in range(first, min(last, len(rows)))]
@@ -127,7 +127,7 @@ def replaced_listed(text, pattern, first, last, template):
 
 
 def wrong_listed_replacement(session, text, pattern, first, last, template):
-    """What is wrong with the matches of some lines that are replaced; and the text that is left."""
+    """What is wrong with the replacement of the matches of some lines; and the text after it."""
     due, counted, told = replaced_listed(text, pattern, first, last, template), session.counted, session.text_changes
     count = session.count_matches(first, last)
     got = answered(session.replace_listed, first, last, template)
@@ -147,7 +147,7 @@ def wrong_listed_replacement(session, text, pattern, first, last, template):
 
 
 def wrong_listed_replacements(seed):
-    """What is wrong with the matches of some lines that are replaced, again and again, and with the way back."""
+    """What is wrong with repeated replacements of the matches of some lines, and with their undo."""
     chosen = random.Random(f"replace listed {seed}")
     text = some_text(chosen, 14)
     pattern = chosen.choice(PATTERNS) if chosen.random() < 0.5 else spelled(Maker(chosen, most_nodes=20).tree())

@@ -1,6 +1,7 @@
-/* How much stack calls of the library take. Each list of calls runs on a thread of its own, whose stack is filled with one
- * byte before: what differs from it afterwards was used. It prints the name of each list and the bytes beyond those of a
- * thread that calls nothing. The status is 1 if a list takes more bytes than the argument says, if there is one. */
+/* Measures the stack that calls of the library use. Each list of calls runs on its own thread, whose stack is filled with
+ * one value first: bytes that differ afterwards were used. It prints the name of each list, and the bytes that it used
+ * beyond those of a thread that calls nothing. The status is 1 if a list uses more bytes than the argument, if there is
+ * one. */
 #include "rope_search.h"
 #include <pthread.h>
 #include <stdio.h>
@@ -24,7 +25,7 @@ static char *repeated(char *to, const char *part, size_t count)
     return to;
 }
 
-/* A part so many times, what is inside, and another part as often. */
+/* A part repeated this many times, the inner text, and another part repeated as often. */
 static char *nested(const char *front, size_t count, const char *inside, const char *back)
 {
     char *pattern = malloc((strlen(front) + strlen(back)) * count + strlen(inside) + 1);
@@ -37,7 +38,7 @@ static void set_text(rope_search *s, const char *text)
     (void)rope_search_set_text(s, (const uint8_t *)text, strlen(text));
 }
 
-/* All calls that read a pattern or search for it. */
+/* All calls that parse a pattern or search for it. */
 static void search(rope_search *s, char *pattern)
 {
     static const uint8_t by[] = "$9$1$0";
@@ -48,7 +49,9 @@ static void search(rope_search *s, char *pattern)
     rope_search_match match;
     rope_search_group groups[10];
     rope_search_listed listed;
+    uint8_t out[64];
     (void)rope_search_pattern_error(bytes, len, &error);
+    (void)rope_search_escape(bytes, len, out, sizeof out, &count);
     (void)rope_search_set_pattern(s, bytes, len);
     (void)rope_search_next(s, start, &match);
     (void)rope_search_groups_at(s, 0, 0, groups, 10);
@@ -153,7 +156,7 @@ static void *run(void *given)
     return NULL;
 }
 
-/* How many bytes of its stack a thread used that makes these calls. */
+/* The number of stack bytes that a thread used for these calls. */
 static size_t used_by(unsigned char *stack, const struct list *list)
 {
     pthread_attr_t attributes;

@@ -1,5 +1,5 @@
 """The ranges of bytes that the library reports as replaced, and its number of undo steps, compared with a mirror: the
-expected ranges, and the old text with each range replaced by the new text's range, from the last one back."""
+expected ranges, and the old text with each range replaced by the new text's range, from the last to the first."""
 import functools
 import itertools
 import random
@@ -62,8 +62,8 @@ def composed(length, steps):
 
 
 def applied(old, new, ranges):
-    """The old text with each range replaced by the new one's, as a client that mirrors it does: from the last one
-    back."""
+    """The old text with each range replaced by the new text's, from the last to the first, as in a client that mirrors the
+    text."""
     for first, last, start, stop in reversed(ranges):
         old = old[:first] + new[start:stop] + old[last:]
     return old
@@ -72,7 +72,7 @@ def applied(old, new, ranges):
 def wrong_ranges(old, new, told, due):
     """What is wrong with the ranges that are reported for two texts in bytes."""
     if due is not None and told != due:
-        yield f"{told} are told, not {due}"
+        yield f"{told} are reported, not {due}"
     ends = [(0, 0), *((last, stop) for _, last, _, stop in told)]
     for (at, at_new), (first, last, start, stop) in zip(ends, told):
         if not (at <= first <= last <= len(old) and at_new <= start <= stop <= len(new)):
@@ -157,7 +157,7 @@ def wrong_told(session, mirror, old, place):
     """What is wrong with what a session reports after a command that the mirror executed."""
     model, number = mirror.model, mirror.model.chosen
     told = [tuple(one) for one in session.text_changes]
-    wrong = [] if told == mirror.told[number] else [f"{told} are told, not {mirror.told[number]}"]
+    wrong = [] if told == mirror.told[number] else [f"{told} are reported, not {mirror.told[number]}"]
     if old is not None:
         wrong += wrong_ranges(old.encode(), model.buffer.text.encode(), told, None)
     steps = (model.buffer.at, len(model.buffer.texts) - model.buffer.at - 1)
@@ -346,4 +346,4 @@ def wrong_join(session, text, one, other):
 
 def told_other(session, due, undo, redo):
     told, steps = [tuple(one) for one in session.text_changes], (session.undo_steps, session.redo_steps)
-    return [] if told == due and steps == (undo, redo) else [f"{told} and {steps} are told, not {due} and {undo}, {redo}"]
+    return [] if told == due and steps == (undo, redo) else [f"{told} and {steps} are reported, not {due} and {undo}, {redo}"]

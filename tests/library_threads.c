@@ -1,4 +1,4 @@
-/* Sessions on several threads at once, each on its own. */
+/* Several threads at once, each with its own session. */
 #include "rope_search.h"
 #include <pthread.h>
 #include <string.h>

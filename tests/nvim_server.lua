@@ -1,13 +1,5 @@
--- examples/language_server by the client of Neovim, headless: after each key, undo, second document and
--- other pattern the diagnostics are those of a search anew of the buffer's lines, written here.
-if not vim.lsp.start then
-  -- As Neovim 0.8 has it, for 0.7: one server for all buffers.
-  local started
-  vim.lsp.start = function(config)
-    started = started or vim.lsp.start_client(config)
-    vim.lsp.buf_attach_client(0, started)
-  end
-end
+-- examples/language_server with the client of Neovim, headless: after each key, undo, second document and
+-- change of the pattern, the diagnostics are those of a new search of the buffer's lines, written here.
 dofile(os.getenv("SERVER_LINES"))
 
 -- The matches of the first of some literals, in a line: from the left, none within another.

@@ -1,14 +1,14 @@
-// A library to preload into a program: it counts the program's requests for memory and can refuse
-// one of them, or one and all that follow, or those for many bytes. It asks the GNU C library itself for what it grants.
+// A library to preload into a program. It counts the program's requests for memory, and can refuse one of
+// them, or one and all later ones, or those for many bytes. It passes the others on to the GNU C library.
 //
-//   REFUSE_MEMORY_AT=N       refuses the N-th request alone, counted from 1
-//   REFUSE_MEMORY_FROM=N     refuses the N-th request and each one after it
+//   REFUSE_MEMORY_AT=N       refuses only the N-th request, counted from 1
+//   REFUSE_MEMORY_FROM=N     refuses the N-th request and all later ones
 //   REFUSE_MEMORY_ABOVE=N    refuses each request for more than N bytes
-//   REFUSE_MEMORY_TELL=FILE  writes 'COUNT LARGEST TOTAL PEAK' and LF to FILE as the program ends: the
-//                            number of requests, the most bytes that one of them asked for, the bytes
-//                            that all of them asked for, and the most that were held at a time
+//   REFUSE_MEMORY_TELL=FILE  writes 'COUNT LARGEST TOTAL PEAK' and LF to FILE when the program ends: the
+//                            number of requests, the size of the largest, the sum of their sizes, and the
+//                            greatest number of bytes held at a time
 //
-// Requests made before the library is set up, by the dynamic loader, are granted and not counted.
+// Requests of the dynamic loader, before the library is set up, are granted and not counted.
 
 #include <errno.h>
 #include <fcntl.h>
@@ -34,7 +34,7 @@ static unsigned long refuse_at;
 static unsigned long refuse_from;
 static unsigned long refuse_above;
 
-// Counts a request for so many bytes, and answers whether it is refused.
+// Counts a request for this number of bytes, and returns whether it is refused.
 static int refused(size_t bytes)
 {
     if (!ready)
@@ -53,7 +53,7 @@ static void *refusal(void)
     return NULL;
 }
 
-// Counts memory that is held from now on.
+// Counts memory that was granted.
 static void *granted(void *memory)
 {
     held += malloc_usable_size(memory);

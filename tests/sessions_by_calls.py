@@ -1,5 +1,5 @@
-"""Sessions at random by calls of the library that C links, in one process, beside a plain model of it. The program is in
-Rust, in tests/sessions; it is built with rustc and the static library, and takes what Unicode says from Python."""
+"""Random sessions by calls of the library for C, in one process with a plain model. The program is in Rust, in
+tests/sessions; it is built with rustc and the static library, and reads data of Unicode that Python writes."""
 import base64
 import functools
 import os
@@ -13,8 +13,8 @@ from pattern_model import folded_alike, letter_class
 
 STATIC_LIBRARY = os.path.join(LIBRARY_FOLDER, "librope_search.a")
 GUIDED = os.path.join(TOP, "tests", "guided.txt")
-KEPT = os.environ.get("SESSIONS_ROOM")  # a folder that keeps the program, and what it reads, from run to run
-LEAST_RUSTC = 85  # which has the edition of 2024
+KEPT = os.environ.get("SESSIONS_ROOM")  # a folder that keeps the program and its files from run to run
+LEAST_RUSTC = 85  # the first with the 2024 edition
 BUILD = ["--edition", "2024", "-O", "-C", "panic=abort", "-C", "link-arg=-Wl,--wrap=malloc,--wrap=realloc,--wrap=free"]
 
 
@@ -61,7 +61,7 @@ def built():
 
 
 def ran(what, *words):
-    """What the program prints of some sessions, and its status."""
+    """The output of the program for some sessions, and its status."""
     words = [built()[0], unicode_file(), what, *map(str, words)]
     settings = {"stdin": subprocess.DEVNULL, "stdout": subprocess.PIPE, "text": True, "errors": "replace"}
     done = subprocess.run(words, check=False, env={**os.environ, "RUST_BACKTRACE": "0"}, **settings)
@@ -69,7 +69,7 @@ def ran(what, *words):
 
 
 def compared(*words):
-    """What is to be said of sessions that fail, and the number of those that were compared in part."""
+    """Messages about sessions that fail, and the number of those that were compared in part."""
     said, status = ran(*words)
     *failed, last = said.rstrip("\n").split("\n")
     counts = last.split(" ")
@@ -85,7 +85,7 @@ def failures(seed, first, count, is_quick=False):
 
 
 def failures_of(paths):
-    """What is to be said of the sessions that the bytes of files choose and that fail."""
+    """Messages about failing sessions among those that the bytes of files choose."""
     return compared("bytes", *paths)[0]
 
 
@@ -101,7 +101,7 @@ def write_guided(folder):
 
 
 def failures_of_guided():
-    """What is to be said of the sessions of tests/guided.txt that fail, and how many there are."""
+    """Messages about failing sessions of tests/guided.txt, and the number of its sessions."""
     with tempfile.TemporaryDirectory(dir=ROOM) as folder:
         paths = write_guided(folder)
         return failures_of(paths), len(paths)

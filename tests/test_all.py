@@ -196,11 +196,11 @@ def again_with_one_cache():
 
 
 def test_all():
-    test("a search for all matches with a cache that served before asks for no memory", again_with_one_cache())
+    test("a search for all matches with a used cache requests no memory", again_with_one_cache())
     check_memory(about(["a|ab", "(b)+"], b"abb", "1 1 3", 1), [WANT, PROGRAM_WANT])
     check_memory(about_list(["a", "(b)+?"], b"ab", "1 1 2", 1), [WANT, PROGRAM_WANT])
-    test("searches for all matches answer as they should", problems(vectors()))
-    test("searches for all matches at random answer as the model", problems(at_random()))
-    test("all that is found where all matches are wanted is as it should be", problems(lists()))
-    test("and at random it is as the model has it", problems(lists_at_random()))
-    test("searches for all matches in all spans of short haystacks answer as the model", problems(spans()))
+    test("searches for all matches return the expected ones", problems(vectors()))
+    test("random searches for all matches, compared with the model", problems(at_random()))
+    test("lists under MatchKind::All are the expected ones", problems(lists()))
+    test("random lists under MatchKind::All, compared with the model", problems(lists_at_random()))
+    test("searches for all matches in all spans of short haystacks, compared with the model", problems(spans()))

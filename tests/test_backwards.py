@@ -265,17 +265,17 @@ def in_cut_characters():
 def test_all():
     check_memory(about(["a|ab", "(b)+"], b"abb", "1 1", 1), [WANT])
     check_memory(about(["\\b(a|é)+b"], "aéb".encode(), "0 0", 1), [WANT])
-    # Without any room a search after a refused one may give up: so these have as much room as they need.
+    # Without room in the cache a search after a refused one may give up, so these have enough.
     case = about(["(a)|b", "[a-é]+b"], "xéab".encode(), "1 0", 2, times=0, room=None, by="by_table")
     check_memory(case, [WANT, b"again"], f"{case.answer}\n".encode())
-    test("searches backwards answer as they should", problems(vectors()))
-    test("searches backwards at random answer as the model", in_runs(cases_of(drawn(RANDOM_CASES, 56))))
-    test("searches backwards in all spans of short haystacks answer as the model", in_runs(cases_of(in_spans())))
-    test("searches backwards from ends past the content answer as the model", in_runs(cases_of(past_contents())))
+    test("backward searches return the expected matches", problems(vectors()))
+    test("random backward searches, compared with the model", in_runs(cases_of(drawn(RANDOM_CASES, 56))))
+    test("backward searches in all spans of short haystacks, compared with the model", in_runs(cases_of(in_spans())))
+    test("backward searches from ends past the haystack, compared with the model", in_runs(cases_of(past_contents())))
     wrong = problems(cases_of(in_cut_characters()))
-    test("searches backwards in contents that are no UTF-8 answer as the model", wrong)
+    test("backward searches in haystacks that are not UTF-8, compared with the model", wrong)
     wrong, how = by_tables(tables())
-    test(f"automata of programs turned round answer as the model: {how}", wrong)
+    test(f"automata of reversed programs, compared with the model: {how}", wrong)
     for name, rows, *how in (("two states", IN_TWO_STATES, 0, 0), ("all states", IN_ALL_ROOM + QUITS, 1, ALL_ROOM)):
         wrong = problems(told_by_tables(rows, *how))
-        test(f"automata of programs turned round with a cache that has room for {name} answer as they should", wrong)
+        test(f"automata of reversed programs with a cache for {name} return the expected matches", wrong)

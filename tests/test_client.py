@@ -93,7 +93,7 @@ def test_replies():
                 wrong.append(f"of {reply[:length]!r} it reads {read_reply(io.BytesIO(reply[:length]))!r}")
             except EOFError as error:
                 wrong += [] if error.args == (reply[:length],) else [f"of {reply[:length]!r} it tells {error.args}"]
-    test("a reply that is cut short is told, with what there is of it", wrong)
+    test("a truncated reply is reported, with the part that was read", wrong)
     reply, Counted.additions = listed(MATCHES), 0
     try:
         wrong = [] if read_reply(CountedLines(reply)) == reply else ["it reads another reply"]
@@ -122,7 +122,7 @@ def test_commands():
 
 
 class Killing:
-    """Replies, in the middle of which the child is killed."""
+    """Replies during which the child is killed."""
 
     def __init__(self, search):
         self.search, self.replies = search, search.replies
@@ -146,7 +146,7 @@ def test_endings():
     reply = search.ask(b"jump\n")
     test("a line that is no command is answered", [] if reply == b"error command\n" else [f"{reply!r}"])
     wrong = wrong_ending(lambda: search.ask(b"print\n"), 2, "ended")
-    test("and ends the program, which is told with its status", wrong)
+    test("and ends the program, which is reported with its status", wrong)
     text = "".join(f"{number:7}x\n" for number in range(MATCHES)).encode()
     for name, asked in (("list", b"list\n"), ("print", b"print\n")):
         search = Client(PROGRAM)
@@ -155,17 +155,17 @@ def test_endings():
         ended = ended_of(lambda: search.ask(asked))
         wrong = ["it isn't told"] if ended is None else []
         if ended and (ended.status != -signal.SIGKILL or not whole.startswith(ended.reply) or whole == ended.reply):
-            wrong.append(f"it is told with {ended.status} and {len(ended.reply)} bytes of {len(whole)}")
-        test(f"a child killed within the reply to {name} is told by the signal, and no reply is given", wrong)
+            wrong.append(f"it is reported with {ended.status} and {len(ended.reply)} bytes of {len(whole)}")
+        test(f"a child killed during the reply to {name} is reported with the signal, and no reply is returned", wrong)
         test("it stays ended", wrong_ending(lambda: search.ask(b"print\n"), -signal.SIGKILL, "ended"))
         test("and is closed", [] if search.close() == -signal.SIGKILL else [f"with {search.close()}"])
     cut = program("cut", "read line; printf 'm 0 1 2\\nm 0 3'; echo 'no more' >&2; exit 7")
-    test("a child's message is told", wrong_ending(lambda: Client(cut).ask(b"list\n"), 7, "no more", b"m 0 1 2\nm 0 3"))
+    test("a child's message is reported", wrong_ending(lambda: Client(cut).ask(b"list\n"), 7, "no more", b"m 0 1 2\nm 0 3"))
     silent, part = "while read -r line; do :; done", "printf 'm 0 1 2\\n'; while read -r line; do :; done"
     for name, lines in (("reads nothing", "exec sleep 1000"), ("tells nothing", silent), ("tells a part", part)):
         search = Client(program("silent", lines), timeout=0.3)
         wrong = wrong_ending(lambda: search.ask(command(b"text", bytes(100_000))), -signal.SIGKILL, "within 0.3 s")
-        test(f"a child that {name} is stopped once its time is over", wrong)
+        test(f"a child that {name} is stopped at its timeout", wrong)
 
 
 def wrong_sessions(seed):

@@ -369,8 +369,8 @@ def orphaned(data, hears):
 
 
 def wrong_without_parent():
-    """A parent that is killed ends the input, so a command that is cut off is told; where it alone heard the replies, the
-    next write fails, also one that waits for room."""
+    """If the parent is killed, the input ends, and a truncated command is reported; if only the parent read the replies,
+    the next write fails, also one that waits for space."""
     becomes_parent = ctypes.CDLL(None).prctl
     becomes_parent(PR_SET_CHILD_SUBREAPER, 1, 0, 0, 0)
     cut = b"text 5\nab abprint\ntext 9\nabc"

@@ -1,4 +1,4 @@
-"""The examples of the pages: the session of `make demo`, by hand too, and code."""
+"""The examples of the pages: the session of `make demo`, also as a shell line, and code."""
 import glob
 import os
 import re
@@ -20,7 +20,7 @@ def test_demo():
     told = "".join(line for line in shown.splitlines(True) if not line.startswith("> "))
     test("the demo shows what the program answers to the whole session", [] if told == out else [f"it shows {told!r}"])
     tried = [sys.executable, "-c", "import demo, sys; sys.exit(demo.show_tried(sys.argv[1]))", session]
-    environment = dict(os.environ, RT=PROGRAM)  # which ignores that it is told to try
+    environment = dict(os.environ, RT=PROGRAM)  # which ignores the word `try`
     ended = subprocess.run(tried, cwd=os.path.dirname(demo), env=environment, stdout=subprocess.PIPE)
     first, _, rest = ended.stdout.decode().partition("\n")
     same = ended.returncode == 0 and first and rest == shown
@@ -86,7 +86,7 @@ def test_code():
 
 
 def naming(pattern):
-    """The files of the crates from reports up that name something of regexes, except in ghost imports."""
+    """The files of the crates from reports up that use regexes, except in ghost imports."""
     named, found = re.compile(rf"^(?!ghost use ).*\b{pattern}\b", re.MULTILINE), set()
     for path in glob.glob(os.path.join(TOP, "crates", "rope_search*", "src", "**", "*.rt"), recursive=True):
         with open(path, encoding="utf-8") as file:
@@ -101,7 +101,7 @@ def test_one_regex():
     found = naming("regex_cursor::engines")
     test("one file has the regex of a report", [] if found == {home} else [f"it is in {sorted(found)}"])
     found = naming("regex_cursor")
-    due = {home, "explaining.rt"}  # the other one reexports why a text is no pattern
+    due = {home, "explaining.rt", "escaping.rt"}  # the other two re-export why a text is no pattern, and how to escape one
     test("and names what it is made of", [] if found == due else [f"others name it: {sorted(found ^ due)}"])
 
 

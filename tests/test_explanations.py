@@ -216,7 +216,7 @@ def patterns():
 
 def test_all():
     rows = explained()
-    test(f"{len(rows)} rows, as the page has them, tell where and why patterns are refused", wrong_reasons(rows))
+    test(f"where and why patterns are refused, in {len(rows)} rows of the page", wrong_reasons(rows))
     test(f"places and reasons of {len(EXPLAINED)} texts, long, deep or under settings", wrong_under_settings())
     rows = patterns()
     test(f"{len(rows)} patterns aren't refused", problems(rows))

@@ -1,5 +1,5 @@
-"""The first sessions at random of tests/fuzz, of the program and of the library, and that one that fails is shortened to
-what is wrong in it; the sessions that tests/guided found; and the model of the library's sessions, which is in Rust, beside
+"""The first random sessions of tests/fuzz, of the program and of the library; that a failing one is shortened to its fewest
+commands; the sessions that tests/guided found; and the model of the library's sessions, which is in Rust, compared with
 Python's models."""
 import os
 import re
@@ -40,7 +40,7 @@ def wrong_shortening_by_calls():
 
 
 def wrong_kinds():
-    """The model has each call of the header, but for two that are read after each command and those that it says it lacks."""
+    """The model has each call of the header, except two that are read after each command and those that it names as lacking."""
     with open(os.path.join(TOP, "include", "rope_search.h"), encoding="utf-8") as header:
         declared = set(re.findall(r"\brope_search_(\w+)\(", header.read()))
     with open(os.path.join(TOP, "tests", "sessions", "calls.rs"), encoding="utf-8") as file:

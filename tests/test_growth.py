@@ -1,8 +1,8 @@
-"""That all matches take time in proportion to the text, under patterns whose searches read on behind what they find: in
-the lines of a report and in a whole text, by bin/rope-search, and in one content, in lists and one after the other, by a
-`Regex` and by the PikeVM, on bin/search-driver; and that other inputs of bin/rope-search do that are the worst known of their
-kind, as bench/proportion.py measures them. No clock is asked: where there is valgrind, its callgrind counts instructions,
-which are the same in each run. Where there is none, that is told, and nothing is tested.
+"""All matches take time in proportion to the text, under patterns whose searches read past the match that they find: in the
+lines of a report and in a whole text, by bin/rope-search, and in one haystack, in lists and one after the other, by a
+`Regex` and by the PikeVM, by bin/search-driver. So do the worst known inputs of each kind of bin/rope-search, as in
+bench/proportion.py. No time is measured: valgrind's callgrind counts instructions, which are the same in each run. Without
+valgrind, a message says so, and nothing is tested.
 """
 import random
 import re
@@ -14,12 +14,11 @@ from harness import PROGRAM, SEARCH_PROGRAM, open_input, test
 from protocol import spelled
 from test_lists import about
 
-# Patterns that match each letter, and whose searches read some letters further or to the line's end; and the contents
-# and the length of the shorter text.
+# Patterns that match each letter, and whose searches read some letters further or to the end of the line; the part that
+# a text repeats, and the number of repetitions in the shorter text.
 LINE = b"a" * 99 + b"\n"
 GROWING = [("(?:a{0,50}b)|a", b"a", 500), (".*x|.", LINE, 5)]
-# Patterns whose searches all read to the end, so that finds, one after the other, would read a quadratic number of
-# bytes.
+# Patterns whose searches all read to the end, so that one search after the other would read a quadratic number of bytes.
 SQUARES = [("a*b|a", b"a", 1_000), ("(?s:.*x)|a", LINE, 10)]
 
 
@@ -28,7 +27,7 @@ def given(word, payload):
 
 
 def many_states(count):
-    """A pattern whose automaton has a state for each of the last twenty letters."""
+    """A pattern whose automaton has states for each sequence of the last twenty letters."""
     text = bytes(random.Random(5).choices(b"ab", k=count))
     return given("text", text) + given("pattern", b"(a|b)*a(a|b){20}") + b"next 0 0\nuse 0\n"
 
@@ -38,12 +37,12 @@ def empty_lines(count):
 
 
 def heavy_pattern(count):
-    """A pattern of weight 250,000, most of which each letter goes through."""
+    """A pattern of weight 250,000, most of whose states each letter visits."""
     return given("text", b"a" * count) + given("pattern", b"(?:(?:a?){290}){290}") + b"use 0\n"
 
 
 def history(count):
-    """Letters typed under a pattern, then as many steps back and forward."""
+    """Letters typed under a pattern, then as many undos and redos."""
     typed = b"".join(spelled("edit", (line % 50, 0, line % 50, 0, 1), b"a") for line in range(count))
     return given("text", b"a line\n" * 50) + given("pattern", b"a+") + typed + b"undo\n" * count + b"redo\n" * count + b"use 0\n"
 
@@ -54,11 +53,11 @@ def buffers(count):
     return given("text", b"one two\n" * 10) + b"".join(some) + b"use 0\n"
 
 
-# So many times as long is the longer text, and so many times the instructions are too many. Those of no text are taken
-# off both.
+# The length of the longer text as a multiple of the shorter one, and the multiple of instructions that is too many. The
+# instructions for no text are subtracted from both.
 LONGER, TOO_MANY = 4, 6
-# Inputs of a size, whose last reply is `ok`, the smaller size, and how many times the instructions are too many. At first
-# an automaton makes a state for each letter, and each takes longer the more there are, up to the room that it has.
+# Inputs of a size, whose last reply is `ok`, the smaller size, and the multiple of instructions that is too many. At first
+# an automaton makes a state for each letter, and each takes longer the more there are, up to its capacity.
 WORST = [(many_states, 2_000, 9), (empty_lines, 1_000, TOO_MANY), (heavy_pattern, 8, TOO_MANY), (history, 250, TOO_MANY),
          (buffers, 20, TOO_MANY)]
 
@@ -102,7 +101,7 @@ WAYS = {**LISTS, "by a Regex": by_regex, "by the PikeVM": by_pikevm}
 
 
 def instructions(program, data, end):
-    """The number of instructions of a program over its input, and what is wrong with the run."""
+    """The number of instructions of a program for its input, and what is wrong with the run."""
     words = ["valgrind", "--tool=callgrind", "--callgrind-out-file=/dev/null", program]
     with open_input(data) as given:
         ran = subprocess.run(words, stdin=given, stdout=subprocess.PIPE, stderr=subprocess.PIPE, check=False)
@@ -118,12 +117,12 @@ def growth(way, pattern, part, count):
 
 
 def growth_of(worst, count, too_many):
-    """The same of the inputs of a size."""
+    """The same for inputs of a size."""
     return wrong_growth([(PROGRAM, worst(size), b"ok\n") for size in (0, count, LONGER * count)], too_many)
 
 
 def wrong_growth(runs, too_many=TOO_MANY):
-    """What is wrong with the instructions of three runs: of nothing, of some size and of the longer one."""
+    """What is wrong with the instructions of three runs: for nothing, for a size, and for the longer one."""
     (none, *wrong), (once, *second), (grown, *third) = (instructions(*run) for run in runs)
     once, grown = once - none, grown - none
     yield from wrong[0] + second[0] + third[0]
@@ -133,7 +132,7 @@ def wrong_growth(runs, too_many=TOO_MANY):
 
 def test_all():
     if shutil.which("valgrind") is None:
-        print("skipped: there is no valgrind, so no instructions are counted")
+        print("skipped, no valgrind: counts of instructions")
         return
     for (pattern, part, count), ways in [*((row, WAYS) for row in GROWING), *((row, LISTS) for row in SQUARES)]:
         for name, way in ways.items():

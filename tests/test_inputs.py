@@ -182,5 +182,5 @@ def test_all():
         cases = list(cases)
         test(f"{len(cases)} {name}", problems(cases))
     cases = list(looks_between())
-    test(f"the looks in {len(cases)} contents are those that are told", [*wrong_looks(), *problems(cases)])
+    test(f"the assertions that hold in {len(cases)} haystacks", [*wrong_looks(), *problems(cases)])
     test("positions move into each span from each place", wrong_moves())

@@ -639,21 +639,21 @@ def wrong_refusals():
         client.send(frame(sent))
         told = client.since()
         if [one.get("method") for one in told] != ["window/logMessage"] or told[0]["params"]["type"] != 1:
-            yield f"{sent} is told as {told}"
+            yield f"{sent} is reported as {told}"
         if not goes_on(client):
             yield f"after {sent} the server doesn't go on"
     for settings, due in SETTINGS:
         client.notify("workspace/didChangeConfiguration", settings=settings)
         told = client.since()
         if [one.get("method") for one in told] != ["window/showMessage"] or due not in told[0]["params"]["message"]:
-            yield f"{str(settings)[:80]} is told as {told}"
+            yield f"{str(settings)[:80]} is reported as {told}"
     client.change("a", 10, ("TODO one\nTODO",))
     if (got := client.published()) != [("a", [(0, 0, 4, "TODO"), (1, 0, 4, "TODO")])]:
         yield f"after refused settings it publishes {got}"
     client.end()
     client = Client()
     if code(client.begin(options={"pattern": "("})) is not None or [one["method"] for one in client.told] != ["window/showMessage"]:
-        yield f"options that are refused are told as {client.told}"
+        yield f"refused options are reported as {client.told}"
     client.open("a", "TODO (")
     if client.published() != [("a", [(0, 0, 4, "TODO")])]:
         yield "after options that are refused the pattern isn't the default"
@@ -759,7 +759,7 @@ def test_neovim():
                           cwd=ROOM, check=False, env=dict(os.environ, **ENVIRONMENT, SERVER_LINES=lines, XDG_STATE_HOME=ROOM,
                                                           XDG_CACHE_HOME=ROOM))
     said = (done.stdout + done.stderr).splitlines()
-    test("Neovim's client: what is typed, undone, opened and searched for, beside a search anew",
+    test("Neovim's client: what is typed, undone, opened and searched for, compared with a new search",
          [] if done.returncode == 0 else [*said[:20], f"ended with {done.returncode}"])
 
 

@@ -1,6 +1,6 @@
-"""The library that C links: its declarations, the worked inputs and sessions at random by its calls beside what the
-program replies, what its copies leave in a caller's array, calls of closed sessions, and programs in C, C++ and Lua,
-under sanitizers and valgrind, on a stack that is measured, and with each of its requests for memory refused in turn.
+"""The library for C: its declarations; the worked inputs and random sessions by its calls, compared with the program's
+replies; what its copies leave in a caller's array; calls of closed sessions; and programs in C, C++ and Lua, under
+sanitizers and valgrind, on a measured stack, and with each request for memory refused in turn.
 """
 import ctypes
 import itertools
@@ -15,6 +15,7 @@ from harness import LIBRARY, LIBRARY_FOLDER, PROGRAM, ROOM, SECONDS, SONAME, TOP
 from library import replies, reply, rope_search
 from library_changes import wrong_changes
 from library_edits import wrong_many, wrong_with
+from library_escapes import wrong_matches, wrong_rooms, wrong_rows, wrong_singles
 from library_groups import wrong_groups
 from library_in_c import STRICT, test_stack, test_under_tools
 from library_lines import wrong_edits, wrong_long, wrong_numbers, wrong_small
@@ -23,6 +24,7 @@ from library_pane import wrong_document
 from library_pending import small_pending, wrong_pending
 from library_replacing import wrong_listed_replacements, wrong_replacements
 from library_text_changes import small_changes, small_joins, wrong_after_edits, wrong_text_changes
+from library_text_matches import wrong_text_matches
 from protocol import Session, lines_of, place_of, position_at, positions_of, read_commands, spelled, units
 from random_patterns import Maker
 from test_edits import BACK_AND_FORWARD, OF_ALL_KINDS, SESSIONS, SESSIONS_IN_RUN, some_sessions
@@ -31,10 +33,11 @@ from test_pattern_model import mangled
 from test_replies import MORE_EXAMPLES, examples_of_page
 
 HEADER = os.path.join(TOP, "include", "rope_search.h")
-EDITED, GROUPED, LISTED, MANGLED = 4_000, 1_000, 2_000, 2_000
+EDITED, ESCAPED, GROUPED, LISTED, MANGLED = 4_000, 2_000, 1_000, 2_000, 2_000
 # The name of a parameter of C, behind its type.
+# The name of a parameter of C, after its type.
 PARAMETER = re.compile(r"\s*\b(?!const\b|size_t\b|bool\b|void\b|u?int\d+_t\b|rope_search\w*\b)\w+$")
-# Where programs find the modules of the bindings, and these the library.
+# The paths under which programs find the modules of the bindings, and these the library.
 PATHS = {
     "PYTHONPATH": os.path.join(TOP, "bindings", "python"),
     "LUA_PATH": os.path.join(TOP, "bindings", "lua", "?.lua"),
@@ -42,7 +45,7 @@ PATHS = {
 }
 
 
-# Neovim, which runs the file of Lua that is named behind these words, and tells how that ended.
+# Neovim, which runs the Lua file that follows these arguments; its status says whether that failed.
 NEOVIM = ["nvim", "--clean", "--headless", "-n", "-c", "lua local done, why = pcall(dofile, vim.v.argv[#vim.v.argv]) "
           "if not done then io.stdout:write(why, '\\n') vim.cmd('cquit 1') end", "-c", "qall!", "--"]
 
@@ -76,7 +79,7 @@ def structures(text):
 
 
 def exported():
-    """The names that the shared library shows."""
+    """The names that the shared library exports."""
     shown = subprocess.run(["nm", "-D", "--defined-only", LIBRARY], stdout=subprocess.PIPE, text=True, check=True)
     return {line.split()[-1] for line in shown.stdout.splitlines() if line}
 
@@ -115,7 +118,7 @@ def test_declarations():
     calls, in_lua = declared(header), declared(lua)
     names = {name: None for name in exported()}
     wrong = differing("shown", names, dict.fromkeys(calls))
-    test("the shared library shows the calls of its header, and nothing else", wrong)
+    test("the shared library exports the calls of its header, and nothing else", wrong)
     wrong = differing("calls", in_lua, calls) + differing("structures", structures(lua), structures(header))
     test("bindings/lua declares what the header does", wrong)
     counts = {f"rope_search_{name}": len(kinds) - 1 for name, kinds in rope_search._CALLS.items()}
@@ -134,8 +137,8 @@ def reasons_declared(header, lua):
 
 
 def wrong_explanations():
-    """What is wrong with where and why texts are no patterns: of the rows of the page, of some more, and of patterns that
-    were mangled, of which `set_pattern` must be refused just where there is a reason."""
+    """What is wrong with where and why texts are no patterns: for the rows of the page, for some more, and for mangled
+    patterns, for which `set_pattern` must be refused exactly if there is a reason."""
     long, deep = "a" * 65_537, "(" * 251 + "a" + ")" * 251
     rows = [(long, None), ("a{65535}{65535}", None), ("(a)", None), ("", None), (deep, (251, rope_search.REASONS[0]))]
     rows += [("é(" + "a" * 60_000, (60_003, rope_search.REASONS[1])), (b"\xff(", rope_search.Utf8)]
@@ -162,6 +165,13 @@ def test_explanations():
     test("where and why texts are no patterns", wrong_explanations())
 
 
+def test_escapes():
+    test("texts escaped for patterns", wrong_rows())
+    test("what escaped texts leave in a caller's array", wrong_rooms())
+    test("matches of escaped characters", wrong_singles())
+    test("matches of escaped texts", [one for seed in range(ESCAPED) for one in wrong_matches(seed)])
+
+
 def wrong_replies(commands, expected):
     told = replies(commands)
     for place, (got, due) in enumerate(zip(told, expected)):
@@ -178,7 +188,7 @@ def test_worked():
         closing = {b"error command\n", b"error end\n", b""}
         if not out.startswith(told) or out[len(told):] not in closing:
             wrong.append(f"{short(data)} is answered {short(told)}, not {short(out)}")
-    test("the worked inputs, by calls, beside what the program replies", wrong)
+    test("the worked inputs, by calls, compared with the program's replies", wrong)
 
 
 def test_sessions():
@@ -191,15 +201,15 @@ def test_sessions():
 
 
 def filled(kind, count):
-    """An array of which each byte is 0xA5."""
+    """An array whose bytes are all 0xA5."""
     made = (kind * count)()
     ctypes.memset(made, 0xA5, ctypes.sizeof(made))
     return made
 
 
 def wrong_copies(session, calls, handle, chosen):
-    """What is wrong with copies of a session's matches and text: whatever is asked, the array's first elements are what
-    was asked for, as many as fit, and the others are as they were."""
+    """What is wrong with copies of a session's matches and text: for each request, the first elements of the array are the
+    result, as many as fit, and the others are not changed."""
     spans, text = session.matches(), session.text_bytes()
     rows, most = session.rows, (1 << 64) - 1
     for _ in range(60):
@@ -275,7 +285,7 @@ def test_places():
 
 
 def test_histories():
-    """Sessions at random once more, with a history dropped now and then: what is there to undo and to redo."""
+    """Random sessions in which the history is sometimes dropped: whether there is something to undo and to redo."""
     wrong, chosen = [], random.Random(2)
     commands = some_sessions("histories", SESSIONS_IN_RUN, BACK_AND_FORWARD).commands
     model = Session()
@@ -296,7 +306,7 @@ def test_histories():
 
 
 def test_changes():
-    """Sessions at random, after each command of which it is asked which rows were replaced."""
+    """Random sessions: the rows that each command replaced."""
     for kind, weights in (("of all kinds", OF_ALL_KINDS), ("back and forward", BACK_AND_FORWARD)):
         wrong = []
         for seed in range(SESSIONS // SESSIONS_IN_RUN // 4):
@@ -306,7 +316,7 @@ def test_changes():
 
 
 def test_text_changes():
-    """Sessions at random, after each command of which it is asked in which ranges the text was replaced."""
+    """Random sessions: the ranges of the text that each command replaced."""
     for kind, weights in (("of all kinds", OF_ALL_KINDS), ("back and forward", BACK_AND_FORWARD)):
         wrong = []
         for seed in range(SESSIONS // SESSIONS_IN_RUN // 4):
@@ -337,9 +347,9 @@ def test_groups():
 
 def test_lines():
     test("lines, clamped positions and matches by each unit, of all texts of three characters", wrong_small())
-    test("the same where lines lie in several chunks", wrong_long())
+    test("the same if lines span several chunks", wrong_long())
     test(f"edits by bytes, {GROUPED} texts at random", [one for seed in range(GROUPED) for one in wrong_edits(seed)])
-    test("bindings/python cuts no number", wrong_numbers())
+    test("bindings/python truncates no number", wrong_numbers())
 
 
 def test_replacing():
@@ -350,7 +360,7 @@ def test_replacing():
 
 
 def test_pending():
-    """Sessions at random, between whose commands a pending pattern is searched in slices."""
+    """Random sessions in which a pending pattern is searched in slices between the commands."""
     for kind, weights in (("of all kinds", OF_ALL_KINDS), ("back and forward", BACK_AND_FORWARD)):
         wrong = []
         for seed in range(SESSIONS // SESSIONS_IN_RUN // 4):
@@ -365,10 +375,12 @@ def test_pending():
 def test_listed():
     wrong = [one for seed in range(LISTED) for one in wrong_listed(seed)]
     test(f"listed matches looked up, in {LISTED} texts at random, beside the model", wrong)
+    wrong = [one for seed in range(LISTED) for one in wrong_text_matches(seed)]
+    test(f"the first matches of whole texts, of {LISTED} texts at random, beside the model", wrong)
 
 
 def answered(call, *arguments):
-    """What a call answers, or why it is refused."""
+    """The result of a call, or why it is refused."""
     try:
         return call(*arguments)
     except rope_search.Fault as fault:
@@ -392,6 +404,7 @@ def test_closed():
         "set_text": (b"a", 1), "edit": (origin, origin, b"a", 1),
         "edit_all": ((rope_search._TextEdit * 1)(), 1, b"", 0), "undo": (), "redo": (),
         "set_pattern": (b"a", 1), "off": (), "next": (origin, rope_search._Match(True)),
+        "next_all": (origin, (rope_search._TextMatch * 1)(), 1, ctypes.c_size_t(7)),
         "replace": (b"a", 1, ctypes.c_size_t(7)), "fork": (ctypes.c_size_t(7),), "choose": (0,),
         "column_in": (8, origin, ctypes.c_size_t(7)), "position_in": (8, 0, 0, rope_search._Position()),
         "forget": (), "keep": (1,), "join": (1,), "byte_of": (origin, ctypes.c_size_t(7)), "position_of": (0, rope_search._Position()),
@@ -413,8 +426,8 @@ def test_closed():
         "listed_before": (origin, rope_search._Listed(7)), "list_index": (0, 0, ctypes.c_size_t(7), ctypes.c_size_t(7)),
         "pending": (ctypes.c_size_t(7),),
     }
-    # Two calls take no session.
-    named = {"version", "open", "close", "counted", "changed", "pattern_error", *refused, *read_only}
+    # Three calls need no session.
+    named = {"version", "open", "close", "counted", "changed", "pattern_error", "escape", *refused, *read_only}
     wrong += [f"no test calls {name}" for name in sorted(set(rope_search._CALLS) - named)]
     for name, arguments in refused.items():
         if (status := getattr(calls, "rope_search_" + name)(handle, *arguments)) != 8:
@@ -428,11 +441,11 @@ def test_closed():
     counts = calls.rope_search_counted(handle)
     if (counts.rows, counts.wholes, handle.is_open) != (0, 0, False):
         wrong.append("counted, or the handle, is something")
-    kept = [refused[name][-1].value for name in ("replace", "replace_listed", "fork", "byte_of", "column_in", "line_len", "window", "count_pending", "copy_pending")]
+    kept = [refused[name][-1].value for name in ("replace", "replace_listed", "fork", "byte_of", "column_in", "line_len", "window", "count_pending", "copy_pending", "next_all")]
     kept.append(refused["clamp"][-1].line)
     kept += [read_only[name][1].line for name in ("listed_from", "listed_before")]
     kept += [count.value for count in (*read_only["list_index"][2:], *read_only["pending"])]
-    if kept != [7] * 15 or not refused["next"][1].found or not refused["advance"][1].value:
+    if kept != [7] * 16 or not refused["next"][1].found or not refused["advance"][1].value:
         wrong.append(f"a call of a closed session writes: {kept}, {refused['next'][1].found}")
     if any(group.found for group in refused["groups_at"][2]):
         wrong.append("groups of a closed session are told")
@@ -463,7 +476,7 @@ def test_opening():
 
 
 def built(name, sources, flags, compiler="cc"):
-    """A program of these sources and the static library, or None where it can't be built."""
+    """A program from these sources and the static library, or None if it can't be built."""
     made = os.path.join(ROOM, name)
     words = [os.environ.get("CC" if compiler == "cc" else "CXX", compiler), *flags, "-I", os.path.join(TOP, "include")]
     words += ["-o", made, *sources, os.path.join(LIBRARY_FOLDER, "librope_search.a"), "-lpthread"]
@@ -497,18 +510,18 @@ def test_programs():
 
 
 def wrong_prints(words, due):
-    """What is wrong with what a program prints, which finds the library and its modules."""
+    """What is wrong with the output of a program that finds the library and its modules."""
     done = subprocess.run(words, stdin=subprocess.DEVNULL, stdout=subprocess.PIPE, stderr=subprocess.STDOUT, timeout=SECONDS,
                           cwd=ROOM, check=False, env=dict(os.environ, **PATHS))
     return [] if (done.returncode, done.stdout.decode()) == (0, due) else [f"it prints {short(done.stdout)}"]
 
 
 def test_page():
-    """The code of docs/embedding.md, each with what it prints. Other code of it is that of pages that it names."""
+    """Each code block of docs/embedding.md, with its output. Code of other ways is on the pages that it links."""
     page = read("docs", "embedding.md")
     blocks = re.findall(r"```(c|python|lua|sh)\n(.*?)```\n\nIt prints\n\n```text\n(.*?)```", page, flags=re.S)
     kinds = [kind for kind, _, _ in blocks]
-    test("docs/embedding.md has code in four languages", [] if kinds == ["c", "python", "lua", "python", "c", "sh"] else [f"in {kinds}"])
+    test("docs/embedding.md has code in four languages", [] if kinds == ["c", "python", "lua", "python", "c", "python", "c", "sh"] else [f"in {kinds}"])
     for kind, code, due in blocks:
         file = os.path.join(ROOM, "embedded." + kind.replace("python", "py"))
         with open(file, "w", encoding="utf-8") as out:
@@ -523,7 +536,7 @@ def test_page():
 
 
 def test_pane():
-    """What the search pane goes by in place of the program: it answers as that does, one command at a time."""
+    """The client that the search pane uses instead of the program: it gives the same replies, command by command."""
     sys.path.insert(0, os.path.join(TOP, "examples"))
     from calls import Calls
     from client import command
@@ -543,26 +556,26 @@ def test_pane():
                 wrong.append(f"{sent} is answered {search.ask(sent)}")
             except ValueError:
                 pass
-    test("the client of the pane that goes by calls", wrong)
-    test("its rows, made in slices", [one for seed in range(GROUPED) for one in wrong_document(seed)])
+    test("the client of the pane that uses the library", wrong)
+    test("the rows of the pane, made in slices", [one for seed in range(GROUPED) for one in wrong_document(seed)])
 
 
 def test_readme():
-    """The Python code of README.md, with what it prints."""
+    """The Python code of README.md, with its output."""
     shown = re.search(r"```python\n(.*?)```\n\nIt prints `(.*?)`", read("README.md"), flags=re.S)
     wrong = wrong_prints([sys.executable, "-c", shown[1]], shown[2] + "\n") if shown else ["there is none"]
     test("the Python code of README.md", wrong)
 
 
 def lua():
-    """What runs a file of Lua: LuaJIT, or Neovim, which has it; nothing where neither is at hand."""
+    """The command that runs a Lua file: LuaJIT, or Neovim, which contains it; None if neither is installed."""
     if shutil.which("luajit"):
         return ["luajit"]
     return NEOVIM if shutil.which("nvim") else [None]
 
 
 def test_neovim():
-    """The live search of examples/nvim, where Neovim is at hand."""
+    """The live search of examples/nvim, if Neovim is installed."""
     if shutil.which("nvim"):
         found = {"LUA_PATH": ";".join((at("examples", "nvim", "lua", "?.lua"), PATHS["LUA_PATH"]))}
         words = [*NEOVIM, at("tests", "nvim_live_search.lua")]
@@ -596,6 +609,7 @@ def test_all():
     test_listed()
     test_pending()
     test_explanations()
+    test_escapes()
     test_programs()
     test_lua()
     test_neovim()

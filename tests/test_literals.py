@@ -1,5 +1,5 @@
-"""Needles of prefilters in contents that lie in pieces, on bin/search-driver, against a plain model; which literals the
-matches of a pattern begin with, contain, or are; and what the engines find of such patterns, against Python's regular expressions."""
+"""Needles of prefilters in chunked haystacks, by bin/search-driver, compared with a plain model; the literals that the
+matches of a pattern begin with, contain, or are; and what the engines find of such patterns, compared with Python's re."""
 import itertools
 import random
 import re
@@ -11,7 +11,7 @@ from test_automata import Wanted, compared
 
 CUTS = ["0", "1", "2", "3", "1.0.2.0.4"]  # how haystacks are cut
 
-# Needles in their order, and haystacks: needles that lie in one another, begin alike, or across many pieces.
+# Needles in order, and haystacks: needles that contain one another, begin alike, or span many chunks.
 NEEDLES = [
     [b"a"],
     [b"ab"],
@@ -24,17 +24,27 @@ NEEDLES = [
     [b"abcdefgh"],
     [b"b" * 64, b"ab"],
     [b"\x00"],
+    # By a table of their first three bytes: many first bytes, common ones, needles that mix these bytes.
+    [b"abb", b"bab", b"cab", "éa".encode()],
+    [b"aab", b"abab", b"aba", b"abb"],
+    [b"bab", b"abba", b"\x00\xc3\xa9", b"cde"],
 ]
 HAYSTACKS = [b"", b"a", b"ab", b"aab", b"abab", b"babba", b"aaabaaab", "aéb".encode(), b"\x00\xc3\xa9\x00"]
-HAYSTACKS += [b"xabcdefgh", b"abcdefgabcdefgh", b"a" + b"b" * 70, b"b" * 63]
+HAYSTACKS += [b"xabcdefgh", b"abcdefgabcdefgh", b"a" + b"b" * 70, b"b" * 63, b"ababbab", b"cbabbacd"]
 
-# Lists that are no needles: none, one that is empty, too many, one that is too long.
+# Lists that are refused as needles: none, one that is empty, too many, one that is too long.
 REFUSED = [[], [b""], [b"a", b""], [b"a"] * 17, [b"a" * 65]]
 ACCEPTED = [[b"a"] * 16, [b"a" * 64]]
 
-# Patterns, and the literals that their matches begin with, if there are some. What is repeated at least once, groups,
-# looks and no item go on with them; a branch, a set of at most four members, and what may be missing are followed each
-# way, up to three bytes, or two where a literal is the only one.
+
+def cases(word):
+    """A word in each mix of capitals and small letters."""
+    return ["".join(letters) for letters in itertools.product(*[(letter.upper(), letter) for letter in word])]
+
+
+# Patterns, and the literals that their matches begin with, if there are any. Literals continue through repetitions of at
+# least one, groups, assertions and empty items. Branches, sets of at most four members and optional items are followed in
+# each way, up to three bytes, or two if a literal is the only one.
 BEGINNINGS = [
     ("let", ["let"]),
     ("xyz+", ["xyz"]),
@@ -49,7 +59,10 @@ BEGINNINGS = [
     ("(ab)+c", ["ab"]),
     ("ab[cd]", ["ab"]),
     ("é[ab]", ["é"]),
-    ("e[a-d]x", ["e"]),
+    ("e[a-d]x", ["eax", "ebx", "ecx", "edx"]),
+    ("e[a-d]", []),
+    ("e[ab]", ["ea", "eb"]),
+    ("e[a-e]x", ["e"]),
     ("x(ab)+c", ["xab"]),
     ("a{3}b", ["aaab"]),
     ("(?:ab|ac)", ["ab", "ac"]),
@@ -84,24 +97,32 @@ BEGINNINGS = [
     ("ab|cd|xf", ["ab", "cd", "xf"]),
     ("ab|cd|ef|gh", []),
     ("[bc]{2}d", ["bbd", "bcd", "cbd", "ccd"]),
-    ("[ab]{2}c", []),
+    ("[ab]{2}c", ["aac", "abc", "bac", "bbc"]),
+    ("[ab]{2}", []),
     ("x[a-d]", ["xa", "xb", "xc", "xd"]),
     ("x[a-e]", ["x"]),
     ("x[ace-f]", ["xa", "xc", "xe", "xf"]),
     ("[a-e]x", []),
     ("[b-d]x", ["bx", "cx", "dx"]),
     ("\\bfoo|^bar$", ["foo", "bar"]),
+    # Several begin with many different bytes, or with common ones, if each has three bytes or more.
+    ("(?i)err", ["ERR", "ERr", "ErR", "Err", "eRR", "eRr", "erR", "err"]),
+    ("(?i)todo|error", [*cases("tod"), *cases("err")]),
+    ("(?i)todo|error|x", []),
+    ("(?i)todo|error|warn", []),
+    ("error|warning|info|debug|trace", ["error", "warning", "info", "debug", "trace"]),
+    ("the|and|are", ["the", "and", "are"]),
+    ("the|and|are|it", []),
     ("(?:foo){0,2}bar", ["foo", "bar"]),
     ("foo|[^\\s\\S]", ["foo"]),
     # Of 16 literals at most, these are made longer first.
     ("[xy][a-d][a-d]", ["xaa", "xab", "xac", "xad", "xba", "xbb", "xbc", "xbd", "xc", "xd", "ya", "yb", "yc", "yd"]),
 ]
 
-# Words of patterns at random. All of them begin with few bytes.
-WORDS = ["x", "xy", "foo", "fob", "bar", "yb", "é", "éa", "[xy]b", "f[a-c]", "f[^f]", "x?b", "b*y", "(?i:fo)", "(?i:é)x"]
+# Words of random patterns. Each begins with one of few bytes.
+WORDS = ["oxy", "(?i:foé)", "x", "xy", "foo", "fob", "bar", "yb", "é", "éa", "[xy]b", "f[a-c]", "f[^f]", "x?b", "b*y", "(?i:fo)", "(?i:é)x"]
 
-# Patterns, and the one literal that each of their matches is, if there is one: characters that stand alone, with nothing
-# besides, of at most 64 bytes.
+# Patterns, and the literal that equals each of their matches, if there is one: only characters, of at most 64 bytes.
 WHOLES = [
     ("let", ["let"]),
     ("e", ["e"]),
@@ -130,9 +151,9 @@ WHOLES = [
     ("🐸" * 17, []),
 ]
 
-# Patterns, and the literal that each of their matches contains, if one is read: the longest that is read in every match,
-# and the first of those, of at most 16 characters; a byte that is common in texts is none. Not in a branch, in what may be
-# missing, or in a look.
+# Patterns, and the literal that each of their matches contains, if one is known: the first of the longest, of at most 16
+# characters; a single byte that is common in texts doesn't count. Literals in branches, optional items and assertions are
+# not used.
 REQUIRED = [
     ("\\w+\\s*=>\\s*\\w+", ["=>"]),
     (".*;", [";"]),
@@ -177,7 +198,7 @@ REQUIRED = [
 
 DIGITS, LETTERS = list("0123456789"), list("ABCDEFGHIJKLMNOPQRSTUVWXYZ")
 
-# Patterns, and needles of which each match begins with one or contains one, if such are known: literals, or single bytes.
+# Patterns, and needles, literals or single bytes, such that each match begins with one or contains one, if they are known.
 BETWEEN = [
     (["\\w+\\s*=>\\s*\\w+"], ["=>"]),
     ([".*;$"], [";"]),
@@ -191,7 +212,7 @@ BETWEEN = [
     (["\\d+x"], ["x"]),
     ([".*"], None),
     (["x*"], None),
-    # By the bytes that matches begin with, if none is common in texts, and matches are not empty.
+    # The bytes that matches begin with, if none is common in texts and no match is empty.
     (["[0-9]+|0x[0-9a-f]+"], DIGITS),
     (["[A-Z]\\d?"], LETTERS),
     (["(?:(?:x|[0-9])|y)+?\\b"], [*DIGITS, "x", "y"]),
@@ -204,14 +225,16 @@ BETWEEN = [
     (["[0-9]*"], None),
     (["[0-9]?|x"], None),
     (["[0-9]", "x*"], None),
+    (["(?i)todo|error"], [*cases("tod"), *cases("err")]),
+    (["error|warning|info|debug|trace"], ["error", "warning", "info", "debug", "trace"]),
 ]
 
 
-MOST = 2**64 - 1  # where a span ends that has no end
+MOST = 2**64 - 1  # the end of a span without an end
 
 
 def at(needles, bytes_, place):
-    """What is found at a place: the first needle that lies there."""
+    """The first needle at an offset, as the program prints it."""
     for needle in needles:
         if bytes_[place : place + len(needle)] == needle:
             return f"{place}-{place + len(needle)}"
@@ -253,8 +276,8 @@ def at_random():
 
 
 def wrong_memory():
-    """What is wrong with finds in a long content in which no needle lies, which ask for as much memory as those in an empty
-    span of it: for none."""
+    """What is wrong with searches in a long haystack without a needle, which request as much memory as those in an empty
+    span: none."""
     haystack = b"az" * 5_000 + b"bz" * 5_000
     for needles in ([b"ab"], [b"abab", b"bb"], [b"b" * 64, b"ab", b"aa"]):
         told = ".".join(needle.hex() for needle in needles)
@@ -274,7 +297,7 @@ def refused():
 
 
 def read_from(word, patterns):
-    """Each of a pattern's literals is found where it stands, and not where its last character is missing."""
+    """Each of a pattern's literals is found at its offset, and is not found without its last character."""
     for pattern, told in patterns:
         fields = [written(pattern), *Settings().fields(), 3]
         name = f"the {word} of {pattern[:20]!r}"
@@ -288,7 +311,7 @@ def read_from(word, patterns):
 
 
 def between():
-    """Up to where nothing matches: the first of the needles in the span, wherever the haystack is cut."""
+    """The offset up to which nothing matches: that of the first needle in the span, however the haystack is split."""
     for patterns, told in BETWEEN:
         needles = [needle if isinstance(needle, bytes) else needle.encode() for needle in told or ["=>"]]
         first, last = needles[0], needles[-1]
@@ -304,7 +327,7 @@ def between():
 
 
 def searches_at_random():
-    """Searches whose matches perhaps begin with one of few literals, in pieces."""
+    """Searches in chunks whose matches may begin with one of few literals."""
     chance = random.Random(39)
     for _ in range(1500):
         words = ["".join(chance.choices(WORDS, k=chance.randint(1, 2))) for _ in range(chance.randint(1, 3))]
@@ -330,9 +353,9 @@ def test_all():
         cases = list(cases)
         test(f"{len(cases)} {name}", problems(cases))
     wrong, told = compared(searches_at_random())
-    test(f"searches for what begins with literals: {told}", wrong)
+    test(f"searches for patterns that begin with literals: {told}", wrong)
     check_memory(find([b"ab", b"b"], b"aab", "1", 0, 3), [WANT])
-    test("needles are looked for with no memory asked for", wrong_memory())
+    test("a search for needles requests no memory", wrong_memory())
     for pattern in ("let", "(?i)xb", "foo|bar|baz"):
         check_memory(next(case for case in read_from("beginning", BEGINNINGS) if repr(pattern) in case.name), NO_MEMORY)
     check_memory(next(read_from("whole", WHOLES)), NO_MEMORY)

@@ -359,7 +359,7 @@ def test_histories():
     test(f"they take at most {MOST_FOR_A_BREAK} bytes each where that is undone", wrong)
     once = given("text", LINE * LINES) + letters_at_random(MANY_EDITS, LINES)
     wrong = [] if peak_of(once * 4) < 1.5 * peak_of(once) else [f"{peak_of(once * 4)} bytes, {peak_of(once)} with one text"]
-    test("a history is let go of by a new text", wrong)
+    test("a new text frees the history", wrong)
     text = given("text", LINE * (LONG_TEXT // len(LINE)))
     for name, edits in (("letters at random lines", letters_at_random), ("a typist", letters_in_a_row)):
         # A text takes more memory while it is read than afterwards, so edits are compared with fewer edits.

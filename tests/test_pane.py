@@ -235,16 +235,16 @@ def test_typing(asked):
     test("what is typed is put in, and the matches follow", wrong)
     test("Backspace takes a character away", asked("\x7f" * 2, f"{front}ol\x1b7{toad}"))
     wrong = asked("ad\x7f\x7f\x1b[C\x1b[C\x7f\x7f", "1 match\x1b", f"{front}ol\x1b7ad.")
-    test("a match that is typed away is told no more", wrong)
+    test("a match that typing removed is not counted", wrong)
     wrong = asked("\rt🐸\x1b[D\x1b[Co", "     2  t🐸o\x1b7ad.", "     3  No \x1b[7mtoad\x1b[27m")
     test("Enter breaks the line, and arrows go over characters of two code units", wrong)
     test("Backspace at a line's start joins it with the one before", asked("\x7f\x7f\x7f\x7f", f"{front}ol\x1b7ad."))
     wrong = asked("\x1b[3~", f"{front}ol\x1b7d.") + asked("\x1a", f"{front}ola\x1b7d.")
-    test("Delete takes away what stands behind", wrong)
+    test("Delete removes the character after the cursor", wrong)
     asked("\x1b[D", f"{front}ol\x1b7ad.")
     wrong = asked("\x1a" * 4, "     2  t🐸o\x1b7ad.") + asked("\x1a" * 16, f"{front}\x1b7{toad}", "2 matches")
     test("Ctrl-Z undoes edits, and goes to what changed", wrong)
-    test("and tells where there is none left", asked("\x1a", "nothing to undo"))
+    test("and says so if there is none left", asked("\x1a", "nothing to undo"))
     wrong = asked("\x19" * 4, f"{front}old \x1b7{toad}") + asked("\x1a" * 4, f"{front}\x1b7{toad}")
     test("Ctrl-Y does them again", wrong)
     wrong = asked("\x1b[200~x\ty\rz\x1b[201~", f"{front}x       y", f"     2  z\x1b7{toad}")
@@ -252,7 +252,7 @@ def test_typing(asked):
     test("what is pasted is one edit, tabs and breaks in it", wrong)
     wrong = asked("\x1b[H\x1b[5~\x1b[1;2C\x1b[2~\x1bOP\x1bx\x1b[97;5u!", "     1  A!\x1b7 frog")
     wrong += asked("\x1a", "     1  A\x1b7 frog")
-    test("keys that stand for nothing put nothing in", wrong)
+    test("keys without a meaning insert nothing", wrong)
     wrong = asked("\x1b[B\x1b[F", "     2  No \x1b[7mtoad\x1b[27m here is green.\x1b7")
     wrong += asked("\rend", "     3  end\x1b7")
     test("Home and End go to a line's start and end", wrong + asked("\x1b[H", "     3  \x1b7end"))
@@ -334,13 +334,13 @@ def test_choices():
     wrong += asked("\r", "0 matches, and one over lines", "a\x1b[4mb\x1b[24m\x1b[", "\x1b[4me\x1b[24mnd")
     test("where no line has a match, Enter goes to one over lines", wrong)
     wrong = asked("\x15\\s+$", "0 matches") + asked("\x12\r", "replaced: 1 (0 were marked: docs/protocol.md)")
-    test("it is told where others are replaced than were marked", wrong)
+    test("the pane says if other matches are replaced than were marked", wrong)
     before = len(pane.out)
     pane.resize(5, 30)
     os.kill(pane.process.pid, signal.SIGWINCH)
-    wrong = [] if pane.shows(b"\x1b[5H\x1b[K     4  end", before) else ["it isn't drawn anew"]
-    wrong += [] if b"\x1b[3H\x1b[K     2  " + b"x" * 22 + b"\x1b[" in pane.out[before:] else ["lines aren't cut anew"]
-    test("a terminal that is resized is drawn anew at once", wrong)
+    wrong = [] if pane.shows(b"\x1b[5H\x1b[K     4  end", before) else ["it isn't redrawn"]
+    wrong += [] if b"\x1b[3H\x1b[K     2  " + b"x" * 22 + b"\x1b[" in pane.out[before:] else ["lines aren't wrapped again"]
+    test("a resized terminal is redrawn at once", wrong)
     pane.type("\x03")
     test("Ctrl-C leaves, with the terminal as it was, though the text isn't saved", pane.end())
 
@@ -366,12 +366,12 @@ def test_saving():
     with open(pane.path, "wb") as file:
         file.write(b"other")
     wrong = asked("\x13", "which has changed since it was read?") + asked("n", "search: ")
-    test("it tells that the file has changed", wrong + ([] if read(pane.path) == b"other" else ["it is overwritten"]))
+    test("it says that the file has changed", wrong + ([] if read(pane.path) == b"other" else ["it is overwritten"]))
     wrong = asked("\x1b", "the text isn't saved? y or n") + asked("n", "search: ")
     test("Escape asks where the text isn't saved", wrong)
     os.remove(pane.path)
     os.mkdir(pane.path)
-    test("what can't be written is told", asked("\x13y", "not saved: "))
+    test("a file that can't be written is reported", asked("\x13y", "not saved: "))
     os.rmdir(pane.path)
     asked("\x1b", "y or n")
     pane.type("y")
@@ -399,7 +399,7 @@ def test_ended():
     os.kill(pane.children()[0], signal.SIGKILL)
     pane.type("x")
     wrong = list(pane.end(1)) + ([] if b"(status 3)" in pane.out else ["it doesn't"])
-    test("where it can't be begun anew, the pane leaves, and says so", wrong)
+    test("if the program can't be restarted, the pane ends, and says so", wrong)
 
 
 def test_refusals():
@@ -407,7 +407,7 @@ def test_refusals():
     pane = Pane(b"a\r\nb\rc\n \xff")
     told = pane.shows(b"not UTF-8: byte ff at 8, in line 4")
     pane.process.wait()
-    test("the pane tells where a file isn't UTF-8", [] if told and b"Traceback" not in pane.out else [short(pane.out)])
+    test("the pane says if a file isn't UTF-8", [] if told and b"Traceback" not in pane.out else [short(pane.out)])
     os.close(pane.control)
     os.close(pane.terminal)
 
@@ -429,9 +429,9 @@ def test_refusals():
         ("a program that is none", f"pane.py: {ROOM}: [Errno 13] Permission denied: '{ROOM}'\n", here, ROOM),
     ]:
         found = told_of(*arguments)
-        test(f"the pane tells of {name}", [] if found == (1, due) else [f"{found}"])
+        test(f"the pane reports {name}", [] if found == (1, due) else [f"{found}"])
     found = told_of(here, has_terminal=False)
-    test("the pane tells of no terminal", [] if found == (1, "pane.py: it needs a terminal\n") else [f"{found}"])
+    test("the pane reports that there is no terminal", [] if found == (1, "pane.py: it needs a terminal\n") else [f"{found}"])
 
 
 def test_large():

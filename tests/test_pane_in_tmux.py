@@ -160,7 +160,7 @@ def test_all_matches(tmux):
     test("and come back", tmux.asked(["C-z"], (1, f"     1       0 a {MARKED}")))
     tmux.ask("resize-window", "-x", "40", "-y", "8")
     wrong = tmux.lacks([(0, "search: frog|pond"), (1, "     1       0 a "), (7, "     7       6 a ")])
-    test("a smaller window is drawn anew", wrong)
+    test("a smaller window is redrawn", wrong)
     tmux.ask("resize-window", "-x", str(COLUMNS), "-y", str(ROWS))
     test("and a larger one", tmux.lacks([(0, "search: frog|pond"), (15, "    15      14 a ")]))
 

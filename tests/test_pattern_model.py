@@ -134,9 +134,9 @@ def searches_for(chance, maker, texts):
 
 
 def test_all():
-    test("the model reads patterns as is told of them", wrong_rows())
+    test("the model parses the listed patterns", wrong_rows())
     test("the model refuses patterns that are long, deep or heavy", wrong_reasons())
-    test("the model finds what is told", wrong_searches())
+    test("the model finds the listed matches", wrong_searches())
     chance = random.Random(17)
     maker = Maker(chance, most_nodes=40)
     texts = [mangled(chance, maker) for _ in range(MANGLED)]

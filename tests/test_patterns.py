@@ -317,14 +317,14 @@ def test_all():
     test(f"{len(rows)} patterns of other dialects spell what the page says, or are refused", wrong_trees(rows))
     test("what the page advises in their place", wrong_advice())
     rows = [(pattern, Settings(), tree) for pattern, tree in TREES] + TREES_UNDER
-    test(f"{len(rows)} further patterns spell what is told", wrong_trees(rows))
+    test(f"{len(rows)} further patterns spell the listed trees", wrong_trees(rows))
     rows = [(pattern, Settings(), None) for pattern in REFUSED]
     test(f"{len(rows)} texts are outside the grammar", wrong_trees(rows))
     test(f"{len(LARGE)} patterns that are deep or long, or nearly so", wrong_sizes())
     rows = [about("groups", pattern, names) for pattern, names in GROUPS]
     test(f"the names of groups of {len(rows)} patterns", problems(rows))
     test(f"what is known of the parts of {len(PARTS + EMPTY_PARTS)} patterns", wrong_parts())
-    test(f"{len(WEIGHTS)} patterns weigh what is told, and have programs of the size that is told", wrong_weights())
+    test(f"{len(WEIGHTS)} patterns have the listed weights, and programs of the listed sizes", wrong_weights())
     if library() is not None:
         for pattern, settings in IN_NEED:
             check_memory(about("parse", pattern, settings=settings), [PATTERN_WANT])

@@ -205,7 +205,7 @@ SEARCHED_ONCE = [
 def test_all():
     parts = [
         ("searches of the table, in pieces and in parts of ropes", table()),
-        ("searches with answers that are told, in pieces and in parts of ropes", vectors()),
+        ("searches with listed answers, in chunks and in parts of ropes", vectors()),
         ("searches at random, in pieces and in parts of ropes", at_random()),
         ("searches with a cursor that is made at a place", from_places()),
         (f"searches, each {TIMES:,} times with one cache", often()),

@@ -1,5 +1,5 @@
-"""The files that make install and make release write, from programs that were built, and the program's manual page
-compared with docs/protocol.md."""
+"""The files that make install and make release write, from programs that were built, with the commands of the pages; and
+the program's manual page, compared with docs/protocol.md."""
 import glob
 import os
 import re
@@ -30,6 +30,9 @@ INSTALLED = [
         "README.md", "CHANGELOG.md", "LICENSE-APACHE", "LICENSE-MIT", "NOTICE", "protocol.md", "patterns.md",
         "embedding.md")),
 ]
+# A program of docs/embedding.md with its output, and a command there that runs such a program.
+PROGRAM_OF_PAGE = re.compile(r"(?s)```(c|python|lua)\n(.*?)```\n\nIt prints\n\n```text\n(.*?)```")
+COMMAND_OF_PAGE = re.compile(r"(?m)^    (.*\bprogram\.(c|py|lua)\b.*)$")
 SESSION = "import rope_search; s = rope_search.Session(); s.set_text('abab'); s.set_pattern('b'); print(s.count_matches(0, 1))"
 
 
@@ -76,7 +79,7 @@ def made(*words):
 
 
 def wrong_server(top):
-    """The language server of an unpacked release must find the module, and that the library."""
+    """The language server of an unpacked release must find the Python module, and the module the library."""
     client = Client([sys.executable, os.path.join(top, "examples", "language_server")], {"ROPE_SEARCH_LIBRARY": ""})
     client.begin()
     client.open("a", "a TODO")
@@ -89,6 +92,29 @@ def wrong_session(modules):
     ended = subprocess.run([sys.executable, "-B", "-c", SESSION], cwd=modules, capture_output=True, text=True,
                            env={"PATH": os.environ["PATH"]})
     return [] if ended.stdout == "2\n" else [ended.stdout + ended.stderr]
+
+
+def wrong_commands(top):
+    """Each command of docs/embedding.md that runs a program must have the output that the page shows, in a release."""
+    page = read("docs", "embedding.md")
+    programs = {}
+    for kind, code, due in PROGRAM_OF_PAGE.findall(page):
+        programs.setdefault(kind.replace("python", "py"), (code, due))
+    commands = COMMAND_OF_PAGE.findall(page)
+    if {kind for _, kind in commands} != set(programs):
+        return [f"docs/embedding.md has the commands {commands}"]
+    wrong = []
+    for command, kind in commands:
+        code, due = programs[kind]
+        with open(os.path.join(top, f"program.{kind}"), "w", encoding="utf-8") as out:
+            out.write(code)
+        if kind == "lua" and not shutil.which("luajit"):
+            print(f"no LuaJIT: {command!r} isn't run where a release is unpacked")
+            continue
+        names = {name: value for name, value in os.environ.items() if not name.startswith("ROPE_SEARCH")}
+        ended = subprocess.run(["sh", "-c", command], cwd=top, capture_output=True, text=True, env=names)
+        wrong += [] if ended.stdout == due else [f"{command!r} prints {ended.stdout + ended.stderr!r}"]
+    return wrong
 
 
 def wrong_packages(folder):
@@ -112,8 +138,8 @@ def wrong_packages(folder):
 
 
 def wrong_release():
-    """The archive, unpacked: its program runs, its modules find the library, its links are right, its demo and its
-    language server run."""
+    """The unpacked archive: its program runs, its modules find the library, its links are right, and its demo, its
+    language server and the commands of docs/embedding.md run."""
     folder = os.path.join(ROOM, "released")
     os.mkdir(folder)
     done = made("release", f"RELEASES={folder}")
@@ -124,7 +150,7 @@ def wrong_release():
     top = archive[:-len(".tar.gz")]
     pages = glob.glob(os.path.join(top, "**", "*.md"), recursive=True)
     wrong = [link for page in sorted(pages) for link in broken_links(page)] if pages else ["there is no page"]
-    wrong += wrong_server(top)
+    wrong += wrong_server(top) + wrong_commands(top)
     shown = subprocess.run([sys.executable, "-B", os.path.join(top, "examples", "demo.py"), os.path.join(
         top, "examples", "first.session")], capture_output=True, text=True, cwd=folder, env={"PATH": os.environ["PATH"]})
     if shown.returncode or "m 0 16 20" not in shown.stdout:

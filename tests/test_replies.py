@@ -350,7 +350,7 @@ def test_ample_memory():
     data = b"text %d\n" % len(text) + text + b"fork\nprint\nuse 1\nprint\n" * 3 + b"text 0\nprint\n"
     ended = run(data)
     wrong = differences(ended, *answer(data))
-    test("a text of many reads, and no want of memory", wrong + (["error memory"] if b"error memory" in ended.out else []))
+    test("a text of many reads, without lack of memory", wrong + (["error memory"] if b"error memory" in ended.out else []))
     test("the first session a thousand times over", differences(run(FIRST * 1_000), answer(FIRST)[0] * 1_000, 0))
 
 

@@ -166,7 +166,7 @@ def test_all():
         if any(0 in row.values() for rows in turned.automata.values() for row in rows):
             wrong.append(f"{spelled(tree)!r} has an automaton that comes back to its first state")
         wrong += [f"{spelled(tree)!r} in {line}" for line in wrong_walks(tree, turned)]
-    test(f"{len(trees)} programs turned round, in all spans of {len(CONTENTS)} contents", wrong)
+    test(f"{len(trees)} reversed programs, in all spans of {len(CONTENTS)} haystacks", wrong)
     if library() is not None:
         for pattern in ["a", "(a)|b|c*?|", "[a-c]{2,4}(?:a|é){0}\\b", ".[^a]."]:
             check_memory(about("reversed", pattern), [PROGRAM_WANT, WANT])

@@ -311,7 +311,7 @@ def wrong_sink():
     ended, _, largest = counted(run, above=(1 << 24) - 1)
     yield from differences(ended, b"no memory\n", 0)
     if largest != 1 << 24:
-        yield f"the most that is asked for is {largest} bytes"
+        yield f"the largest request is of {largest} bytes"
 
 
 def test_refused():

@@ -379,17 +379,17 @@ def wrong_often():
 
 def test_all():
     parts = [
-        ("searches of the table, in one piece and in pieces of 1, 2 and 3 bytes", table()),
-        ("searches with answers that are told, in such pieces", vectors()),
-        ("searches of which the slots are told, more or fewer than there are", told_slots()),
-        ("searches that are given slots for whole matches alone", WHOLES),
-        ("searches at random, in slices, spans and pieces at random", at_random(11, RANDOM_CASES)),
-        ("searches at random, under settings at random", at_random(14, CASES_UNDER_SETTINGS, True)),
+        ("searches of the table, in one chunk and in chunks of 1, 2 and 3 bytes", table()),
+        ("searches with listed answers, in such chunks", vectors()),
+        ("searches with all slots, more or fewer than there are", told_slots()),
+        ("searches with slots only for whole matches", WHOLES),
+        ("random searches, in random slices, spans and chunks", at_random(11, RANDOM_CASES)),
+        ("random searches under random settings", at_random(14, CASES_UNDER_SETTINGS, True)),
         ("calls of searchers, for the searches of the table", by_searchers(table())),
-        ("calls of searchers, for searches at random", by_searchers(at_random(15, SEARCHERS_CASES))),
-        ("searches at random for the first match's slots", slots_at_random()),
+        ("calls of searchers, for random searches", by_searchers(at_random(15, SEARCHERS_CASES))),
+        ("random searches for the first match's slots", slots_at_random()),
         ("searches in all slices and spans of short haystacks", slices_and_spans()),
-        ("searches in bytes that are no UTF-8", not_utf8()),
+        ("searches in bytes that are not UTF-8", not_utf8()),
     ]
     for name, cases in parts:
         cases = list(cases)
@@ -399,7 +399,7 @@ def test_all():
         for case in IN_NEED:
             check_memory(case, due, f"{case.answer}\n".encode())
         check_memory(WHOLES[0], [PROGRAM_WANT, WANT], f"{WHOLES[0].answer}\n".encode())
-        test("more searches by one cache ask for no more memory", wrong_often())
+        test("more searches with one cache request no more memory", wrong_often())
         for pattern in MATCHING_NOTHING:
             check_long(pattern)
         for pattern, groups in MATCHING_ALL:

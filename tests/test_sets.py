@@ -235,7 +235,7 @@ def bytes_at_random(count=100_000):
 
 
 def test_all():
-    test(f"{len(SETS) + len(MEMBERS)} sets are what is told", wrong_sets())
+    test(f"{len(SETS) + len(MEMBERS)} sets are the listed ones", wrong_sets())
     test(f"runs of {len(JUDGED)} sets in every scalar value, which Python judges too", wrong_runs())
     test(f"members of {len(SINGLE)} sets one by one in every scalar value", wrong_singles(EVERY_CHARACTER))
     test("the same in bytes with each first and second byte", wrong_singles(first_and_second_bytes()))
@@ -246,6 +246,6 @@ def test_all():
     test("the same of 400,000 bytes at random", wrong_back(PATTERNS, bytes_at_random()))
     test("the same of every scalar value cut, and with a byte changed", wrong_back(SINGLE, cut_and_changed()))
     sizes = [about("sizes", pattern, told) for pattern, told in SIZES]
-    test(f"automata of {len(SIZES)} sets and their reverses have so many states and ranges", problems(sizes))
+    test(f"automata of {len(SIZES)} sets and their reverses have the listed numbers of states and ranges", problems(sizes))
     for pattern in ("é", "\\d"):
         check_memory(read_back(pattern, "aé٣".encode()), NO_MEMORY)

@@ -1,8 +1,8 @@
-"""What a `Regex` of several patterns tells under settings, on bin/search-driver: all matches, which each way to search
-must tell alike; how many groups it has, and why patterns are refused; and what the getters tell.
+"""A `Regex` of several patterns under settings, by bin/search-driver: all matches, on which all engines must agree; the
+number of groups, and why patterns are refused; and the results of the getters.
 
-Its answers are those that stand here, those of the table of settings in docs/searching.md, and those of the model of
-tests/walks.py to cases at random, each asked with each engine on and off.
+The expected answers are listed here, or in the table of settings in docs/searching.md, or are those of the model of
+tests/walks.py for random cases, each tried with each engine on and off.
 """
 import itertools
 import random
@@ -18,9 +18,9 @@ from test_searches import asked_at_random, listed
 from walks import Search, spelled, static_captures
 
 RANDOM_CASES, STATIC_CASES = share_of(14_000), share_of(5_000)
-LINES = Settings("m")  # under which `^` and `$` are those of lines
+LINES = Settings("m")  # `^` and `$` are those of lines
 
-# What changes no answer: engines on and off, how many bytes a cache may keep, and how many states are made before.
+# Settings that change no answer: engines on and off, capacities of caches, and the number of states made in advance.
 ENGINES = ["hybrid", "dfa", "auto_prefilter"]
 CAPACITIES = ["", *(f"hybrid_cache_capacity={size}" for size in (0, 700, 2**64 - 1))]
 LIMITS = ["", "dfa_state_limit=none.dfa_size_limit=none", "dfa_state_limit=3", "dfa_size_limit=0"]
@@ -28,11 +28,11 @@ IDLE = ["byte_classes=0", "backtrack=0", "onepass_size_limit=1", "prefilter=" + 
 
 
 def spans(first, length, apart, count):
-    """`count` spans of this length, of which the first starts at `first`, and each next one `apart` bytes later."""
+    """`count` spans of this length; the first starts at `first`, and each next one `apart` bytes later."""
     return " ".join(f"{start}-{start + length}" for start in range(first, first + count * apart, apart))
 
 
-# Patterns, haystacks, settings, and all matches; perhaps also the settings of the syntax.
+# Patterns, haystacks, settings, and all matches; some with settings of the syntax.
 VECTORS = [
     (["a", "ab"], "ab", "", "0:0-1"),
     (["x*"], "せ", "", "0-0 3-3"),
@@ -40,7 +40,7 @@ VECTORS = [
     (["x*"], "せ", "utf8_empty=0", "0-0 1-1 2-2 3-3"),
     (["x*", "せ"], "せ", "utf8_empty=0", "0:0-0 0:1-1 0:2-2 0:3-3"),
     (["^b"], "a;b", "line_terminator=59", "2-3", LINES),
-    # Of all matches the greatest end, of which the whole match alone is noted.
+    # Of all matches the one with the greatest end, without its groups.
     (["a", "ab"], "ab", "match_kind=all", "1:0-2"),
     (["a", "ab"], "ab", "match_kind=leftmost", "0:0-1"),
     (["a", "ab"], "ab", "match_kind=all/hybrid=0", "1:0-2"),
@@ -65,19 +65,19 @@ VECTORS = [
     (["(a)|(b)"], "ab", "which_captures=implicit", "0-1 1-2"),
     (["(a)|(b)"], "ab", "which_captures=none", "0-1 1-2"),
     (["(a)", "(?<x>b)(c)"], "abc", "which_captures=implicit", "0:0-1 1:1-3"),
-    # Literals of the caller's own, which don't begin each match.
+    # Literals from the caller that don't begin each match.
     (["ab|b"], "ab", "prefilter=" + written("b"), "0-2"),
     (["ab|b"], "ab", "auto_prefilter=0.prefilter=" + written("b"), "0-2"),
     (["ab"], "xab", "auto_prefilter=0.prefilter=" + written("ab"), "1-3"),
-    # What is set later is taken over, and leaves the rest.
+    # A later value replaces an earlier one, and leaves other settings.
     (["x*"], "せ", "utf8_empty=0/hybrid=0", "0-0 1-1 2-2 3-3"),
     (["x*"], "せ", "utf8_empty=0/utf8_empty=1", "0-0 3-3"),
-    # So many bytes at which states are made that a small cache doesn't hold them.
+    # States are made at so many bytes that a small cache doesn't hold them.
     (["[ab]*a[ab]{5}"], "abbab" * 40 + "c", "hybrid_cache_capacity=0.dfa=0", "0-199"),
     (["[ab]*a[ab]{5}"], "abbab" * 40 + "c", "hybrid=0.dfa=0", "0-199"),
     (["[ab]*a[ab]{5}"], "abbab" * 40 + "c", "dfa_state_limit=none.dfa_size_limit=none", "0-199"),
-    # Matches that mostly don't begin at the first byte that one can begin with, and later mostly do; searches for one there
-    # that read far; and one that reaches a byte of 128 or more.
+    # Matches that mostly don't begin at the first candidate byte, and later mostly do; searches from a candidate that read
+    # far; and one that reaches a byte of 128 or more.
     (["[a-z]+[0-9]"], "ab ab1 " * 150 + "ab1 " * 150, "", spans(3, 3, 7, 150) + " " + spans(1050, 3, 4, 150)),
     (["[a-z ]+[0-9]|x"], ("ab " * 30 + "x;") * 40 + "x1", "", spans(90, 1, 92, 40) + " 3680-3682"),
     (["todo\\([0-9]\\)"], "todo(x) todo(1) " * 100, "", spans(8, 7, 16, 100)),
@@ -93,8 +93,8 @@ def too_large(limit):
     return refused(TOO_LARGE, limit=f"Some({limit})")
 
 
-# Patterns, settings, and how many patterns and groups there are, how many of these stand in each match, how many slots
-# there are, and whether literals are looked for; or why there is no regex.
+# Patterns, settings, and the number of patterns, of groups, of groups that are in each match, and of slots, and whether
+# literals are searched for; or why there is no regex.
 COUNTS = [
     (["a"], "nfa_size_limit=200", "1 1 Some(1) 2 true"),
     (["a"], "nfa_size_limit=199", too_large(199)),
@@ -116,12 +116,12 @@ COUNTS = [
     (["^^a{65535}a{65535}"], "nfa_size_limit=none", "1 1 Some(1) 2 true"),
     (["a", "(", ")"], "", refused(OUTSIDE, "Some(1)")),
     (["a", "(", ")"], "nfa_size_limit=0", refused(OUTSIDE, "Some(1)")),
-    # Groups that aren't noted are counted all the same, and weigh the same.
+    # Groups that aren't recorded are counted too, and have the same weight.
     (["(a){0}"], "", "1 2 Some(1) 4 false"),
     (["(a){0}"], "which_captures=implicit", "1 2 Some(1) 2 false"),
     (["(a)|b"], "which_captures=none", "1 2 None 2 false"),
     (["(a)|b"], "which_captures=none.nfa_size_limit=399", too_large(399)),
-    # Literals are looked for where they are known, and wanted.
+    # Literals are searched for if they are known and the setting is on.
     (["a"], "auto_prefilter=0", "1 1 Some(1) 2 false"),
     (["a"], "auto_prefilter=0.prefilter=none", "1 1 Some(1) 2 false"),
     (["a"], "auto_prefilter=0/auto_prefilter=1", "1 1 Some(1) 2 true"),
@@ -131,7 +131,7 @@ COUNTS = [
     (["ab|b"], "prefilter=" + written("b"), "1 1 Some(1) 2 false"),
     (["a"], "match_kind=all", "1 1 Some(1) 2 false"),
     (["a"], "match_kind=all.nfa_size_limit=199", too_large(199)),
-    # How many groups stand in each match.
+    # The number of groups in each match.
     (["(a)|(b)"], "", "1 3 Some(2) 6 false"),
     (["(a)|(b)|c"], "", "1 3 None 6 false"),
     (["((a)(b))|(c(d)(e))"], "", "1 7 Some(4) 14 true"),
@@ -146,7 +146,7 @@ COUNTS = [
     (["(a)|(b)"], "which_captures=none", "1 3 Some(2) 2 false"),
 ]
 
-# What the getters tell, in their order, and other values of each setting, with what they tell of these.
+# The results of the getters, in order, and other values of each setting with the results for these.
 GETTERS = {
     "match_kind": ("LeftmostFirst", [("all", "All"), ("leftmost", "LeftmostFirst")]),
     "utf8_empty": ("true", [("0", "false"), ("1", "true")]),
@@ -192,7 +192,7 @@ def counts():
 
 
 def static_at_random(count=STATIC_CASES):
-    """How many groups stand in each match of patterns at random."""
+    """The number of groups in each match of random patterns."""
     chance = random.Random(47)
     maker = Maker(chance, most_nodes=30)
     for _ in range(count):
@@ -202,7 +202,7 @@ def static_at_random(count=STATIC_CASES):
 
 
 def wrong_static(cases):
-    """What is wrong with how many groups stand in each match, the third word of the answers to these cases."""
+    """What is wrong with the number of groups in each match, the third word of the answers to these cases."""
     told, wrong = answers(cases)
     for case, answer in zip(cases, told):
         if answer.split(" ")[2:3] != [case.answer]:
@@ -215,7 +215,7 @@ def told(values):
 
 
 def getters():
-    """Each setting alone, set again, and beside each of the others; and those that have no getter."""
+    """Each setting alone, set twice, and with each of the others; and those that have no getter."""
     cases = [("", {})] + [(given, {}) for given in ("onepass_size_limit=7", "onepass_size_limit=none.backtrack=0")]
     for (name, (_, values)), (other, (_, others)) in itertools.product(GETTERS.items(), repeat=2):
         for (value, shown), (beside, shown_too) in itertools.product(values, others):
@@ -225,8 +225,8 @@ def getters():
 
 
 def settings_at_random(chance):
-    """Settings at random: whether empty matches inside a character are found, the byte that ends lines, whether all
-    groups are noted, and all of them as a field, with such as change no answer, but for engines."""
+    """Random settings: whether empty matches inside a character are found, the byte that ends lines, whether all groups
+    are recorded, and all of these as a field, with settings that change no answer except engines."""
     inside, line_end = chance.random() < 0.3, chance.choice([b"\n", b"\n", b"a", b"\x81"])
     which = chance.choice(["all", "all", "implicit", "none"])
     given = [f"utf8_empty={int(not inside)}", f"line_terminator={line_end[0]}", f"which_captures={which}"]
@@ -235,7 +235,7 @@ def settings_at_random(chance):
 
 
 def whole_of(model, pattern, start, end):
-    """A match of which the whole match alone is noted, as its pattern and the spans of its groups."""
+    """A match without its groups, as its pattern and the spans of its groups."""
     return pattern, [(start, end)] + [None] * (len(model.slots[pattern]) - 1)
 
 
@@ -264,13 +264,13 @@ def at_random(count=RANDOM_CASES):
 
 
 def usage(given):
-    """What a regex takes, and a cache before and behind a search in which many states are made."""
+    """The memory of a regex, and of a cache before and after a search in which many states are made."""
     case = about("usage", ["[ab]*a[ab]{5}"], None, given, b"abbab" * 40 + b"c")
     return [int(number) for number in answer_to(case.line).out.split()]
 
 
 def engines_obey():
-    """No state is made where engines are off, and no more than there is room for."""
+    """No state is made if engines are off, and no more than the cache can hold."""
     by_default, lazy_off, small = usage(""), usage("hybrid=0"), usage("hybrid_cache_capacity=0")
     all_made = usage("dfa_state_limit=none.dfa_size_limit=none")
     dense_off = usage("dfa_state_limit=none.dfa_size_limit=none.dfa=0")
@@ -309,7 +309,7 @@ def test_all():
         ("examples and defaults of docs/searching.md", page()),
         ("searches under settings, by each engine", vectors()),
         ("counts of groups, and refusals, under settings", counts()),
-        ("answers of getters", getters()),
+        ("results of getters", getters()),
     ]:
         cases = list(cases)
         test(f"{len(cases)} {name}", problems(cases))

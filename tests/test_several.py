@@ -153,9 +153,9 @@ def at_random(count=RANDOM_CASES):
 
 
 def test_all():
-    test("several patterns are found as they should", problems(vectors()))
-    test("one pattern is found as it should, by each engine", in_runs(ones()))
-    test("several patterns are found far from one another", problems(far()))
-    test(f"several patterns at random, {RANDOM_CASES} searches, are found as by the model", in_runs(at_random()))
+    test("searches for several patterns return the expected matches", problems(vectors()))
+    test("searches for one pattern, by each engine", in_runs(ones()))
+    test("matches of several patterns, far from one another", problems(far()))
+    test(f"{RANDOM_CASES} random searches for several patterns, compared with the model", in_runs(at_random()))
     test("why several patterns are refused", problems(about(patterns, b"", answer) for patterns, answer in REFUSED))
     check_memory(about(["a|ab", "(b)+"], b"abb", "0:0-1,- 1:1-3,2-3", 1), [WANT])

@@ -20,6 +20,14 @@ APART = set("Advances Begins count_of is_done left_in".split())
 # Inner crates, and the crates of their group, which are the only ones to name them.
 GROUPS = {r"ropey_(tree|walk)": r"ropey\w*", r"rx_\w+": r"rx_\w+|regex_cursor\w*",
           r"rope_search_(io|changes|reports|templates)": r"rope_search\w*"}
+# Phrases that are not the field's English, in pages, in the header, and in scripts and tests with their comments; sources of
+# crates are not read.
+UNUSUAL = re.compile(r"\b(?:turned round|wants? of memory|lets? go of|serves? on|(?:is|are|be) come (?:by|to)|made anew|"
+                     r"(?:steps?|pass(?:es)?) back|lies? in pieces|stands? (?:before|behind|there)|goes by|hands? on|"
+                     r"what is told)\b", re.I)
+READ_FOR_ENGLISH = ("*.md", "docs/*.md", "crates/*/README.md", "bindings/**/*", "examples/[cds]*", "examples/language_server/*",
+                    "examples/web/*", "include/*", "Makefile", "bench/*", "bench/plain/src/*", "tests/*", "tests/compiled/**/*")
+WRITTEN = {"docs/meaning.md", "docs/definitions.md", "tests/test_sources.py"}  # by tools/meaning; and this list
 # A line whose call only shows a proof an invariant of the type.
 FOR_PROOFS = r"^ *let _ = \(?[\w.]+\(\)"
 
@@ -63,10 +71,10 @@ def test_regexes():
     wrong = [crate for crate, libraries in listed().items() if crate.startswith("rope_search") and "regex_cursor" in libraries]
     test("no other crate above names regex_cursor", [] if wrong == ["rope_search_reports"] else [f"{wrong}"])
     kept = ("rope_search_reports/src/rows/counted.rt", "rope_search_reports/src/laws.rt",
-            "rope_search_reports/src/explaining.rt")
-    shown = re.findall(r"\w+", " ".join(re.findall(r"regex_cursor::([^;]+);", dict(above)[kept[2]])))
-    due = ["util", "syntax", "Config", "Mistake", "Reason", "Refusal", "explain"]
-    test("what reports hand on of regex_cursor searches nothing", [] if shown == due else [f"{shown}"])
+            "rope_search_reports/src/explaining.rt", "rope_search_reports/src/escaping.rt")
+    shown = re.findall(r"\w+", " ".join(re.findall(r"regex_cursor::([^;]+);", "".join(map(dict(above).get, kept[2:])))))
+    due = ["util", "syntax", "Config", "Mistake", "Reason", "Refusal", "explain", "SyntaxError", "escape"]
+    test("what reports re-export of regex_cursor searches nothing", [] if shown == due else [f"{shown}"])
     reports = [(path, re.sub(r"^ *ghost use .*", "", text, flags=re.M)) for path, text in above
                if path.startswith("rope_search_reports/") and path not in kept]
     wrong = that_name(r"\bregex_cursor\b", reports)
@@ -161,20 +169,22 @@ def test_figures():
     table = re.findall(r"^\|.*", readme.split("\n## How fast\n")[1].split("\n## ")[0], re.M)
     cited = [f"{number} {unit}" for row in table for number, unit in re.findall(r"([\d.,]+) (ns|us|µs|ms|s|%)(?!\w)", row)]
     wrong = [figure for figure in cited if not re.search(rf"(?<![\d.,]){figure.replace('µ', 'u')}", results)]
-    test(f"the {len(cited)} figures of README.md stand in bench/RESULTS.md", wrong if cited else ["there is none"])
+    test(f"the {len(cited)} figures of README.md are in bench/RESULTS.md", wrong if cited else ["there is none"])
 
 
 def test_costs():
     """The page of ways to embed the library has the cost of a letter for each, as the page of results does."""
     results, page = read(os.path.join(TOP, "bench", "RESULTS.md")), read(os.path.join(TOP, "docs", "embedding.md"))
-    rows = re.findall(r"^\| (.*?) \| ([\d,]+) (ns|us) \|", results.split("\n## embedded\n")[1].split("\n## ")[0], re.M)
-    measured = {name: int(number.replace(",", "")) / (1000 if unit == "ns" else 1) for name, number, unit in rows}
+    rows = re.findall(r"^\| (.*?) \| ([\d,]+) (ns|us|ms) \|", results.split("\n## embedded\n")[1].split("\n## ")[0], re.M)
+    micros = {"ns": 0.001, "us": 1, "ms": 1000}
+    measured = {name: int(number.replace(",", "")) * micros[unit] for name, number, unit in rows}
     names = {"C": "in C", "Rust": "in Rust", "Python": "in Python", "Lua": "in LuaJIT", "Node": "by the program from Node",
              "A web page": "in WebAssembly, in Node", "A child process": "by the program over pipes",
              "A language server": "by the language server", "Neovim": "in Neovim, with its own edit"}
     told = dict(re.findall(r"^\| \[([^]]*)\].*\| ([\d.]+) µs \|$", page, re.M))
     due = {way: f"{measured[name]:.{int(measured[name] < 10)}f}" for way, name in names.items() if name in measured}
-    test("docs/embedding.md has what a letter costs", [] if told == due else [f"it has {told}, not {due}"])
+    wrong = [] if told == due else [f"it has {told}, not {due}: run bench/cite"]
+    test("docs/embedding.md has the time of a letter for each way that is measured", wrong)
 
 
 def anchors(text):
@@ -212,7 +222,19 @@ def test_length():
     test("the pages have 28,000 words at most", [] if sum(counts) <= 28_000 else [f"they have {sum(counts)}"])
 
 
+def test_english():
+    """Pages, the header, scripts and tests have none of certain phrases."""
+    paths = {path for form in READ_FOR_ENGLISH for path in glob.glob(os.path.join(TOP, form), recursive=True)}
+    names = {os.path.relpath(path, TOP) for path in paths if os.path.isfile(path)} - WRITTEN
+    wrong = []
+    for name in sorted(name for name in names if not re.search(r"/(target|node_modules|__pycache__)/|\.(lock|png|svg|jsonl)$", name)):
+        for number, line in enumerate(read(os.path.join(TOP, name)).split("\n"), 1):
+            wrong += [f"{name}:{number}: {found[0]}" for found in UNUSUAL.finditer(line)]
+    test(f"{len(names)} files have none of the phrases that aren't usual in English", wrong if names else ["there is no file"])
+
+
 def test_all():
+    test_english()
     test_picture()
     test_figures()
     test_costs()

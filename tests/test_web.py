@@ -12,6 +12,7 @@ import shutil
 import subprocess
 import sys
 import tempfile
+import zlib
 
 from browser import chromium
 from harness import LIBRARY_FOLDER, ROOM, TOP, VERSION, run, share_of, short, test
@@ -33,6 +34,7 @@ FOLDER = os.path.join(TOP, "bindings", "web")
 MEMORY64 = "--experimental-wasm-memory64"
 RUNS_OF_HEAP = 40
 SESSIONS, SESSIONS_IN_RUN = 300, 15  # random ones, some of them hostile
+MOST_KB, MOST_COMPRESSED_KB = 700, 250  # of the module, as docs/embedding.md says
 SANITIZED = ["-std=c99", "-pedantic", "-O1", "-g", "-Wall", "-Wextra", "-Werror", "-fno-strict-aliasing",
              "-fsanitize=address,undefined", "-fno-sanitize-recover=all"]
 
@@ -206,6 +208,8 @@ def wrong_tables(node):
     calls = declared(header).items()
     due = {name.removeprefix("rope_search_"): row_of(result, list(kinds)) for name, (result, *kinds) in calls}
     due.pop("open")
+    # It writes how many it copied, and not how many there are.
+    due["next_all"][1][0] = "first"
     rows = {**tables["CALLS"], **tables["FREE_CALLS"]}
     wrong = differing("calls", {name: table_row(*row) for name, row in rows.items()}, due)
     forms = {}
@@ -230,6 +234,17 @@ def wrong_exports():
         found = sections(file.read())
     wrong = [f"{name} isn't as it should be" for name in found.exports ^ due]
     return wrong + [f"it imports {name}" for name in found.imports]
+
+
+def wrong_size():
+    """The module must be no larger than docs/embedding.md says."""
+    with open(MODULE, "rb") as file:
+        data = file.read()
+    sizes = len(data), len(zlib.compress(data))
+    is_small = sizes[0] <= MOST_KB * 1000 and sizes[1] <= MOST_COMPRESSED_KB * 1000
+    wrong = [] if is_small else [f"it has {sizes[0]} and {sizes[1]} bytes"]
+    due = f"at most {MOST_KB} kB, {MOST_COMPRESSED_KB} kB compressed"
+    return wrong + ([] if due in read("docs", "embedding.md") else [f"the page doesn't say {due!r}"])
 
 
 def wrong_version():
@@ -371,6 +386,7 @@ def test_all():
         print(f"skipped, no {os.path.relpath(MODULE, TOP)}, which make web builds: {what}")
         return
     test("the module exports the header's calls, and imports nothing", wrong_exports())
+    test(f"the module has at most {MOST_KB} kB, {MOST_COMPRESSED_KB} kB compressed", wrong_size())
     if words is not None:
         test_under_node(words)
     if chromium() is None:

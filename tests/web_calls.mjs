@@ -29,6 +29,8 @@ same(session.copyMatchesIn(0, 1, 32), [{ line: 0, start: 15, stop: 19 }]);
 same([session.countMatches(0, 9), session.countMatches(1, 1), session.rows()], [2, 0, 3]);
 same(session.next({ line: 0, column: 17 }), { start: { line: 1, column: 3 }, stop: { line: 1, column: 7 } });
 same(session.next([1, 4]), null);
+same(session.nextAll([0, 17]), [{ start: { line: 1, column: 3 }, stop: { line: 1, column: 7 } }]);
+same([session.nextAll({ line: 0, column: 0 }).length, session.nextAll([0, 0], 1).length, session.nextAll([2, 0], 0)], [2, 1, []]);
 const [whole, letter, absent] = session.groupsAt(1, 0);
 same([whole, letter], [{ found: true, line: 1, start: 3, stop: 7 }, { found: true, line: 1, start: 5, stop: 6 }]);
 same([absent.found, absent.start, absent.stop], [false, 0, 0]);
@@ -73,6 +75,7 @@ same([session.rows(), session.matches(), Object.keys(session.counted())], [0, []
 // ---- results and texts that no cell has room for
 session.setText("ab ".repeat(50_000));
 session.setPattern("a");
+same([session.nextAll([0, 3], 60_000).length, session.nextAll([0, 0]).length], [49_999, 1_024]);
 same([session.matches().length, session.replace("é")], [50_000, 50_000]);
 same([session.textChanges().length, session.text()], [50_000, "éb ".repeat(50_000)]);
 
@@ -80,7 +83,7 @@ same([session.textChanges().length, session.text()], [50_000, "éb ".repeat(50_0
 session.setText("é\r\nb");
 for (const call of [() => session.redo(), () => session.undo(), () => session.choose(7)]) refused("Nothing", call);
 session.off();
-refused("Nothing", () => session.next([0, 0]));
+for (const call of [() => session.next([0, 0]), () => session.nextAll([9, 9], 3)]) refused("Nothing", call);
 for (const call of [
   () => session.edit([0, 2], [0, 2], ""), () => session.edit([1, 1], [1, 0], ""), () => session.byteOf([2, 0]),
   () => session.positionOf(1), () => session.lineLen(2), () => session.line(2), () => session.copyText(0, 1),
@@ -96,6 +99,9 @@ refused("Pattern", () => session.setPattern("é|(b"));
 throws(() => session.setPattern("é|(b"), (error) => error.place === 5 && error.reason === "a group isn't closed");
 same([library.patternError("a"), library.patternError("a**b{")], [null, library.patternError("a**b{")]);
 refused("Limit", () => session.setPattern("a".repeat(65_537)));
+same(["f(x)^2", "", "é.🐸", "$".repeat(32_768)].map((text) => library.escape(text)), ["f\\(x\\)\\^2", "", "é\\.🐸", "\\$".repeat(32_768)]);
+refused("Limit", () => library.escape("$".repeat(32_769)));
+refused("Utf8", () => library.escape("\ud800"));
 const small = library.open({ limit: 3 });
 refused("Size", () => small.setText("four"));
 small.setText("one");

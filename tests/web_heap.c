@@ -1,11 +1,11 @@
 /*
- * Random requests to the heap of the module of WebAssembly, beside a model: which blocks are in
+ * Random requests to the heap of the WebAssembly module, compared with a model: which blocks are in
  * use, and the bytes in them.
  *
  *     cc -fsanitize=address,undefined tests/web_heap.c -o web_heap && ./web_heap [SEEDS]
  *
- * The memory is an array here. It grows as far as a limit that changes, and now and then somebody
- * else grows it. The rules of bindings/web/heap.c are read off the blocks themselves.
+ * Here the memory is an array. It grows up to a limit that changes, and sometimes code outside the
+ * heap grows it. The rules of bindings/web/heap.c are checked on the blocks themselves.
  */
 #include <stdio.h>
 #include <stdlib.h>
@@ -23,7 +23,7 @@ static struct {
     unsigned key;
 } live[LIVE];
 static unsigned count, keys;
-/* Which block in use has its bytes at a multiple of 16, from 1, or 0. */
+/* For each multiple of 16, the number, from 1, of the block in use that owns the bytes there, or 0. */
 static unsigned owners[PAGES * PAGE / GRAIN];
 static byte *starts[REGIONS];
 static unsigned regions;
@@ -80,7 +80,7 @@ static byte byte_at(unsigned key, usize k)
     return (byte)((key * 2654435761u + k * 40503u) >> 7);
 }
 
-/* The byte after one that is looked at: all of the first 256 are, and of the others some. */
+/* The next byte to check after one: all of the first 256 are checked, and some of the others. */
 static usize after(usize k)
 {
     return k < 256 ? k + 1 : k + 509;
@@ -111,7 +111,7 @@ static void check_bytes(unsigned which)
         wrong("a block has another last byte than its owner wrote");
 }
 
-/* Each block of a list is free, of the list's class, and linked both ways. */
+/* Each block of a list is free, has the class of the list, and is linked both ways. */
 static usize listed(void)
 {
     usize all = 0;
@@ -135,7 +135,7 @@ static usize listed(void)
     return all;
 }
 
-/* The blocks of all regions: how many are free, the largest of these, and all their bytes. */
+/* The blocks of all regions: how many are free, the largest free one, and the bytes of all blocks. */
 static struct summary {
     usize free, largest, bytes;
 } blocks(void)
@@ -281,7 +281,7 @@ static void some_step(void)
 {
     usize roll = below(1000);
     if (roll < 2 && pages < limit && regions && regions < REGIONS - 2) {
-        pages++; /* by somebody else: nobody's */
+        pages++; /* grown by other code: these bytes belong to no block */
     } else if (roll < 8) {
         limit = pages + below(PAGES - pages + 1);
     } else if (roll < 20) {
@@ -311,7 +311,7 @@ static void start_anew(unsigned long long seed)
     memset(memory, (int)below(256), PAGE);
 }
 
-/* When all is freed, each region is one free block, which one request can take. */
+/* After all blocks are freed, each region is one free block, which one request can take. */
 static void check_end(void)
 {
     struct summary all;

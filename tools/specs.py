@@ -106,7 +106,7 @@ class Module:
 
 
 class Specs:
-    """All definitions, read as they are asked for."""
+    """All definitions, read when they are needed."""
 
     def __init__(self):
         self.modules, self.types, self.unknown = {}, {}, set()
@@ -183,7 +183,7 @@ class Reader:
         """Cites all that is free. What is bound inside brackets is bound up to their end."""
         scopes, at = [{"_", *bound}], 0
         ends = [self.next_of(tokens, 0, (sign,)) for sign in "=:"]
-        if ends[0] < ends[1]:  # a clause: patterns, and then what they stand for
+        if ends[0] < ends[1]:  # a clause: patterns, and then their meaning
             for token in tokens[1 : ends[0]]:
                 self.pattern(token, scopes[0])
             at = ends[0]

@@ -21,6 +21,7 @@ typedef struct { void *at; bool is_open; } rope_search;
 typedef struct { uint64_t rows, wholes; } rope_search_counts;
 typedef struct { size_t line, column; } rope_search_position;
 typedef struct { bool found; rope_search_position start, stop; } rope_search_match;
+typedef struct { rope_search_position start, stop; } rope_search_text_match;
 typedef struct { size_t line, start, stop; } rope_search_span;
 typedef struct { bool found; size_t line, start, stop; } rope_search_group;
 typedef struct { size_t line, number, start, stop; } rope_search_listed;
@@ -39,8 +40,10 @@ uint32_t rope_search_undo(rope_search *);
 uint32_t rope_search_redo(rope_search *);
 uint32_t rope_search_set_pattern(rope_search *, const uint8_t *, size_t);
 uint32_t rope_search_pattern_error(const uint8_t *, size_t, rope_search_pattern_reason *);
+uint32_t rope_search_escape(const uint8_t *, size_t, uint8_t *, size_t, size_t *);
 uint32_t rope_search_off(rope_search *);
 uint32_t rope_search_next(rope_search *, rope_search_position, rope_search_match *);
+uint32_t rope_search_next_all(rope_search *, rope_search_position, rope_search_text_match *, size_t, size_t *);
 uint32_t rope_search_replace(rope_search *, const uint8_t *, size_t, size_t *);
 uint32_t rope_search_replace_match(rope_search *, size_t, size_t, const uint8_t *, size_t);
 uint32_t rope_search_replace_listed(rope_search *, size_t, size_t, const uint8_t *, size_t, size_t *);
@@ -178,13 +181,24 @@ function M.open(limit)
 end
 
 -- Where and why a text is no pattern: { place, reason }, the byte at which the first character begins
--- that can't stand there and one of rope_search.reasons; or false, where "pattern" isn't why it is
+-- that can't be there and one of rope_search.reasons; or false, where "pattern" isn't why it is
 -- refused, if it is. No session takes part.
 function M.pattern_error(pattern)
   local told_of = ffi.new("rope_search_pattern_reason")
   local status = library().rope_search_pattern_error(pattern, #pattern, told_of)
   local reason = M.reasons[told_of.reason]
   return told(status, reason ~= nil and { place = tonumber(told_of.place), reason = reason })
+end
+
+-- A pattern that matches that text only: the text with a backslash before each character that has a
+-- meaning of its own in a pattern. Needs no session. Refused with "limit" if the pattern would have
+-- more than 65,536 bytes.
+function M.escape(text)
+  -- A pattern never has more bytes than this.
+  local room = math.min(2 * #text, 65536)
+  local out, len = ffi.new("uint8_t[?]", math.max(1, room)), ffi.new("size_t[1]")
+  local status = library().rope_search_escape(text, #text, out, room, len)
+  return told(status, ffi.string(out, tonumber(len[0])))
 end
 
 -- Ends the session: all further calls are refused with "closed". It may be called again.
@@ -196,7 +210,7 @@ function Session:is_open()
   return self.handle.is_open
 end
 
--- Sets the text; its history begins anew.
+-- Sets the text, and empties its history.
 function Session:set_text(text)
   return told(calls.rope_search_set_text(self.handle, text, #text))
 end
@@ -249,7 +263,21 @@ function Session:next(start)
   return told(status, match.found and { start = spot(match.start), stop = spot(match.stop) })
 end
 
--- Replaces all matches, and tells how many there were.
+-- The first matches in the whole text at a position or after it, each as its two positions, at most
+-- `room`, 1024 where it isn't given: of those that `replace` replaces, found from the text's start in
+-- one search.
+function Session:next_all(start, room)
+  room = room or 1024
+  local out, count = ffi.new("rope_search_text_match[?]", math.max(1, room)), ffi.new("size_t[1]")
+  local status = calls.rope_search_next_all(self.handle, position(start), out, room, count)
+  local matches = {}
+  for i = 0, tonumber(count[0]) - 1 do
+    matches[i + 1] = { start = spot(out[i].start), stop = spot(out[i].stop) }
+  end
+  return told(status, matches)
+end
+
+-- Replaces all matches, and returns their number.
 function Session:replace(template)
   local count = ffi.new("size_t[1]")
   local status = calls.rope_search_replace(self.handle, template, #template, count)

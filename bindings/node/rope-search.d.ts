@@ -92,7 +92,7 @@ export class Session {
   /** The number of the process, unless it could not be started. */
   readonly pid: number | undefined;
 
-  /** Sets the text. Its history begins anew; the pattern stays. Refused: utf8, size, memory. */
+  /** Sets the text, and empties the history; the pattern stays. Refused: utf8, size, memory. */
   setText(text: Text): Promise<void>;
 
   /**

@@ -54,7 +54,7 @@ class Listed(NamedTuple):
 
 
 class PatternError(NamedTuple):
-    """Where and why a text is no pattern: the byte at which the first character begins that can't stand there, the text's
+    """Where and why a text is no pattern: the byte at which the first character begins that can't be there, the text's
     length where it ends too early; and one of REASONS."""
     place: int
     reason: str
@@ -175,6 +175,10 @@ class _Match(ctypes.Structure):
     _fields_ = [("found", ctypes.c_bool), ("start", _Position), ("stop", _Position)]
 
 
+class _TextMatch(ctypes.Structure):
+    _fields_ = [("start", _Position), ("stop", _Position)]
+
+
 class _Span(ctypes.Structure):
     _fields_ = [("line", ctypes.c_size_t), ("start", ctypes.c_size_t), ("stop", ctypes.c_size_t)]
 
@@ -216,8 +220,10 @@ _CALLS = {
     "redo": (_STATUS, _HANDLE),
     "set_pattern": (_STATUS, _HANDLE, _BYTES, _SIZE),
     "pattern_error": (_STATUS, _BYTES, _SIZE, ctypes.POINTER(_PatternReason)),
+    "escape": (_STATUS, _BYTES, _SIZE, _BYTES, _SIZE, ctypes.POINTER(_SIZE)),
     "off": (_STATUS, _HANDLE),
     "next": (_STATUS, _HANDLE, _Position, ctypes.POINTER(_Match)),
+    "next_all": (_STATUS, _HANDLE, _Position, ctypes.POINTER(_TextMatch), _SIZE, ctypes.POINTER(_SIZE)),
     "replace": (_STATUS, _HANDLE, _BYTES, _SIZE, ctypes.POINTER(_SIZE)),
     "replace_match": (_STATUS, _HANDLE, _SIZE, _SIZE, _BYTES, _SIZE),
     "replace_listed": (_STATUS, _HANDLE, _SIZE, _SIZE, _BYTES, _SIZE, ctypes.POINTER(_SIZE)),
@@ -303,6 +309,10 @@ def _bytes_of(text: Text) -> bytes:
     return text if isinstance(text, bytes) else text.encode("utf-8", "surrogatepass")
 
 
+def _match_of(match: Union[_Match, _TextMatch]) -> Match:
+    return Match(Position(match.start.line, match.start.column), Position(match.stop.line, match.stop.column))
+
+
 def _check(status: int) -> None:
     if status:
         raise FAULTS[status - 1]()
@@ -314,6 +324,17 @@ def pattern_error(pattern: Text) -> Optional[PatternError]:
     pattern, told = _bytes_of(pattern), _PatternReason()
     _check(library().rope_search_pattern_error(pattern, len(pattern), told))
     return PatternError(told.place, REASONS[told.reason - 1]) if told.reason else None
+
+
+def escape(text: Text) -> str:
+    """A pattern that matches that text only: the text with a backslash before each character that has a meaning of its own
+    in a pattern. Needs no session. Refused: Utf8; Limit, if the pattern would have more than 65,536 bytes; Memory."""
+    text = _bytes_of(text)
+    # A pattern never has more bytes than this.
+    room = min(2 * len(text), 65_536)
+    out, size = ctypes.create_string_buffer(max(1, room)), _SIZE()
+    _check(library().rope_search_escape(text, len(text), out, room, size))
+    return out.raw[: size.value].decode("utf-8")
 
 
 class Session:
@@ -346,7 +367,7 @@ class Session:
     # ---- commands
 
     def set_text(self, text: Text) -> None:
-        """Sets the text; its history begins anew. Refused: Utf8, Size, Memory."""
+        """Sets the text, and empties its history. Refused: Utf8, Size, Memory."""
         text = _bytes_of(text)
         _check(self._calls.rope_search_set_text(self._handle, text, len(text)))
 
@@ -390,12 +411,17 @@ class Session:
         """The first match in the whole text at a position or behind it. Refused: Nothing, Range, Memory."""
         match = _Match()
         _check(self._calls.rope_search_next(self._handle, _Position(*start), match))
-        if not match.found:
-            return None
-        return Match(Position(match.start.line, match.start.column), Position(match.stop.line, match.stop.column))
+        return _match_of(match) if match.found else None
+
+    def next_all(self, start: Tuple[int, int], room: int = 1_024) -> List[Match]:
+        """The first matches in the whole text at a position or after it, at most `room`: of those that `replace` replaces,
+        found from the text's start in one search. Refused: Nothing, Range, Memory."""
+        out, count = (_TextMatch * max(1, room))(), ctypes.c_size_t()
+        _check(self._calls.rope_search_next_all(self._handle, _Position(*start), out, room, count))
+        return [_match_of(match) for match in out[:count.value]]
 
     def replace(self, template: Text) -> int:
-        """Replaces all matches, and tells how many there were. Refused: Nothing, Utf8, Size, Memory."""
+        """Replaces all matches, and returns their number. Refused: Nothing, Utf8, Size, Memory."""
         template, count = _bytes_of(template), ctypes.c_size_t()
         _check(self._calls.rope_search_replace(self._handle, template, len(template), count))
         return count.value

@@ -21,6 +21,8 @@
  * - `structure`: a structure, which it writes through its first pointer
  * - `copies`: an array of structures, or of bytes, of which it returns the number, or writes it through its
  *   last pointer and returns a status
+ * - `first`: an array of at most as many structures as the last argument says, of which it writes the number
+ *   through its last pointer and returns a status
  * - `filled`: an array of a length that is known before. A call that returns no status refuses a range.
  */
 const status = (...writes) => ({ form: "status", writes });
@@ -28,10 +30,12 @@ const found = (...writes) => ({ form: "found", writes });
 const value = (kind) => ({ form: "value", kind });
 const structure = (kind) => ({ form: "structure", kind });
 const copies = (kind, returns = "count") => ({ form: "copies", kind, returns });
+const first = (kind, count) => ({ form: "first", kind, count, returns: "status" });
 const filled = (kind, count, returns = "bool") => ({ form: "filled", kind, count, returns });
 
 /** How long arrays are that calls fill. */
 const bytesBetween = (_, from, to) => to - from;
+const roomAfter = (_, __, room = 1_024) => room;
 const bytesOfLine = (session, line) => session.lineLen(line, 8);
 
 export const CALLS = {
@@ -45,6 +49,7 @@ export const CALLS = {
   set_pattern: ["text", status()],
   off: ["", status()],
   next: ["position", status("match")],
+  next_all: ["position", first("text_match", roomAfter)],
   replace: ["text", status("size")],
   fork: ["", status("size")],
   choose: ["size", status()],
@@ -93,6 +98,7 @@ export const CALLS = {
 export const FREE_CALLS = {
   version: ["", value("u32")],
   pattern_error: ["text", status("pattern_reason")],
+  escape: ["text", copies("byte", "status")],
 };
 
 /** The structures of the header, each with the kinds of its fields. */
@@ -100,6 +106,7 @@ export const STRUCTURES = {
   counts: { rows: "size", wholes: "size" },
   position: { line: "size", column: "size" },
   match: { found: "bool", start: "position", stop: "position" },
+  text_match: { start: "position", stop: "position" },
   span: { line: "size", start: "size", stop: "size" },
   group: { found: "bool", line: "size", start: "size", stop: "size" },
   listed: { line: "size", number: "size", start: "size", stop: "size" },

@@ -106,7 +106,7 @@ static struct block *block_of(void *bytes)
     return (struct block *)((byte *)bytes - HEAD);
 }
 
-/* The size of a block for so many bytes, or 0 if there is none. */
+/* The size of a block for this number of bytes, or 0 if there is none. */
 static usize size_for(usize bytes)
 {
     usize size;
@@ -241,7 +241,7 @@ static void add_region(byte *start, byte *end)
     release(first, (usize)((byte *)last - (byte *)first));
 }
 
-/* Grows the memory by so many bytes at least, which are free, joined with those at its end. */
+/* Grows the memory by at least this number of bytes, which are free, joined with those at its end. */
 static _Bool grow(usize bytes)
 {
     byte *end = memory_end();
@@ -280,7 +280,7 @@ static struct block *find_first(usize size)
     return find(size);
 }
 
-/* A block in use for so many bytes, or null. */
+/* A block in use for this number of bytes, or null. */
 static struct block *take(usize bytes)
 {
     usize size = size_for(bytes);

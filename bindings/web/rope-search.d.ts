@@ -140,6 +140,12 @@ export class Library {
 
   /** Returns where and why a text is no pattern, or null. Refused: Utf8, Memory. */
   patternError(pattern: Text): PatternError | null;
+
+  /**
+   * Returns a pattern that matches that text only: the text with a backslash before each character that has a
+   * meaning of its own in a pattern. Refused: Utf8; Limit, if the pattern would have more than 65,536 bytes; Memory.
+   */
+  escape(text: Text): string;
 }
 
 /**
@@ -157,7 +163,7 @@ export class Session {
 
   // ---- commands
 
-  /** Sets the text. Its history begins anew; the pattern stays. Refused: Utf8, Size, Memory. */
+  /** Sets the text, and empties the history; the pattern stays. Refused: Utf8, Size, Memory. */
   setText(text: Text): void;
   /** Replaces the text from one position to another. Refused: Range, Utf8, Size, Memory. */
   edit(start: PositionLike, stop: PositionLike, text: Text): void;
@@ -178,6 +184,11 @@ export class Session {
   off(): void;
   /** Finds the first match in the whole text from a position on. Refused: Nothing, Range, Memory. */
   next(from: PositionLike): Match | null;
+  /**
+   * Finds the first matches in the whole text from a position on, at most `room`, or 1,024 if it is left out: of
+   * those that `replace` replaces, found from the text's start in one search. Refused: Nothing, Range, Memory.
+   */
+  nextAll(from: PositionLike, room?: number): Match[];
   /** Replaces all matches in the whole text, and returns their number. Refused: Nothing, Utf8, Size, Memory. */
   replace(template: Text): number;
   /** Replaces the match of a number in a line's row. Refused: Nothing, Range, Utf8, Size, Memory. */
@@ -221,7 +232,7 @@ export class Session {
   line(line: number): string;
   /** The same as UTF-8. Refused: Range, Memory. */
   copyLine(line: number): Uint8Array;
-  /** The length of a line's text, in UTF-16 code units if nothing else is asked for. Refused: Range. */
+  /** The length of a line's text, in UTF-16 code units by default. Refused: Range. */
   lineLen(line: number, bits?: Bits): number;
   /** The byte at a position. Refused: Range. */
   byteOf(position: PositionLike): number;

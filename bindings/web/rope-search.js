@@ -18,7 +18,7 @@ import { CALLS, FREE_CALLS, REASONS, REFUSALS, STRUCTURES } from "./calls.js";
 
 export { REASONS };
 
-/** How many bytes a session's texts may have if nothing else is asked for: 1 GiB. */
+/** The default limit on the bytes of a session's texts: 1 GiB. */
 const LIMIT = 2 ** 30;
 /**
  * The bytes of a module's memory that short arguments and results are in: four values that a call writes, each
@@ -178,7 +178,7 @@ export class Library {
     }
   }
 
-  /** The address of so many bytes, until `free`. */
+  /** The address of this number of bytes, until `free`. */
   alloc(call, size) {
     const at = this.enter("heap_alloc", [BigInt(size)]);
     if (!at) throw refusal(Memory, call);
@@ -189,7 +189,7 @@ export class Library {
     this.enter("heap_free", [BigInt(at)]);
   }
 
-  /** The address of so many bytes while a call is under way. */
+  /** The address of this number of bytes during a call. */
   #lend(call, size) {
     const at = this.alloc(call, size);
     this.#lent.push(at);
@@ -322,6 +322,10 @@ export class Library {
       }
       return this.readAll(kind, at, count);
     },
+    first: (call, words, { kind, returns }, room) => {
+      const at = this.#lend(call, measures(kind).size * room);
+      return this.readAll(kind, at, this.#copied(call, words, returns, at, room));
+    },
     filled: (call, words, { kind, returns }, count) => {
       const at = this.#lend(call, measures(kind).size * count);
       const returned = this.enter(call, [...words, BigInt(at), BigInt(count)]);
@@ -355,6 +359,11 @@ export class Library {
   patternError(pattern) {
     const { reason, place } = this.call("pattern_error", [pattern]);
     return reason === 0 ? null : { place, reason: REASONS[reason - 1] };
+  }
+
+  /** A pattern that matches that text only. */
+  escape(text) {
+    return new TextDecoder().decode(this.call("escape", [text]));
   }
 }
 

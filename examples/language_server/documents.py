@@ -39,7 +39,7 @@ class Document:
         self.listed = self.matches(self.report)
 
     def edit(self, start, stop, text):
-        """Replaces the text between two places, each a line and a column."""
+        """Replaces the text between two positions, each a line and a column."""
         start, stop = sorted((self.position(*start), self.position(*stop)))
         for session in self.sessions:
             session.edit(start, stop, LONE_SURROGATE.sub("\ufffd", text))

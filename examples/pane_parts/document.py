@@ -2,20 +2,15 @@
 
 The program has the text in buffer 0, with its history. The text is kept here too, and changed by what was sent. The
 rows of lines that a change brings are told by buffer 1, under the same pattern, which is given these lines alone: each
-line is searched by itself, so its row depends on no other.
-
-Over the library a new pattern is pending at first: its rows are made in slices, those of the lines that are shown before
-the others. Meanwhile the matches that are known are those of these lines."""
+line is searched by itself, so its row depends on no other."""
 import bisect
 import itertools
 
-from calls import WORDS, rope_search
 from client import command
 
 from .text import BREAKS, Text
 
 FEW = 1000  # lines: where a change brings more, the report is listed whole
-SLICE = 4000  # lines that are searched at once for a pending pattern
 
 
 class Refused(Exception):
@@ -33,25 +28,20 @@ def rows_of(reply, count):
     return rows
 
 
-def rows_of_spans(spans, start, stop):
-    """The rows of lines, by the matches that the library tells of them."""
-    rows = [()] * (stop - start)
-    for line, found in itertools.groupby(spans, lambda span: span.line):
-        rows[line - start] = [(span.start, span.stop) for span in found]
-    return rows
-
-
 class Document:
     """A text in the program, with its history, and the rows of its matches under a pattern, if it has one."""
 
     def __init__(self, client, text):
         self.client, self.text = client, Text(text)
-        self.session = getattr(client, "session", None)  # of the library
         self.changes, self.at = [], 0  # what led from each text to the next, and how many of them are done
         self.rows, self.count, self.has_pattern = [], 0, False
+        self.is_pending = False  # each report is made whole
         self.ask(b"fork\n")  # of the empty text, for buffer 1
         self.ask(command(b"text", text.encode()))
         self.forget_rows()
+
+    def close(self):
+        self.client.close()
 
     def ask(self, sent):
         reply = self.client.ask(sent)
@@ -82,56 +72,20 @@ class Document:
         try:
             for buffer in (b"use 1\n", b"use 0\n"):
                 self.ask(buffer)
-                is_begun = self.session and buffer == b"use 0\n"
-                self.ask(command(b"pattern", data) if data and not is_begun else b"off\n")
-            if data and self.session:
-                self.called(lambda: self.session.begin_pattern(data))
+                self.ask(command(b"pattern", data) if data else b"off\n")
         except Refused:
             self.set_pattern("")
             raise
         if data:
             self.has_pattern = True
-            self.advance() if self.session else self.list_rows()
-
-    # ---- a pending pattern
-
-    @property
-    def is_pending(self):
-        """Whether lines are left to be searched."""
-        return self.session is not None and self.session.pending is not None
-
-    def called(self, call):
-        """What a call of the library answers."""
-        try:
-            return call()
-        except rope_search.Fault as fault:
-            raise Refused(WORDS[type(fault)].decode()) from None
-
-    def take(self, start, stop, spans):
-        """Takes the rows of some lines."""
-        new = rows_of_spans(spans, start, stop)
-        self.count += sum(map(len, new)) - sum(map(len, self.rows[start:stop]))
-        self.rows[start:stop] = new
-
-    def advance(self):
-        """Searches a slice more, and takes its rows."""
-        start = self.session.pending
-        if self.called(lambda: self.session.advance(SLICE)):
-            self.take(start, len(self.text.lines), self.session.matches(start))
-        else:
-            stop = self.session.pending
-            self.take(start, stop, self.session.pending_matches(start, stop))
+            self.list_rows()
 
     def show(self, lines):
-        """Takes the rows of lines that are shown, whether they are done or not."""
-        start, stop = lines.start, min(lines.stop, len(self.text.lines))
-        if self.is_pending and start < stop:
-            self.take(start, stop, self.called(lambda: self.session.window(start, stop)))
+        """The rows of lines that are shown are known."""
 
-    def finish(self):
-        """Searches all lines that are left."""
-        while self.is_pending:
-            self.advance()
+    def row(self, line):
+        """The columns of the matches in a line."""
+        return self.rows[line]
 
     def list_rows(self):
         self.rows = rows_of(self.ask(b"list\n"), len(self.text.lines))
@@ -154,21 +108,14 @@ class Document:
             self.forget_rows()
             return
         if len(change.come) > FEW:
-            self.rows_to_come(change)
+            self.list_rows()
             return
         try:
             new = self.rows_that_come(change.come) if change.come else []
         except Refused:  # for want of memory, which list needs none of
-            self.rows_to_come(change)
+            self.list_rows()
             return
         self.put_rows(change, new)
-
-    def rows_to_come(self, change):
-        """Lists all rows; or leaves those of a change empty, where the next slices make them."""
-        if self.is_pending:
-            self.put_rows(change, [()] * len(change.come))
-        else:
-            self.list_rows()
 
     def put_rows(self, change, new):
         """Puts the rows of the lines that a change brings in the place of those that go."""
@@ -183,36 +130,36 @@ class Document:
         self.at += 1
         self.follow(change)
 
-    def edit(self, first, last, text):
-        """Puts a text in the place of what lies between two positions, and answers the change that did."""
+    def edit(self, first, last, text, is_run=False):
+        """Puts a text in the place of what lies between two positions, and answers where it ends. Each is a step of its
+        own: no command makes several one."""
         change = self.text.change(first, last, text)
         self.ask(command(b"edit %d %d %d %d" % (*first, *last), text.encode()))
         self.done(change)
-        return change
+        return self.text.clamped(*change.place)
 
     def replace(self, template):
         """Puts what a template stands for in the place of all matches of the whole text, and answers how many."""
-        self.finish()
         count = int(self.ask(command(b"replace", template.encode()))[3:])
         told = self.ask(b"print\n")
         self.done(self.text.change_to(told[told.index(b"\n") + 1 : -1].decode()))
         return count
 
     def undo(self):
-        """Goes a text back, and answers the change that did."""
+        """Goes a text back, and answers where it changed."""
         self.ask(b"undo\n")
         self.at -= 1
         change = self.changes[self.at].back()
         self.follow(change)
-        return change
+        return self.text.clamped(*change.place)
 
     def redo(self):
-        """Goes a text forward, and answers the change that did."""
+        """Goes a text forward, and answers where it changed."""
         self.ask(b"redo\n")
         self.at += 1
         change = self.changes[self.at - 1]
         self.follow(change)
-        return change
+        return self.text.clamped(*change.place)
 
     # ---- matches
 
@@ -239,7 +186,6 @@ class Document:
     def find_over_lines(self, line, column):
         """The first match of the whole text at a position or behind it, as two positions, or none. It may go over
         lines, which no row tells."""
-        self.finish()
         numbers = self.ask(b"next %d %d\n" % (line, column)).split()[1:]
         numbers = tuple(map(int, numbers)) if len(numbers) == 4 else None
         return numbers and (numbers[:2], numbers[2:])

@@ -50,6 +50,7 @@ class Pane:
         self.template, self.told, self.refused = "", "", ""  # what the last key is told, and why there is no pattern
         self.top, self.left = 0, 0  # the first line and the first cell shown
         self.place, self.found = (0, 0), None  # the cursor, and the match gone to, as two positions
+        self.run = None  # where letters that were typed one after the other end, which are one step to undo
 
     # ---- the pattern and its matches
 
@@ -75,8 +76,8 @@ class Pane:
         if self.spelled() != self.asked:
             self.set_pattern()
             self.document.show(self.shown())
-            rows, is_pending = self.document.rows, self.document.is_pending
-            if self.document.count and not any(rows[line] for line in self.shown() if line < len(rows)):
+            count, is_pending = self.document.text.count, self.document.is_pending
+            if self.document.count and not any(self.document.row(line) for line in self.shown() if line < count):
                 match = self.document.match_behind(self.top, (-1, -1))
                 match = match or (None if is_pending else self.document.match_behind(0, (-1, -1)))
                 self.top = match[0] if match else self.top
@@ -96,22 +97,22 @@ class Pane:
         the last one to the first, and back."""
         if self.spelled() != self.asked:
             self.set_pattern()
-        rows = self.document.rows
         line, column = self.found[0] if self.found else self.place_shown()
         if not self.document.has_pattern:
             return
-        if not self.document.count and self.document.is_pending:
-            self.told = "still searching"
-            return
-        if not self.document.count:
+        if not self.document.count and not self.document.is_pending:
             self.find_over_lines()
             return
         if is_back:
             mark = (column, self.found[1][1] if self.found else -1)
-            match = self.document.match_before(line, mark) or self.document.match_before(len(rows) - 1, AFTER_ALL)
+            last = self.document.text.count - 1
+            match = self.document.match_before(line, mark) or self.document.match_before(last, AFTER_ALL)
         else:
             mark = (column, self.found[1][1]) if self.found else (column, -1)
             match = self.document.match_behind(line, mark) or self.document.match_behind(0, (-1, -1))
+        if match is None:
+            self.told = "still searching"
+            return
         line, start, end = match
         self.found = (line, start), (line, end)
         self.go(self.found[0], self.found[1])
@@ -128,7 +129,7 @@ class Pane:
 
     def front(self):
         """How many cells a line's number has."""
-        return max(6, len(str(len(self.document.text.lines))))
+        return max(6, len(str(self.document.text.count)))
 
     def size(self):
         """How many lines there is room for, and how many cells for a line's text."""
@@ -168,7 +169,7 @@ class Pane:
         """Moves what is shown."""
         height, width = self.size()
         lines = self.lines_of(key)
-        last = len(self.document.text.lines) - 1
+        last = self.document.text.count - 1
         self.top = {"home": 0, "end": max(0, last - height + 1)}.get(key, max(0, min(self.top + lines, last)))
         self.left = max(0, self.left + {"left": -width // 2, "right": width // 2}.get(key, 0))
 
@@ -176,18 +177,19 @@ class Pane:
 
     def changed(self, change):
         """Makes a change, and tells if it was refused. Lines that are shown, and the cursor, may be gone then."""
+        self.run = None
         try:
             answer = change()
         except Refused as refused:
             self.told = f"error {refused}"
             return None
         text = self.document.text
-        self.top, self.place, self.found = min(self.top, len(text.lines) - 1), text.clamped(*self.place), None
+        self.top, self.place, self.found = min(self.top, text.count - 1), text.clamped(*self.place), None
         return answer
 
-    def edit(self, first, last, text):
+    def edit(self, first, last, text, is_run=False):
         """Puts a text in the place of what lies between two positions, and the cursor behind it."""
-        self.make(lambda: self.document.edit(first, last, text))
+        self.make(lambda: self.document.edit(first, last, text, is_run))
 
     def replace_all(self):
         """Puts what the template stands for in the place of all matches, if the pattern that was typed is one."""
@@ -202,9 +204,9 @@ class Pane:
 
     def make(self, change):
         """Makes a change, and goes to where it is."""
-        made = self.changed(change)
-        if made:
-            self.go(self.document.text.clamped(*made.place))
+        place = self.changed(change)
+        if place:
+            self.go(place)
 
     def undo_or_redo(self, change):
         """Goes a text back, or forward."""
@@ -219,6 +221,7 @@ class Pane:
             self.told = f"not saved: {error.strerror}"
         else:
             self.saved, self.stamp, self.told = self.document.state(), stamp_of(self.path), "saved"
+            self.run = None
 
     # ---- keys
 
@@ -228,7 +231,7 @@ class Pane:
         if self.lines_of(key):
             if key.startswith("page"):
                 self.move_file(key)
-            place = text.clamped(min(max(0, line + self.lines_of(key)), len(text.lines) - 1), column)
+            place = text.clamped(min(max(0, line + self.lines_of(key)), text.count - 1), column)
         else:
             to = {"right": text.behind, "left": text.before, "home": lambda *_: (line, 0)}
             to["end"] = lambda *_: (line, units(text.line(line)))
@@ -240,7 +243,9 @@ class Pane:
         """A key where it edits the text."""
         text, place = self.document.text, self.place
         if key.text or key.name == "enter":
-            self.edit(place, place, (key.text or "\n").replace("\n", text.break_near(place[0])))
+            is_letter, is_run = len(key.text) == 1, self.run == place
+            self.edit(place, place, (key.text or "\n").replace("\n", text.break_near(place[0])), is_letter and is_run)
+            self.run = self.place if is_letter else None
         elif key.name == "backspace" and text.before(*place):
             self.edit(text.before(*place), place, "")
         elif key.name == "delete" and text.behind(*place):
@@ -352,12 +357,12 @@ class Pane:
     def draw(self):
         """Shows the head, and below it the lines from `top` on."""
         self.document.show(self.shown())
-        lines, (_, width) = self.document.text.lines, self.size()
+        count, (_, width) = self.document.text.count, self.size()
         out = f"\x1b[H\x1b[K{self.head()}"
         for row, line in enumerate(self.shown()):
             out += f"\x1b[{row + 2}H\x1b[K"
-            if line < len(lines):
+            if line < count:
                 cursor = self.place[1] if self.mode == "text" and line == self.place[0] and not self.question else None
-                text, marks = self.document.text.line(line), (self.document.rows[line], self.found_in(line), cursor)
+                text, marks = self.document.text.line(line), (self.document.row(line), self.found_in(line), cursor)
                 out += f"{line + 1:{self.front()}}  {screen.marked(text, self.left, width, *marks)}"
         print(out, end="\x1b8", flush=True)

@@ -39,11 +39,42 @@ class Change:
         return Change(self.line, self.come, self.gone, self.place_back, self.place)
 
 
-class Text:
+class Lines:
+    """The lines of a text: `count` tells how many there are, `line` each without its break, `break_of` its break."""
+
+    def behind(self, line, column):
+        """The position one character further, or none at the end."""
+        text = self.line(line)
+        rest = text[index_of(text, column) :]
+        if rest:
+            return line, column + units(rest[0])
+        return (line + 1, 0) if line + 1 < self.count else None
+
+    def before(self, line, column):
+        """The position one character back, or none at the start."""
+        if column > 0:
+            text = self.line(line)
+            return line, units(text[: index_of(text, column) - 1])
+        return (line - 1, units(self.line(line - 1))) if line > 0 else None
+
+    def break_near(self, number):
+        """The break of a line, or of the one before it, or LF."""
+        return self.break_of(number) or (self.break_of(number - 1) if number > 0 else "") or "\n"
+
+
+class Text(Lines):
     """The lines of a text, which changes go through."""
 
     def __init__(self, text):
         self.lines = lines_of(text)
+
+    @property
+    def count(self):
+        return len(self.lines)
+
+    def break_of(self, number):
+        line = self.lines[number]
+        return line[len(line.rstrip(BREAKS)) :]
 
     def line(self, number):
         """A line's text, without its break."""
@@ -56,28 +87,6 @@ class Text:
             line, column = len(self.lines) - 1, units(self.lines[-1])
         text = self.line(line)
         return line, units(text[: index_of(text, column)])
-
-    def behind(self, line, column):
-        """The position one character further, or none at the end."""
-        text = self.line(line)
-        rest = text[index_of(text, column) :]
-        if rest:
-            return line, column + units(rest[0])
-        return (line + 1, 0) if line + 1 < len(self.lines) else None
-
-    def before(self, line, column):
-        """The position one character back, or none at the start."""
-        if column > 0:
-            text = self.line(line)
-            return line, units(text[: index_of(text, column) - 1])
-        return (line - 1, units(self.line(line - 1))) if line > 0 else None
-
-    def break_near(self, number):
-        """The break of a line, or of the one before it, or LF."""
-        for line in reversed(self.lines[max(0, number - 1) : number + 1]):
-            if line != line.rstrip(BREAKS):
-                return line[len(line.rstrip(BREAKS)) :]
-        return "\n"
 
     def change(self, first, last, text):
         """The change that puts a text in the place of what lies between two positions."""

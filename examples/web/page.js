@@ -28,7 +28,7 @@ function send(command) {
   noteIdle();
 }
 
-/** Sends a command of which only the latest counts, once what was sent before is done. */
+/** Sends a command, of which only the latest counts, when the preceding one is done. */
 function sendLatest(command) {
   waiting.set(command.do, command);
   flush();
@@ -48,7 +48,7 @@ worker.onmessage = ({ data }) => {
     return;
   }
   if (data.broken !== undefined) {
-    $("fault").textContent = `The session can't go on: ${data.broken}. Load the page anew.`;
+    $("fault").textContent = `The session can't continue: ${data.broken}. Reload the page.`;
     return;
   }
   // A slice of the report comes without a number.
@@ -95,7 +95,7 @@ function showPlace() {
   $("place").textContent = view.hasPattern ? text : "no pattern";
 }
 
-/** Shows why there is no pattern, below the character that can't stand there. */
+/** Shows why there is no pattern, below the character that can't be there. */
 function showFault() {
   const { fault, refused } = view;
   $("pattern").setAttribute("aria-invalid", String(fault !== null));
@@ -130,7 +130,7 @@ function setPattern() {
   beside.later($("pattern").value);
 }
 
-/** Sends what edits the text, and has RegExp search it anew. */
+/** Sends an edit of the text, and lets RegExp search it again. */
 function change(command) {
   send(command);
   beside.later($("pattern").value);

@@ -1,6 +1,6 @@
 /** The worker that searches all lines by RegExp, to be held beside the session. It may take for ever. */
 
-/** A pattern as RegExp has it: what stands for flags at its front is told apart. */
+/** A pattern in the syntax of RegExp, with the flags at its start apart. */
 function regexpOf(pattern) {
   const [, flags = "", rest] = /^(?:\(\?([ims]+)\))?(.*)$/s.exec(pattern);
   return new RegExp(rest, `gu${flags}`);

@@ -10,7 +10,7 @@ const FIRST = [
   "",
 ];
 
-/** A text of so many lines. */
+/** A text of this number of lines. */
 export function linesOf(count) {
   let seed = 5;
   const below = (bound) => {

@@ -85,7 +85,7 @@ function go(to) {
   if (found !== null) place([found.line, found.start]);
 }
 
-/** What a template stands for at a match: `$` and a digit for the text of a group, `$$` for a dollar. */
+/** The expansion of a template for a match: `$` and a digit is the text of a group, `$$` a dollar sign. */
 function expanded(template, { line, number }) {
   const groups = session.groupsAt(line, number);
   const text = session.line(line);
@@ -95,7 +95,7 @@ function expanded(template, { line, number }) {
 
 // ---- edits
 
-/** Makes an edit, and puts the caret behind what was inserted. */
+/** Makes an edit, and puts the caret after the inserted text. */
 function edit(from, to, text) {
   timed("edit", () => session.edit(from, to, text));
   const changes = session.textChanges();
@@ -279,7 +279,7 @@ let last = Promise.resolve();
 /** Whether a slice waits for its turn. */
 let isSliceDue = false;
 
-/** Has a slice made after the commands that have come by then, if lines are left. */
+/** Makes a slice after the commands that have arrived by then, if lines are left. */
 function slices() {
   if (isSliceDue || session.pending() === null) return;
   isSliceDue = true;

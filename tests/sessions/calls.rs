@@ -4,7 +4,7 @@ use std::fmt;
 /// The calls of include/rope_search.h, but for `changed` and `counted`, which are read after each
 /// command. The comments name the numbers of a call; its `bytes` are its text.
 ///
-/// Calls that the model lacks: none.
+/// Calls that the model lacks: escape, next_all.
 #[derive(Debug, Clone, Copy, PartialEq, Eq)]
 pub enum Kind {
     /// The limit.

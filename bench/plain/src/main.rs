@@ -12,7 +12,7 @@ use std::ops::Range;
 /// The matches of a line, as columns in UTF-16 code units.
 type Row = Vec<(u32, u32)>;
 
-/// What stood in a text before a change: at which byte, how many bytes took its place, and it.
+/// A replaced part of a text: its offset, the number of bytes that replaced it, and its old text.
 type Change = (usize, usize, String);
 
 #[derive(Default)]
@@ -28,7 +28,7 @@ fn units(text: &str) -> u32 {
     text.chars().map(|letter| letter.len_utf16() as u32).sum()
 }
 
-/// Where each LF of a text stands.
+/// The offset of each LF of a text.
 fn breaks(text: &str) -> impl Iterator<Item = usize> + '_ {
     memchr::memchr_iter(b'\n', text.as_bytes())
 }
@@ -162,7 +162,7 @@ impl Input {
     }
 }
 
-/// The reply to a command, of which the input has the payload.
+/// The reply to a command, whose payload is next in the input.
 fn reply(buffer: &mut Buffer, input: &mut Input, line: &str) -> String {
     let mut words = line.split(' ');
     let word = words.next().unwrap_or_default();

@@ -163,7 +163,7 @@ function found(text, pattern) {
     [...own.matchAll(pattern)].map(({ index, 0: { length } }) => ({ line, start: index, stop: index + length })));
 }
 
-withSession("edits at random agree with a search anew", async (session) => {
+withSession("random edits agree with a new search", async (session) => {
   const numbers = random(5);
   const below = (bound) => numbers.next().value % bound;
   const pieces = ["a", "b", "🐸", "é", "\n", "\r", "\r\n", "ab🐸", "ba", ""];

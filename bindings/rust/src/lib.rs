@@ -51,7 +51,7 @@ mod types;
 
 pub use error::{Error, PatternError, Reason, Result};
 pub use matches::Matches;
-pub use session::{pattern_error, version, Session, DEFAULT_LIMIT};
+pub use session::{escape, pattern_error, version, Session, DEFAULT_LIMIT};
 pub use types::{
     Counts, Encoding, Groups, Listed, Match, Position, Span, Stretch, TextChange, TextEdit,
 };

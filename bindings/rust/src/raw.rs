@@ -81,8 +81,22 @@ extern "C" {
     fn rope_search_redo(session: *mut RawSession) -> u32;
     fn rope_search_set_pattern(session: *mut RawSession, pattern: *const u8, len: usize) -> u32;
     fn rope_search_pattern_error(pattern: *const u8, len: usize, error: *mut RawReason) -> u32;
+    fn rope_search_escape(
+        text: *const u8,
+        len: usize,
+        out: *mut u8,
+        out_len: usize,
+        pattern_len: *mut usize,
+    ) -> u32;
     fn rope_search_off(session: *mut RawSession) -> u32;
     fn rope_search_next(session: *mut RawSession, from: Position, found: *mut RawMatch) -> u32;
+    fn rope_search_next_all(
+        session: *mut RawSession,
+        from: Position,
+        out: *mut Match,
+        out_len: usize,
+        count: *mut usize,
+    ) -> u32;
     fn rope_search_replace(
         session: *mut RawSession,
         by: *const u8,
@@ -260,6 +274,15 @@ pub(crate) fn pattern_error(pattern: &[u8]) -> Result<(u32, usize)> {
     Ok((error.reason, error.place))
 }
 
+/// Copies the pattern that matches a text only to the front of `out`, if it fits: the number of its bytes.
+pub(crate) fn escape(text: &[u8], out: &mut [u8]) -> Result<usize> {
+    let mut pattern_len = 0;
+    let (text, len, room) = (text.as_ptr(), text.len(), out.len());
+    // SAFETY: the pointers are those of slices, with their lengths, and of a local variable.
+    check(unsafe { rope_search_escape(text, len, out.as_mut_ptr(), room, &mut pattern_len) })?;
+    Ok(pattern_len)
+}
+
 /// An open session, which is closed when this is dropped.
 ///
 /// It is neither `Send` nor `Sync`, since it has a raw pointer.
@@ -328,6 +351,12 @@ impl Handle {
             start: told.start,
             stop: told.stop,
         }))
+    }
+
+    pub fn next_all(&self, from: Position, out: &mut [Match]) -> Result<usize> {
+        let (out, len, mut count) = (out.as_mut_ptr(), out.len(), 0);
+        check(unsafe { rope_search_next_all(self.ptr(), from, out, len, &mut count) })?;
+        Ok(count)
     }
 
     pub fn replace(&mut self, template: &[u8]) -> Result<usize> {

@@ -8,7 +8,7 @@ use crate::types::{
 use std::fmt;
 use std::ops::{Bound, Range, RangeBounds};
 
-/// The number of bytes that a text of a session may have if nothing else is asked for: 1 GiB.
+/// The default limit on the bytes of a session's text: 1 GiB.
 pub const DEFAULT_LIMIT: usize = 1 << 30;
 
 /// Buffers, of which one is chosen: all calls are about that one. It is closed when it is dropped.
@@ -66,7 +66,7 @@ impl Session {
 
     // ---- commands, on the chosen buffer
 
-    /// Sets the text. Its history begins anew; the pattern stays.
+    /// Sets the text, and empties the history; the pattern stays.
     ///
     /// # Errors
     ///
@@ -628,6 +628,34 @@ impl Session {
         self.handle.next(from.into())
     }
 
+    /// Copies the first matches in the whole text that start at a position or after it to the front of `out`,
+    /// as many as fit, and returns how many were copied.
+    ///
+    /// They are those that [`Session::replace`] would replace: all are found one after the other from the text's
+    /// start, in one search of the whole text. [`Session::next`] searches from its position instead, so it may
+    /// find a match that overlaps one which starts before the position.
+    ///
+    /// # Errors
+    ///
+    /// [`Error::Nothing`] without a pattern; [`Error::Range`] if the position is nowhere; [`Error::Memory`]. `out`
+    /// is then as it was.
+    ///
+    /// ```
+    /// use rope_search::{Match, Session};
+    ///
+    /// let mut session = Session::new()?;
+    /// session.set_text("one\none\none")?;
+    /// session.set_pattern(r"e\no|o")?;
+    /// let mut out = [Match::default(); 10];
+    /// let count = session.next_all((0, 1), &mut out)?;
+    /// let starts: Vec<_> = out[..count].iter().map(|found| found.start.into()).collect();
+    /// assert_eq!(starts, [(0, 2), (1, 2)]);
+    /// # Ok::<(), rope_search::Error>(())
+    /// ```
+    pub fn next_all(&self, from: impl Into<Position>, out: &mut [Match]) -> Result<usize> {
+        self.handle.next_all(from.into(), out)
+    }
+
     /// Returns the groups 0 to 9 of a match: of match `number`, from 0, of those in row `line`.
     ///
     /// A report has no groups: the line is searched for them once more, which is counted.
@@ -842,6 +870,26 @@ pub fn pattern_error(pattern: impl AsRef<[u8]>) -> Result<Option<PatternError>> 
         place,
         reason: Reason::of(number),
     }))
+}
+
+/// Returns a pattern that matches a text only: the text with a backslash before each character that has a
+/// meaning of its own in a pattern. Needs no session.
+///
+/// # Errors
+///
+/// [`Error::Utf8`]; [`Error::Limit`] if the pattern would have more than 65,536 bytes; [`Error::Memory`].
+///
+/// ```
+/// assert_eq!(rope_search::escape("f(x)^2")?, r"f\(x\)\^2");
+/// # Ok::<(), rope_search::Error>(())
+/// ```
+pub fn escape(text: impl AsRef<[u8]>) -> Result<String> {
+    let text = text.as_ref();
+    // A pattern never has more bytes than this.
+    let mut pattern = vec![0; text.len().saturating_mul(2).min(65_536)];
+    let len = raw::escape(text, &mut pattern)?;
+    pattern.truncate(len);
+    String::from_utf8(pattern).map_err(|_| Error::Utf8)
 }
 
 /// Returns the version of the library that is linked: 1,000,000 times its first number, 1,000 times its

@@ -40,7 +40,8 @@ impl From<Position> for (usize, usize) {
 }
 
 /// A match in the whole text, which may span lines.
-#[derive(Clone, Copy, Debug, PartialEq, Eq, Hash)]
+#[repr(C)]
+#[derive(Clone, Copy, Debug, Default, PartialEq, Eq, Hash)]
 pub struct Match {
     /// Where it starts.
     pub start: Position,

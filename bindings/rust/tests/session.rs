@@ -1,8 +1,8 @@
 //! Sessions as a program uses them: refusals, odd texts, many threads, and edits at random beside a search of
 //! the whole text.
 use rope_search::{
-    pattern_error, Counts, Encoding, Error, Match, PatternError, Position, Reason, Session, Span,
-    Stretch, TextEdit,
+    escape, pattern_error, Counts, Encoding, Error, Match, PatternError, Position, Reason, Session,
+    Span, Stretch, TextEdit,
 };
 
 fn session(text: &str, pattern: &str) -> Session {
@@ -102,6 +102,17 @@ fn errors_say_what_is_wrong() {
         pattern_error(deep).unwrap().unwrap().reason,
         Reason::Nesting
     );
+}
+
+#[test]
+fn an_escaped_text_matches_itself_alone() {
+    assert_eq!(escape("a.(b)").as_deref(), Ok(r"a\.\(b\)"));
+    assert_eq!(escape(""), Ok(String::new()));
+    assert_eq!(escape(b"\xff"), Err(Error::Utf8));
+    assert_eq!(escape("é".repeat(32_768)).unwrap().len(), 65_536);
+    assert_eq!(escape("^".repeat(32_769)), Err(Error::Limit));
+    let found = session("a.(b) aa(b) a.b", &escape("a.(b)").unwrap());
+    assert_eq!(spans(&found), [(0, 0, 5)]);
 }
 
 #[test]
@@ -276,6 +287,11 @@ fn matches_of_the_whole_text_span_lines() {
     assert_eq!(session.next((0, 0)), Ok(Some(found)));
     assert!(!found.is_empty());
     assert_eq!(session.next(found.stop), Ok(None));
+    let mut out = [Match::default(); 2];
+    assert_eq!(session.next_all((0, 0), &mut out), Ok(1));
+    assert_eq!(out, [found, Match::default()]);
+    assert_eq!(session.next_all((0, 1), &mut []), Ok(0));
+    assert_eq!(session.next_all((0, 4), &mut out), Err(Error::Range));
     assert_eq!(session.replace("-$0-"), Ok(1));
     assert_eq!(session.text(..).unwrap(), "on-e\r\nt-wo");
     session.edit(found.range(), "").unwrap();

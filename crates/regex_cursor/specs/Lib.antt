@@ -3,6 +3,7 @@ pub mod Backs
 pub mod Capturing
 pub mod Configs
 pub mod Cores
+pub mod Escaping
 pub mod Explaining
 pub mod Iterating
 pub mod Lending

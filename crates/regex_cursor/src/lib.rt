@@ -9,6 +9,7 @@ mod ropey_cursor;
 pub mod util;
 
 pub use ropey_cursor::RopeyCursor;
+pub use rx_escape::{escape, is_meta_character};
 pub use rx_grammar::{Hir, Mistake, Reason, Refusal, SyntaxError, explain, parse};
 pub use rx_input::{ChunkCursor, Cursor, Ends, Input, LookAround, TextRange};
 pub use rx_literals::{Prefilter, literal};

@@ -50,6 +50,7 @@ pub mod Examples
 pub mod PrintLemmas
 pub mod ReplyLemmas
 pub mod TextChangeLemmas
+pub mod TextMatchLemmas
 pub mod UndoStepLemmas
 pub mod KeptLemmas
 pub mod JoinLemmas

@@ -20,6 +20,7 @@ ghost use Rattle.rope_search.specs.Edits.{RefusesEdits, StepByEdits, TellsEdits,
 
 mod listed_edits;
 mod pending;
+mod text_matches;
 
 use crate::buffer::Buffer;
 use crate::commands::{Command, Payload, Reply};

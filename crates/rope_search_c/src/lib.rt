@@ -8,6 +8,7 @@
 mod commands;
 mod counting;
 mod edits;
+mod escapes;
 mod groups;
 mod handles;
 mod line_calls;
@@ -23,6 +24,7 @@ mod pending;
 mod pending_calls;
 mod reading;
 mod text_changes;
+mod text_matches;
 mod version;
 
 pub use commands::{
@@ -33,6 +35,7 @@ pub use commands::{
 };
 pub use counting::CountingSession;
 pub use edits::TextEdit;
+pub use escapes::rope_search_escape;
 pub use handles::Handle;
 pub use line_calls::{
     rope_search_clamp, rope_search_copy_line, rope_search_copy_matches_in, rope_search_edit_bytes,
@@ -61,4 +64,5 @@ pub use text_changes::{
     rope_search_join, rope_search_keep, rope_search_redo_steps, rope_search_text_changes,
     rope_search_undo_steps,
 };
+pub use text_matches::rope_search_next_all;
 pub use version::rope_search_version;

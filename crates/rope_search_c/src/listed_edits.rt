@@ -10,7 +10,7 @@ use rope_search::Fault;
 use std::alloc::Global;
 
 /// The number of the matches that were replaced, else 0.
-fn count_of(answer: Result<usize, Fault>) -> usize
+pub(crate) fn count_of(answer: Result<usize, Fault>) -> usize
     ensures { result ≡ listed.count_of answer }
 {
     match answer {

@@ -11,6 +11,7 @@ pub mod Replacement
 pub mod Turned
 pub mod Laws
 pub mod Drafts
+pub mod Escaping
 pub mod Explaining
 pub mod Finders
 pub mod LineGroups

@@ -4,6 +4,7 @@
 
 mod changes;
 mod columns;
+pub mod escaping;
 pub mod explaining;
 pub mod laws;
 mod line;

@@ -1,14 +1,12 @@
 -- Needles that begin with few bytes, and the offsets of these bytes.
-use Rattle.std.proofs.Common.{◌≡◌, ℕ, ◌+◌, ◌-◌, ◌<◌, ◌≤◌, Bool, true, List, [], ◌∷◌, take, drop, get_or, length, Some, None, slice_get, sym, ap, subst, ◌∙◌, arith, inl, inr}
-use Rattle.std.proofs.lemmas.Bool.{cases_lt}
+use Rattle.std.proofs.Common.{◌≡◌, ℕ, ◌+◌, ◌-◌, ◌≤◌, Bool, true, List, [], ◌∷◌, take, drop, get_or, length, Some, None, slice_get, sym, ap, subst, ◌∙◌, arith}
 use Rattle.std.proofs.lemmas.List.{get_or-drop, length-drop, take_rest}
 use Rattle.std.proofs.lemmas.List.Elements.{All-head, All-tail}
 use Rattle.std.proofs.lemmas.Option.{slice_get_within, get_or_from_slice_get}
 use Rattle.memchr.specs.Find.{Nowhere, NoneBefore, OccursAt, Passes}
-use Rattle.rx_util.specs.declared.search.Span.{Span}
 use Rattle.rx_literals.specs.declared.first_bytes.FirstBytes.{FirstBytes}
 use Rattle.rx_literals.specs.FirstBytes.{is_among, BeginsAmong, BeginAmong}
-use Rattle.rx_literals.specs.Needles.{FoundAt, no_needle, other_needle, FoundBetween, nowhere, at_least_place}
+use Rattle.rx_literals.specs.Needles.{FoundAt, no_needle, other_needle}
 
 -- ---- the rest of a chunk
 
@@ -61,26 +59,6 @@ none_without first hay i absent [] begin = no_needle
 none_without first hay i absent (needle ∷ needles) begin =
     other_needle (λ occurs. absent (first_passes first hay needle i (All-head (BeginsAmong first) needle needles begin) occurs))
     (none_without first hay i absent needles (All-tail (BeginsAmong first) needle needles begin))
-
-module _ (first : FirstBytes) (hay : List ℕ) (needles : List (List ℕ)) (begin : BeginAmong first needles) (from : ℕ) (none : (i : ℕ) → i < from → FoundAt hay i needles None) where
-  -- nothing is found before the next offset of one of the bytes
-  pub none_before : (at : ℕ) → Nowhere (Passes (is_among first) hay) from at → (i : ℕ) → i < at → FoundAt hay i needles None
-  none_before at absent i below = elim (cases_lt i from) [
-    | inl under ↦ none i under
-    | inr above ↦ none_without first hay i (λ passes. absent i above below passes) needles begin
-  ]
-
-  pub found_first : (at : ℕ) (span : Span) → NoneBefore (Passes (is_among first) hay) from (length hay) at → FoundAt hay at needles (Some span) → FoundBetween hay needles 0 (length hay) (Some span)
-  found_first at span before here = at_least_place at (omega arith) before.high here (λ j low below. none_before at before.before j below)
-
-  pub found_nowhere : Nowhere (Passes (is_among first) hay) from (length hay) → FoundBetween hay needles 0 (length hay) None
-  found_nowhere absent = nowhere (λ i low high. none_before (length hay) absent i high)
-
-  pub none_up_to : (at : ℕ) → Nowhere (Passes (is_among first) hay) from at → FoundAt hay at needles None → (i : ℕ) → i < at + 1 → FoundAt hay i needles None
-  none_up_to at absent here i below = elim (cases_lt i at) [
-    | inl under ↦ none_before at absent i under
-    | inr above ↦ (let same : at ≡ i = omega (arith, above, below) in subst (λ k. FoundAt hay k needles None) same here)
-  ]
 
 -- the bytes of one more needle
 pub begins_more : (first more : FirstBytes) → ((x : ℕ) → is_among first x ≡ true → is_among more x ≡ true) → (needle : List ℕ) → BeginsAmong first needle → BeginsAmong more needle

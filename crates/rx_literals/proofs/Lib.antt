@@ -7,7 +7,9 @@ pub mod ScanLaws
 pub mod LowLaws
 pub mod BehindLaws
 pub mod SkipLaws
+pub mod CandidateLaws
 pub mod FirstLaws
+pub mod TableLaws
 pub mod WayLaws
 pub mod KeptLaws
 pub mod MapLaws

@@ -8,3 +8,4 @@ pub mod Ways
 pub mod Endings
 pub mod Requirements
 pub mod ByteSets
+pub mod NeedleTables

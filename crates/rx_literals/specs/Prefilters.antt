@@ -4,12 +4,14 @@ use Rattle.rx_literals.specs.declared.prefilter.Searcher.{Searcher}
 use Rattle.rx_literals.specs.declared.prefilter.Searcher.TheVariants as searcher
 use Rattle.rx_literals.specs.Needles.{AreNeedles}
 use Rattle.rx_literals.specs.FirstBytes.{BeginAmong}
+use Rattle.rx_literals.specs.NeedleTables.{BeginInTable}
 
 -- a searcher finds these needles
 abbrev pub SearchesNeedles : Searcher → List (List ℕ) → Type 0
 SearchesNeedles (searcher.Byte byte) needles = needles ≡ (byte ∷ []) ∷ []
 SearchesNeedles (searcher.One finder) needles = needles ≡ finder ∷ []
 SearchesNeedles (searcher.First first) needles = BeginAmong first needles
+SearchesNeedles (searcher.Table table) needles = BeginInTable table needles
 SearchesNeedles searcher.Several needles = Unit {0}
 
 -- the needles are allowed, none is longer than `longest`, and this searcher finds them

@@ -9,8 +9,9 @@ ghost use Rattle.rx_literals.specs.Beginnings.{MatchesBeginWith};
 ghost use Rattle.rx_literals.specs.Needles.{OneOccursAt};
 ghost use Rattle.rx_literals.specs.Ways.{StemsGoOn, StemsLeadTo, StandFor, readings};
 
-use crate::first_bytes::{FirstBytes, is_common};
+use crate::first_bytes::FirstBytes;
 use crate::members::few_members;
+use crate::needle_table::TABLE_LEN;
 use crate::prefilter::Prefilter;
 use memchr::arch::all::is_prefix;
 use rx_program::{Program, State};
@@ -34,9 +35,6 @@ const ENOUGH: usize = 3;
 
 /// The same for a single literal: searching for one is faster than for several.
 const ENOUGH_ALONE: usize = 2;
-
-/// The maximum number of literals if they begin with a byte that is common in texts.
-const FEW: usize = 3;
 
 /// A literal that matches begin with, as far as it was read, and the state after it. Contracts see
 /// it as a stem.
@@ -101,11 +99,7 @@ impl Beginnings {
         } else {
             ENOUGH
         };
-        let most = match literal.as_bytes().first() {
-            Some(byte) if is_common(*byte) => FEW,
-            _ => BEGINNINGS,
-        };
-        literal.len() < enough && self.list.len().saturating_add(ways) <= most
+        literal.len() < enough && self.list.len().saturating_add(ways) <= BEGINNINGS
     }
 
     /// Follows epsilon transitions to these states if there is room, and returns whether it did.
@@ -334,17 +328,15 @@ fn prefilter_of(
 }
 
 /// Returns whether scanning for these needles before an engine runs pays: for a single one always;
-/// for several if they have at least two bytes and begin with few bytes, and none of these bytes is
-/// common in texts, or one is and there are at most three needles.
+/// for several if they have at least three bytes, or if they have at least two and scanning for
+/// those that they begin with pays.
 fn pay(needles: &[&[u8]]) -> bool {
-    if needles.len() == 1 {
+    if needles.len() == 1 || needles.iter().all(|needle| needle.len() >= TABLE_LEN) {
         return true;
     }
     match FirstBytes::of(needles) {
         Some(first) => {
-            needles.iter().all(|needle| needle.len() >= 2)
-                && !first.are_common()
-                && (needles.len() <= FEW || !first.has_common())
+            needles.iter().all(|needle| needle.len() >= 2) && first.pay_for(needles.len())
         }
         None => false,
     }
@@ -359,8 +351,9 @@ impl Prefilter {
     /// assertions, and in a repetition of at least one. At an alternation, a set with at most four
     /// members, or an optional part, each branch is followed until a literal has three bytes, or a
     /// single one has two. There are at most 16 literals, each of at most 64 bytes. If there are
-    /// several, each has at least two bytes, and they begin with at most three different bytes,
-    /// none of which is common in texts, or one is and there are at most three literals.
+    /// several, each has at least three bytes; or each has at least two, and they begin with at most
+    /// three different bytes, none of which is common in texts, or one is and there are at most
+    /// three literals.
     ///
     /// # Errors
     ///

@@ -9,6 +9,9 @@ use memchr::{memchr, memchr2, memchr3};
 /// Letters that are common in texts.
 pub(crate) const COMMON: &[u8] = b" etaoinsr";
 
+/// The maximum number of needles if one of the bytes is common in texts.
+const FEW: usize = 3;
+
 /// Whether a byte is common in texts.
 pub(crate) fn is_common(byte: u8) -> bool {
     COMMON.contains(&byte)
@@ -53,7 +56,7 @@ impl FirstBytes {
     }
 
     /// Whether one of them is common in texts.
-    pub(crate) fn has_common(&self) -> bool {
+    fn has_common(&self) -> bool {
         match *self {
             FirstBytes::One(a) => is_common(a),
             FirstBytes::Two(a, b) => is_common(a) || is_common(b),
@@ -62,7 +65,7 @@ impl FirstBytes {
     }
 
     /// Whether more than one of them is common in texts.
-    pub(crate) fn are_common(&self) -> bool {
+    fn are_common(&self) -> bool {
         match *self {
             FirstBytes::One(_) => false,
             FirstBytes::Two(a, b) => is_common(a) && is_common(b),
@@ -70,6 +73,12 @@ impl FirstBytes {
                 (is_common(a) && (is_common(b) || is_common(c))) || (is_common(b) && is_common(c))
             }
         }
+    }
+
+    /// Returns whether scanning for them pays if there is this number of needles: none of them is
+    /// common in texts, or one is and there are at most three needles.
+    pub(crate) fn pay_for(&self, needles: usize) -> bool {
+        !self.are_common() && (needles <= FEW || !self.has_common())
     }
 
     /// The first place of `hay` at which one of them stands.

@@ -9,6 +9,7 @@ mod first_bytes;
 pub mod laws;
 pub mod literal;
 mod members;
+mod needle_table;
 mod prefilter;
 mod required;
 

@@ -11,6 +11,7 @@ use rx_input::{Cursor, Input};
 use rx_util::Span;
 
 /// The bytes of the span from the position on, as far as the piece that is shown has them.
+#[inline(always)]
 pub(crate) fn left_in_piece<C: Cursor>(input: &Input<C>) -> &[u8]
     ensures part { result.now ≡ between input.now.position
         (min input.now.asked.span.end input.now.cursor.end) input.now.cursor.content }
@@ -91,6 +92,7 @@ fn try_each<C: Cursor>(
 /// What is found at the least place of the span from the position, which must lie in it, up to the
 /// end of the piece that is shown. Most needles lie in the piece; those that may lie across its end
 /// start at the last places of it.
+#[inline(always)]
 fn find_in_piece<C: Cursor>(prefilter: &Prefilter, input: &mut Input<C>) -> Option<Span>
     requires { input.old.position ≤ min input.old.asked.span.end input.old.cursor.end }
     ensures found { FoundBetween (bytes_to_end input.old) prefilter.now input.old.position

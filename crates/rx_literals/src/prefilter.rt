@@ -4,9 +4,11 @@ ghost use Rattle.std.specs.Prelude.{◌≡◌, ◌≤◌, ◌<◌, ◌↔◌, �
 ghost use Rattle.rx_util.specs.declared.search.MatchError.{MatchError};
 ghost use Rattle.rx_literals.specs.Needles.{AreNeedles, FoundAt, FoundBetween, IsNeedle};
 ghost use Rattle.rx_literals.specs.FirstBytes.{BeginAmong};
+ghost use Rattle.rx_literals.specs.NeedleTables.{BeginInTable};
 ghost use Rattle.rx_literals.specs.Prefilters.{SearchesNeedles, AreParts};
 
 use crate::first_bytes::FirstBytes;
+use crate::needle_table::NeedleTable;
 use memchr::arch::all::is_prefix;
 use memchr::memchr;
 use memchr::memmem::Finder;
@@ -30,6 +32,8 @@ pub(crate) enum Searcher {
     One(Finder<'static>),
     /// There may be more, and they begin with few different bytes.
     First(FirstBytes),
+    /// There may be more, and each has three bytes or more.
+    Table(NeedleTable),
     /// There may be more: each offset is tried.
     Several,
 }
@@ -112,6 +116,29 @@ fn searcher_of_one(alloc: Global, needle: &[u8]) -> Result<Searcher, AllocError>
     Ok(Searcher::One(Finder::new(needle).into_owned(alloc)?))
 }
 
+/// Returns the searcher for needles that begin with many different bytes, or with common ones.
+fn searcher_by_table(needles: &[&[u8]]) -> Searcher
+    ensures { SearchesNeedles result (map (λ needle. needle.now) needles.now) }
+{
+    match NeedleTable::of(needles) {
+        Some(table) => Searcher::Table(table),
+        None => Searcher::Several,
+    }
+}
+
+/// Returns the searcher for needles that begin with few bytes.
+fn searcher_by_first(first: FirstBytes, needles: &[&[u8]]) -> Searcher
+    requires { BeginAmong first (map (λ needle. needle.now) needles.now) }
+    ensures { SearchesNeedles result (map (λ needle. needle.now) needles.now) }
+{
+    if !first.pay_for(needles.len()) {
+        if let Some(table) = NeedleTable::of(needles) {
+            return Searcher::Table(table);
+        }
+    }
+    Searcher::First(first)
+}
+
 /// Returns the searcher for the needles.
 fn searcher_of(alloc: Global, needles: &[&[u8]]) -> Result<Searcher, AllocError>
     ensures { IfOk result (λ searcher. SearchesNeedles searcher
@@ -121,12 +148,13 @@ fn searcher_of(alloc: Global, needles: &[&[u8]]) -> Result<Searcher, AllocError>
         return searcher_of_one(alloc, needles[0]);
     }
     match FirstBytes::of(needles) {
-        Some(first) => Ok(Searcher::First(first)),
-        None => Ok(Searcher::Several),
+        Some(first) => Ok(searcher_by_first(first, needles)),
+        None => Ok(searcher_by_table(needles)),
     }
 }
 
 /// Returns the first occurrence of a byte in `hay`.
+#[inline(always)]
 fn find_byte(byte: u8, hay: &[u8]) -> Option<Span>
     ensures { FoundBetween hay.now ((byte ∷ []) ∷ []) 0 (length hay.now) result }
 {
@@ -211,6 +239,22 @@ impl Parts {
         None
     }
 
+    /// Returns the first occurrence of a needle in `hay`, by trying the offsets at which the table
+    /// has the next three bytes.
+    fn try_table(&self, table: &NeedleTable, hay: &[u8]) -> Option<Span>
+        requires { BeginInTable table.now self.now }
+        ensures { FoundBetween hay.now self.now 0 (length hay.now) result }
+    {
+        let mut next = 0;
+        while let Some(at) = table.find_from(hay, next) {
+            match self.find_at(hay, at) {
+                Some(found) => return Some(found),
+                None => next = at + 1,
+            }
+        }
+        None
+    }
+
     /// A law, for the proof only: a prefilter may have these needles.
     fn needles_are_lawful(&self)
         ensures { AreNeedles self.now }
@@ -220,6 +264,7 @@ impl Parts {
 
     /// Returns the least offset of `hay` at which a needle occurs, and the first needle that does
     /// there.
+    #[inline(always)]
     fn find(&self, hay: &[u8]) -> Option<Span>
         ensures { FoundBetween hay.now self.now 0 (length hay.now) result }
     {
@@ -227,6 +272,7 @@ impl Parts {
             Searcher::Byte(byte) => find_byte(*byte, hay),
             Searcher::One(finder) => find_one(finder, hay),
             Searcher::First(first) => self.try_first(first, hay),
+            Searcher::Table(table) => self.try_table(table, hay),
             Searcher::Several => self.try_each(hay),
         }
     }
@@ -309,6 +355,7 @@ impl Prefilter {
 
     /// Returns the least offset of `hay` at which a needle occurs, and the first needle that does
     /// there.
+    #[inline(always)]
     pub(crate) fn find_in(&self, hay: &[u8]) -> Option<Span>
         ensures { FoundBetween hay.now self.now 0 (length hay.now) result }
     {

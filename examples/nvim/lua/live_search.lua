@@ -4,7 +4,8 @@
 --
 -- The buffer's text is its lines with an LF behind each, so the last line of the session, behind the
 -- last LF, is no line of the buffer, and what matches there isn't told. Places go between Neovim and
--- the session as bytes of that text: a CR ends a line of the session and none of Neovim's.
+-- the session as bytes of that text: a CR ends a line of the session and none of Neovim's. Neovim keeps
+-- the history, so the session keeps none.
 local rope_search = require("rope_search")
 
 local M = {}
@@ -12,11 +13,14 @@ local M = {}
 -- A pattern is searched in slices of so many lines, between Neovim's own events, so nothing waits longer
 -- than one slice; a line is searched whole, however long it is.
 M.slice = 4000
+-- How many of them are looked at together where one match is looked for.
+M.few = 100
 
 local NAMESPACE = vim.api.nvim_create_namespace("live_search")
 local GROUP = vim.api.nvim_create_augroup("live_search", { clear = true })
--- The session of each buffer that is searched, and whether it doesn't have the buffer's text.
-local sessions, stale = {}, {}
+-- The session of each buffer that is searched, whether it doesn't have the buffer's text, and whether
+-- it already has what the buffer is being edited to.
+local sessions, stale, ahead = {}, {}, {}
 -- Which rows of Neovim are painted of each buffer, by its windows; and which of the session's rows
 -- were replaced since: nothing where all are to be painted.
 local painted, replaced = {}, {}
@@ -146,11 +150,6 @@ local function matches_in(session, line)
   return session:matches(line, line + 1)
 end
 
--- How many lines are gone through at most: while a pattern is pending, a slice of them.
-local function most_lines(session, lines)
-  return session:pending() and math.min(lines, M.slice) or lines
-end
-
 -- The matches in some rows of Neovim, each as rows and columns in bytes.
 function M.matches(buffer, first_row, last_row)
   local session = session_of(buffer)
@@ -258,13 +257,15 @@ local function follow(buffer, row, column, byte, old_len, rows, columns, new_len
   local done = text and #text == new_len and session:edit_bytes(byte, byte + old_len, text)
   stale[buffer] = not done or session:text_len() ~= length_of(buffer) or nil
   note_replaced(buffer)
-  -- Neovim keeps the history.
   session:forget()
 end
 
 local function on_bytes(_, buffer, _, row, column, byte, _, _, old_len, rows, columns, new_len)
   if not sessions[buffer] then
     return true
+  end
+  if ahead[buffer] then
+    return
   end
   if not stale[buffer] then
     follow(buffer, row, column, byte, old_len, rows, columns, new_len)
@@ -366,57 +367,100 @@ local function go_to(window, match)
   vim.api.nvim_win_set_cursor(window, { row + 1, column })
 end
 
--- Goes to the first match behind the cursor, or else to the first of all.
+-- The first match of a pending pattern behind a position, in a slice of lines, and the last one before it.
+local function pending_behind(session, at)
+  local stop = math.min(lines_of(session), at.line + M.slice)
+  for line = at.line, stop - 1, M.few do
+    for _, match in ipairs(assert(session:window(line, math.min(line + M.few, stop)))) do
+      if match.line > at.line or match.start > at.column then
+        return match
+      end
+    end
+  end
+end
+
+local function pending_before(session, at)
+  local stop = math.max(0, at.line + 1 - M.slice)
+  for line = at.line + 1, stop + 1, -M.few do
+    local matches = assert(session:window(math.max(stop, line - M.few), line))
+    for i = #matches, 1, -1 do
+      if matches[i].line < at.line or matches[i].start < at.column then
+        return matches[i]
+      end
+    end
+  end
+end
+
+-- Goes to the first match behind the cursor, or else to the first of all; while a pattern is pending, to
+-- one in a slice of lines. What matches behind the last LF is no match of the buffer.
 function M.next(window)
   local session, at = session_of(vim.api.nvim_win_get_buf(window)), M.position(window)
-  local last = lines_of(session) - 1
-  for line = at.line, math.min(last, at.line + most_lines(session, last)) do
-    for _, match in ipairs(matches_in(session, line)) do
-      if line > at.line or match.start > at.column then
-        return go_to(window, match)
-      end
+  local lines, match = lines_of(session), nil
+  if session:pending() then
+    match = pending_behind(session, at) or pending_behind(session, { line = 0, column = -1 })
+  else
+    match = session:listed_from({ at.line, at.column + 1 })
+    if not match or match.line >= lines then
+      match = session:listed_from({ 0, 0 })
     end
   end
-  for line = 0, most_lines(session, at.line) do
-    for _, match in ipairs(matches_in(session, line)) do
-      return go_to(window, match)
-    end
+  if match and match.line < lines then
+    go_to(window, match)
   end
 end
 
--- Goes to the last match before the cursor, or else to the last of all.
+-- Goes to the last match before the cursor, or else to the last of all, in the same way.
 function M.previous(window)
   local session, at = session_of(vim.api.nvim_win_get_buf(window)), M.position(window)
-  for step = 0, most_lines(session, lines_of(session)) do
-    local line = (at.line - step) % lines_of(session)
-    local matches = matches_in(session, line)
-    for i = #matches, 1, -1 do
-      if step > 0 or matches[i].start < at.column then
-        return go_to(window, matches[i])
-      end
-    end
+  local lines, match = lines_of(session), nil
+  local behind = { line = lines, column = 0 }
+  if session:pending() then
+    match = pending_before(session, at) or pending_before(session, behind)
+  else
+    match = session:listed_before(at) or session:listed_before(behind)
+  end
+  if match then
+    go_to(window, match)
   end
 end
 
--- Replaces all matches of the whole text, as `replace` of docs/protocol.md does, as one edit of the
--- buffer, and returns how many there were.
-function M.replace(buffer, template)
+-- Puts the texts that the session has in the place of those of the buffer, from the last one back.
+local function put_changes(buffer, session)
+  local changes = session:text_changes()
+  for i = #changes, 1, -1 do
+    local change = changes[i]
+    local row, column = place_of(buffer, change.old_start, 0)
+    local to_row, to_column = place_of(buffer, change.old_end, row)
+    local lines = vim.split(session:text(change.new_start, change.new_end), "\n", { plain = true })
+    vim.api.nvim_buf_set_text(buffer, row, column, to_row, to_column, lines)
+  end
+end
+
+-- Replaces the matches that are listed in some rows, or in all, each by what the template stands for with
+-- the groups of its line, as one step to undo, and returns how many there were. The session makes the
+-- edits, and the buffer follows it.
+function M.replace(buffer, template, first_row, last_row)
   local session = session_of(buffer)
-  -- It searches the whole text, by the pattern that was asked for last.
+  -- The pattern that was asked for last lists none before all lines are done.
   while session:pending() do
     assert(session:advance(M.slice) ~= nil)
   end
-  local count, why = session:replace(template)
+  local first = session:position_of(byte_of_row(buffer, first_row or 0)).line
+  local behind = (last_row or vim.api.nvim_buf_line_count(buffer) - 1) + 1
+  local count, why = session:replace_listed(first, session:position_of(byte_of_row(buffer, behind)).line, template)
   if not count then
     return nil, why
   end
-  local text = session:text()
-  local lines = vim.split(text, "\n", { plain = true })
-  if lines[#lines] == "" then
-    table.remove(lines)
+  ahead[buffer] = true
+  local done, wrong = pcall(put_changes, buffer, session)
+  ahead[buffer] = nil
+  stale[buffer] = not done or session:text_len() ~= length_of(buffer) or nil
+  replaced[buffer] = nil
+  session:forget()
+  M.paint_windows(buffer)
+  if not done then
+    error(wrong)
   end
-  session:undo()
-  vim.api.nvim_buf_set_lines(buffer, 0, -1, true, lines)
   return count
 end
 

@@ -1,5 +1,6 @@
 -- :LiveSearch PATTERN searches the buffer, :LiveSearch alone ends that. :LiveSearchNext and
--- :LiveSearchPrevious go from match to match, :LiveSearchReplace TEMPLATE replaces all.
+-- :LiveSearchPrevious go from match to match, :LiveSearchReplace TEMPLATE replaces all that is listed,
+-- with a range in front of it what is listed there.
 local live = require("live_search")
 
 local function tell()
@@ -31,6 +32,7 @@ vim.api.nvim_create_user_command("LiveSearchPrevious", function()
 end, {})
 
 vim.api.nvim_create_user_command("LiveSearchReplace", function(given)
-  local count, why = live.replace(vim.api.nvim_get_current_buf(), given.args)
+  local first, last = given.line1 - 1, given.line2 - 1
+  local count, why = live.replace(vim.api.nvim_get_current_buf(), given.args, first, last)
   vim.notify(count and ("%d replaced"):format(count) or "refused: " .. why)
-end, { nargs = 1 })
+end, { nargs = 1, range = "%" })

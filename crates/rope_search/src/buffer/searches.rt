@@ -6,9 +6,11 @@ ghost use Rattle.rope_search.specs.Finding.{TellsPositions};
 ghost use Rattle.rope_search.specs.GroupsAt.{AnswersGroups, SearchesRow};
 ghost use Rattle.rope_search.specs.MatchEdits.{AnswersEdit, SearchesForGroups};
 ghost use Rattle.rope_search.specs.Session.{current_text};
+ghost use Rattle.rope_search.specs.TextMatches.{AnswersNextAll};
 
 use crate::buffer::Buffer;
 use crate::match_edits::MatchEdit;
+use crate::text_matches::TextMatch;
 use rope_search_io::Fault;
 use rope_search_reports::{Groups, Lines, Position};
 
@@ -41,6 +43,42 @@ impl Buffer {
         };
         let found = search.next_from(tick, self.history.current(), from)?;
         Ok(found)
+    }
+
+    /// Writes the first matches of the pattern in the whole current text that start at a position
+    /// or after it to the start of `out`, as many as fit, and returns the number of matches that
+    /// were written. They are those that `replace` would replace: all matches are found one after
+    /// the other from the text's start, and they may span lines. `next_from` searches from its
+    /// position, so it may find a match that overlaps one which starts before the position; such a
+    /// match is none of these. A match that starts or ends between the CR and the LF of a break has
+    /// the position one past its line's text. The rest of `out` is unchanged.
+    ///
+    /// # Errors
+    ///
+    /// They leave `out` as it was: `Fault::Nothing` without a pattern, else `Fault::Range` if the
+    /// position is nowhere in the text; `Fault::Memory`. The buffer is as it was, whatever is
+    /// returned.
+    ///
+    /// # Complexity
+    ///
+    /// One search of a whole text is counted at most, however many matches are written: linear in
+    /// the text, times the pattern's weight, with 16 bytes for each match of the text until it
+    /// returns. `O(log n)` for each match that is written.
+    pub fn next_all(
+        &mut self,
+        tick: &mut Lines,
+        from: Position,
+        out: &mut [TextMatch],
+    ) -> Result<usize, Fault>
+        ensures answer { AnswersNextAll self.old.state from result out.old out.new }
+        ensures same { self.new ≡ self.old }
+        ensures searches { SearchesOneWhole tick.old tick.new }
+    {
+        let Some(search) = &mut self.search else {
+            return Err(Fault::Nothing);
+        };
+        let count = search.next_all(tick, self.history.current(), from, out)?;
+        Ok(count)
     }
 
     /// Returns the groups 0 to 9 of a match of the report, by its line and its number in that row,

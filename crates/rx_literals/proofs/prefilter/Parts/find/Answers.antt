@@ -3,6 +3,7 @@ use Rattle.rx_literals.specs.declared.prefilter.Searcher.{Searcher}
 use Rattle.rx_literals.specs.declared.prefilter.Searcher.TheVariants as searcher
 use Rattle.rx_literals.specs.declared.first_bytes.FirstBytes.{FirstBytes}
 use Rattle.rx_literals.specs.FirstBytes.{BeginAmong}
+use Rattle.rx_literals.specs.NeedleTables.{BeginInTable}
 use Rattle.rx_literals.specs.Needles.{FoundBetween}
 use Rattle.rx_literals.specs.Prefilters.{SearchesNeedles}
 use Rattle.rx_literals.proofs.SliceLaws.{only_needle}
@@ -25,3 +26,10 @@ first_by s first needles is searches = subst (λ x. SearchesNeedles x needles) i
 pub try_first-requires : goal.try_first-requires
 try_first-requires c =
     subst (λ needles. BeginAmong c.in-First.first needles) c.self.view_is (first_by c.self.inside.searcher c.in-First.first _ c.in-First.is c.self.invariant.searches)
+
+table_by : (s : Searcher) (table : List ℕ) (needles : List (List ℕ)) → s ≡ searcher.Table table → SearchesNeedles s needles → BeginInTable table needles
+table_by s table needles is searches = subst (λ x. SearchesNeedles x needles) is searches
+
+pub try_table-requires : goal.try_table-requires
+try_table-requires c =
+    subst (λ needles. BeginInTable c.in-Table.table needles) c.self.view_is (table_by c.self.inside.searcher c.in-Table.table _ c.in-Table.is c.self.invariant.searches)

@@ -1,0 +1,3 @@
+//! Escaping a text for a pattern, reexported from `regex_cursor`.
+
+pub use regex_cursor::{SyntaxError, escape};

@@ -1,0 +1,2 @@
+pub mod EscapedLaws
+pub mod MatchLaws
