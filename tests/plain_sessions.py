@@ -2,6 +2,7 @@
 is in Rust, for the same sessions, so that each checks the other."""
 import functools
 
+from library_escapes import escaped
 from library_groups import due_groups
 from library_lines import ENCODINGS, clamped, line_text, places_of
 from library_edits import places_in
@@ -9,7 +10,7 @@ from library_listed import all_listed
 from library_pending import line_at, spans_of
 from library_replacing import places_of_match
 from library_text_changes import Mirror, ranges_of
-from pattern_model import is_literal, pattern_weight, tree_of
+from pattern_model import is_literal, matches, pattern_weight, tree_of
 from protocol import (PATTERN_LIMIT, expanded, is_utf8, lines_of, place_of, position_at, positions_of, refused_pattern,
                       rows_of, units)
 from random_sessions import is_light, may_be_heavy
@@ -25,7 +26,7 @@ COMMANDS = {"SetText": "text", "Edit": "edit", "Undo": "undo", "Redo": "redo", "
 CHANGING = ("SetText", "Edit", "EditAll", "EditBytes", "Undo", "Redo", "Replace", "ReplaceMatch", "ReplaceListed")
 REFUSED_IF_CLOSED = (*COMMANDS, *CHANGING, "Forget", "Keep", "Join", "GroupsAt", "ByteOf", "PositionOf", "ColumnIn",
                      "PositionIn", "Clamp", "LineLen", "BeginPattern", "Advance", "Cancel", "CountPending", "CopyPending",
-                     "Window")
+                     "Window", "NextAll")
 WITH_PAYLOAD = ("EditAll", "EditBytes", "ReplaceMatch", "ReplaceListed", "BeginPattern")
 
 
@@ -68,6 +69,8 @@ class Plain:
             return 2_000, [], b""
         if name == "PatternError":
             return self.pattern_error(payload)
+        if name == "Escape":
+            return self.escape(*numbers, payload)
         if name == "Open":
             return self.open(*numbers)
         if name == "Close":
@@ -135,6 +138,24 @@ class Plain:
             raise Unclear
         front = next(place for place in range(len(text) + 1) if place == len(text) or not is_front(text[: place + 1]))
         return 0, ["a reason", len(text[:front].encode())], b""
+
+    def escape(self, room, payload):
+        if not is_utf8(payload):
+            return refused(3)
+        pattern = escaped(payload.decode()).encode()
+        if len(pattern) > PATTERN_LIMIT:
+            return refused(5)
+        return 0, [len(pattern)], pattern if len(pattern) <= room else b""
+
+    def NextAll(self, line, column, room):
+        if self.pattern is None:
+            return 1, [0], b""
+        place = place_of(self.text, line, column)
+        if place is None:
+            return RANGE, [0], b""
+        self.check_light()
+        spans = [span for span in matches(self.pattern, self.text) if span[0] >= place][:room]
+        return 0, [len(spans), *(number for span in spans for end in span for number in position_at(self.text, end))], b""
 
     def EditBytes(self, first, last, payload):
         places = places_of(self.text)

@@ -4,7 +4,7 @@ use std::fmt;
 /// The calls of include/rope_search.h, but for `changed` and `counted`, which are read after each
 /// command. The comments name the numbers of a call; its `bytes` are its text.
 ///
-/// Calls that the model lacks: escape, next_all.
+/// Calls that the model lacks: none.
 #[derive(Debug, Clone, Copy, PartialEq, Eq)]
 pub enum Kind {
     /// The limit.
@@ -21,9 +21,13 @@ pub enum Kind {
     Redo,
     SetPattern,
     PatternError,
+    /// The room.
+    Escape,
     Off,
     /// A position.
     Next,
+    /// A position and the room.
+    NextAll,
     Replace,
     /// A line and a number.
     ReplaceMatch,
@@ -140,7 +144,9 @@ impl Kind {
                 | Redo
                 | SetPattern
                 | PatternError
+                | Escape
                 | Next
+                | NextAll
                 | Replace
                 | ReplaceMatch
                 | ReplaceListed
@@ -168,6 +174,7 @@ impl Kind {
                 | SetPattern
                 | Off
                 | Next
+                | NextAll
                 | Replace
                 | ReplaceMatch
                 | ReplaceListed
@@ -177,6 +184,7 @@ impl Kind {
                 | Keep
                 | Join
                 | PatternError
+                | Escape
                 | GroupsAt
                 | BeginPattern
                 | Advance

@@ -73,8 +73,22 @@ unsafe extern "C" {
     fn rope_search_redo(s: *mut Handle) -> u32;
     fn rope_search_set_pattern(s: *mut Handle, pattern: *const u8, len: usize) -> u32;
     fn rope_search_pattern_error(pattern: *const u8, len: usize, error: *mut Words<2>) -> u32;
+    fn rope_search_escape(
+        text: *const u8,
+        len: usize,
+        out: *mut u8,
+        room: usize,
+        pattern_len: *mut usize,
+    ) -> u32;
     fn rope_search_off(s: *mut Handle) -> u32;
     fn rope_search_next(s: *mut Handle, from: Position, found: *mut Words<5>) -> u32;
+    fn rope_search_next_all(
+        s: *mut Handle,
+        from: Position,
+        out: *mut Words<4>,
+        room: usize,
+        count: *mut usize,
+    ) -> u32;
     fn rope_search_replace(s: *mut Handle, by: *const u8, len: usize, count: *mut usize) -> u32;
     fn rope_search_replace_match(
         s: *mut Handle,
@@ -269,10 +283,12 @@ impl Session {
             Kind::Next => found(&out.words, &[]),
             Kind::GroupsAt => out.groups.iter().flat_map(|group| group_of(group)).collect(),
             Kind::Advance => out.byte_written(),
-            Kind::Window => counted_spans(out.word, &out.spans),
+            Kind::Window => counted(out.word, &out.spans),
+            Kind::NextAll => counted(out.word, &out.matches),
             _ => written(&[out.word]),
         };
-        Answer::new(status.into(), numbers)
+        let bytes = out.bytes_written();
+        Answer { status: status.into(), numbers, bytes }
     }
 
     fn read(&mut self, call: &Call) -> Answer {
@@ -296,9 +312,9 @@ impl Session {
 }
 
 /// The number of matches, and those that were copied, if the number was written.
-fn counted_spans(count: usize, spans: &[Words<3>]) -> Vec<u64> {
+fn counted<const N: usize>(count: usize, matches: &[Words<N>]) -> Vec<u64> {
     let number = written(&[count]);
-    let copied = front(spans, if number.is_empty() { 0 } else { count });
+    let copied = front(matches, if number.is_empty() { 0 } else { count });
     [number, copied].concat()
 }
 
@@ -310,6 +326,8 @@ struct Out {
     error: Words<2>,
     groups: Vec<Words<4>>,
     spans: Vec<Words<3>>,
+    matches: Vec<Words<4>>,
+    bytes: Vec<u8>,
 }
 
 impl Out {
@@ -322,7 +340,19 @@ impl Out {
             error: [UNTOUCHED; 2],
             groups: array(room(Kind::GroupsAt)),
             spans: array(room(Kind::Window)),
+            matches: array(room(Kind::NextAll)),
+            bytes: vec![
+                UNTOUCHED_BYTE;
+                if call.kind == Kind::Escape { call.numbers[0] as usize + 1 } else { 0 }
+            ],
         }
+    }
+
+    /// The bytes up to the last that was written.
+    fn bytes_written(mut self) -> Vec<u8> {
+        let len = self.bytes.iter().rposition(|&byte| byte != UNTOUCHED_BYTE);
+        self.bytes.truncate(len.map_or(0, |last| last + 1));
+        self.bytes
     }
 
     fn byte_written(&self) -> Vec<u64> {
@@ -381,8 +411,16 @@ unsafe fn carry_out(s: *mut Handle, call: &Call, out: &mut Out) -> u32 {
             }
             Kind::SetPattern => rope_search_set_pattern(s, text, len),
             Kind::PatternError => rope_search_pattern_error(text, len, &mut out.error),
+            Kind::Escape => {
+                let (to, room) = (out.bytes.as_mut_ptr(), n[0] as usize);
+                rope_search_escape(text, len, to, room, &mut out.word)
+            }
             Kind::Off => rope_search_off(s),
             Kind::Next => rope_search_next(s, position(n), &mut out.words),
+            Kind::NextAll => {
+                let (to, room) = (out.matches.as_mut_ptr(), n[2] as usize);
+                rope_search_next_all(s, position(n), to, room, &mut out.word)
+            }
             Kind::Fork => rope_search_fork(s, &mut out.word),
             Kind::Choose => rope_search_choose(s, n[0]),
             Kind::Forget => rope_search_forget(s),
@@ -503,7 +541,7 @@ unsafe fn read_array(s: *mut Handle, call: &Call) -> Option<Answer> {
             let status = starved(|| unsafe {
                 rope_search_copy_pending(s, size(0), size(1), to, size(2), &mut count)
             });
-            Answer::new(status.into(), counted_spans(count, &out))
+            Answer::new(status.into(), counted(count, &out))
         }
         Kind::TextChanges => {
             let mut out = array::<4>(n[0]);

@@ -1,7 +1,7 @@
 //! A plain model of a session, by docs/protocol.md and include/rope_search.h: every text of a
 //! history is kept whole, and all that is asked of it is computed from it.
 use crate::calls::*;
-use crate::patterns::{Pattern, Patterns, Refused, Row, mistake_in};
+use crate::patterns::{MOST_BYTES, Pattern, Patterns, Refused, Row, mistake_in};
 use crate::pending::Pending;
 use crate::replacing::{expanded, names_a_group, replaced, replaced_in_lines};
 use crate::texts::{Text, line_count};
@@ -139,7 +139,7 @@ impl Model {
     pub fn lacks_memory(call: &Call) -> Answer {
         use Kind::*;
         let writes_none =
-            matches!(call.kind, Next | Replace | ReplaceListed | Fork | Advance | Window);
+            matches!(call.kind, Next | NextAll | Replace | ReplaceListed | Fork | Advance | Window);
         Answer::new(MEMORY, if writes_none { vec![0] } else { Vec::new() })
     }
 
@@ -151,6 +151,7 @@ impl Model {
             Kind::Undo | Kind::Redo => has_pattern,
             Kind::Advance | Kind::Window => has_pending,
             Kind::ReplaceListed => has_pattern && std::str::from_utf8(&call.bytes).is_ok(),
+            Kind::Escape => std::str::from_utf8(&call.bytes).is_ok(),
             Kind::Join => call.numbers[0] > 1,
             kind => kind.may_need_memory(),
         }
@@ -166,6 +167,7 @@ impl Model {
                 DONE
             }
             Kind::PatternError => return Ok(self.pattern_error(&call.bytes)),
+            Kind::Escape => return Ok(escape(&call.bytes, call.numbers[0])),
             _ if self.open.is_none() => CLOSED,
             Kind::SetText => self.set_text(&call.bytes),
             Kind::Edit | Kind::EditAll | Kind::EditBytes => self.edit(call),
@@ -174,6 +176,7 @@ impl Model {
             Kind::SetPattern => self.set_pattern(&call.bytes)?,
             Kind::Off => self.off(),
             Kind::Next => return self.next((call.numbers[0], call.numbers[1])),
+            Kind::NextAll => return self.next_all(&call.numbers),
             Kind::Replace => return self.replace(&call.bytes),
             Kind::ReplaceMatch => self.replace_match(call)?,
             Kind::ReplaceListed => return self.replace_listed(call),
@@ -316,6 +319,22 @@ impl Model {
         Ok(Answer::new(DONE, [1].into_iter().chain(numbers).collect()))
     }
 
+    /// The first of all matches of the whole text that start at a position or after it, as many as
+    /// there is room for.
+    fn next_all(&mut self, n: &[u64]) -> Answered {
+        self.cost.wholes = 1;
+        let buffer = self.session().buffer();
+        let text = buffer.text();
+        let none = |status| Ok(Answer::new(status, vec![0]));
+        let Some(pattern) = buffer.pattern.clone() else { return none(NONE) };
+        let Some(place) = text.place_of((n[0], n[1])) else { return none(RANGE) };
+        let matches = pattern.matches(&text.chars)?.into_iter();
+        let later = matches.filter(|slots| slots[0] >= Some(place)).take(n[2] as usize);
+        let ends = later.flat_map(|slots| [slots[0], slots[1]]).flatten();
+        let ends: Vec<u64> = ends.flat_map(|end| <[u64; 2]>::from(text.position_at(end))).collect();
+        Ok(Answer::new(DONE, [vec![ends.len() as u64 / 4], ends].concat()))
+    }
+
     fn replace(&mut self, by: &[u8]) -> Answered {
         self.cost.wholes = 1;
         let (text, limit) = (self.session().buffer().text(), self.session().limit);
@@ -445,6 +464,24 @@ impl Model {
         };
         Ok(Answer::new(DONE, (0..10.min(room as usize)).flat_map(told).collect()))
     }
+}
+
+/// The pattern that matches a text only, if there is room for it, and its length.
+fn escape(bytes: &[u8], room: u64) -> Answer {
+    let Ok(text) = std::str::from_utf8(bytes) else { return Answer::new(UTF8, Vec::new()) };
+    let mut pattern = String::new();
+    for c in text.chars() {
+        if "\\.+*?()|[{^$".contains(c) {
+            pattern.push('\\');
+        }
+        pattern.push(c);
+    }
+    if pattern.len() > MOST_BYTES {
+        return Answer::new(LIMIT, Vec::new());
+    }
+    let numbers = vec![pattern.len() as u64];
+    let bytes = if numbers[0] <= room { pattern.into_bytes() } else { Vec::new() };
+    Answer { status: DONE, numbers, bytes }
 }
 
 /// The ranges of several steps put together: what is between the bytes of a text of this length that

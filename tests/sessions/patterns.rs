@@ -9,7 +9,7 @@ use std::collections::HashMap;
 use std::rc::Rc;
 
 /// The most bytes that a pattern may have, and the most that it may weigh.
-const MOST_BYTES: usize = 65_536;
+pub const MOST_BYTES: usize = 65_536;
 const MOST_WEIGHT: u64 = 262_144;
 /// Python may have an older Unicode than the library, by which letter classes have fewer ranges:
 /// above this, the model doesn't know whether a pattern is too heavy.

@@ -134,6 +134,30 @@ impl Writer {
             self.is_over = self.model.carry_out(&call).is_err();
         }
         self.calls.push(call);
+        self.write_beside(kind);
+    }
+
+    /// Adds the call that comes with each one of some kinds. It takes no choice at random, and has the
+    /// same requests refused.
+    fn write_beside(&mut self, kind: Kind) {
+        let number = self.calls.len();
+        let call = &self.calls[number - 1];
+        let beside = match kind {
+            Kind::Next => {
+                let room = [40, 0, 1, 3][number % 4];
+                Call {
+                    kind: Kind::NextAll,
+                    numbers: [&call.numbers[..], &[room]].concat(),
+                    ..call.clone()
+                }
+            }
+            Kind::PatternError => {
+                let room = call.bytes.len() * (number % 3);
+                Call { kind: Kind::Escape, numbers: vec![room as u64], ..call.clone() }
+            }
+            _ => return,
+        };
+        self.calls.push(beside);
     }
 
     fn say(&mut self, kind: Kind, text: &str) {
