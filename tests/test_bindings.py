@@ -134,13 +134,15 @@ IN_RUST = {
     "rope_search_position": "Position", "rope_search_position*": "*mut Position", "rope_search_span*": "*mut Span",
     "rope_search_match*": "*mut RawMatch", "rope_search_group*": "*mut RawGroup", "rope_search_stretch": "Stretch",
     "rope_search_pattern_reason*": "*mut RawReason", "const rope_search_text_edit*": "*const RawEdit",
-    "rope_search_counts": "Counts", "rope_search_text_change*": "*mut TextChange", "rope_search_listed*": "*mut Listed",
+    "rope_search_counts": "Counts", "rope_search_text_change*": "*mut TextChange",
+    "rope_search_text_match*": "*mut Match", "rope_search_listed*": "*mut Listed",
 }
 STRUCTURES = {
     "rope_search": "RawSession", "rope_search_counts": "Counts",
     "rope_search_position": "Position", "rope_search_match": "RawMatch", "rope_search_span": "Span",
     "rope_search_group": "RawGroup", "rope_search_pattern_reason": "RawReason", "rope_search_text_edit": "RawEdit",
-    "rope_search_stretch": "Stretch", "rope_search_text_change": "TextChange", "rope_search_listed": "Listed",
+    "rope_search_stretch": "Stretch", "rope_search_text_change": "TextChange", "rope_search_text_match": "Match",
+    "rope_search_listed": "Listed",
 }
 
 

@@ -16,7 +16,7 @@ use Rattle.rope_search_changes.specs.Replacement.{Groups, whole, between, Follow
 pub byte_len-append : (xs ys : List ℕ) → byte_len (xs ++ ys) ≡ byte_len xs + byte_len ys
 byte_len-append xs ys = ap length (encodes-append xs ys) ∙ length-append (bytes_of xs) (bytes_of ys)
 
-byte_len-one : (c : ℕ) (cs : List ℕ) → byte_len (c ∷ cs) ≡ len_utf8 c + byte_len cs
+pub byte_len-one : (c : ℕ) (cs : List ℕ) → byte_len (c ∷ cs) ≡ len_utf8 c + byte_len cs
 byte_len-one c cs = omega (arith, length-append (encode c) (bytes_of cs), length-encode c)
 
 -- two prefixes of a text with equally many bytes are the same, and so is what follows

@@ -5,6 +5,7 @@ pub mod PieceLemmas
 pub mod SpanLemmas
 pub mod PushLemmas
 pub mod LengthLemmas
+pub mod ShortLemmas
 pub mod ToldLemmas
 pub mod EditingLemmas
 pub mod BuildingLemmas

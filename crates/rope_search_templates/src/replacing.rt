@@ -1,5 +1,5 @@
 //! All matches of a text replaced.
-ghost use Rattle.std.specs.Prelude.{◌≡◌, ◌^◌, ◌<◌, ◌↔◌, IsTrue, IfOk, IfErr};
+ghost use Rattle.std.specs.Prelude.{◌≡◌, ◌+◌, ◌-◌, ◌*◌, ◌^◌, ◌<◌, ◌↔◌, min, IsTrue, IfOk, IfErr};
 ghost use Rattle.str_indices.specs.Text.{byte_len};
 ghost use Rattle.ropey.specs.Chunks.{text_of};
 ghost use Rattle.rope_search_changes.specs.Text.{bytes_of};
@@ -29,15 +29,38 @@ pub struct Replacement {
     pub changes: Vec<Change>,
 }
 
-/// Whether the text with all these matches replaced would have more bytes than the limit. It stops
-/// where that is known, and builds nothing. `O(1)` for each match and each piece of the template
-/// there.
+/// Returns the most bytes that a text of `text_len` bytes has once `count` spans in it are replaced
+/// by a template of `template_len` bytes, or `usize::MAX` if that is less. A byte of the template
+/// makes at most itself and the bytes of the span.
+fn most_bytes(text_len: usize, template_len: usize, count: usize) -> usize
+    ensures { result
+        ≡ min (template_len * text_len + text_len + template_len * count) (2 ^ 64 - 1) }
+{
+    template_len
+        .saturating_mul(text_len)
+        .saturating_add(text_len)
+        .saturating_add(template_len.saturating_mul(count))
+}
+
+/// Returns whether the text with all these matches replaced would have more bytes than the limit.
+/// Builds nothing.
+///
+/// # Complexity
+///
+/// `O(1)` if only the spans of the matches are known and the limit is far from the text's length;
+/// otherwise `O(1)` for each match and each piece of the template, up to the match where the result
+/// is known.
 pub fn is_over(limit: usize, text: &Rope, template: &Template<'_>, matches: &Matches) -> bool
     requires { AreMatchesIn (bytes_of (text_of text.now)) (matched matches.now) }
     ensures { IsTrue result ↔ limit <
         byte_len (replaced (bytes_of (text_of text.now)) template.now 0 (matched matches.now)) }
 {
     let text_len = text.len_bytes();
+    if let Matches::Spans(spans) = matches {
+        if most_bytes(text_len, template.len_bytes(), spans.len()) < limit {
+            return false;
+        }
+    }
     // How many bytes the text behind the last match may have, and where that starts.
     let (mut room, mut at) = (limit, 0);
     for index in 0..matches.len() {

@@ -84,6 +84,13 @@ impl<'a> Template<'a> {
         Template { text, same_len }
     }
 
+    /// Returns its number of bytes.
+    pub(crate) fn len_bytes(&self) -> usize
+        ensures { result ≡ byte_len self.now }
+    {
+        self.text.len()
+    }
+
     /// Returns whether its expansion is the same at every match: it names no group.
     pub(crate) fn is_same(&self) -> bool
         ensures { result ≡ true → (content : List ℕ) (groups : Groups)

@@ -1,4 +1,4 @@
-use Rattle.std.proofs.Common.{ℕ, ◌+◌, ◌-◌, ◌<◌, [], drop, slice_index_or, refl, ap, sym, subst, ◌∙◌, arith}
+use Rattle.std.proofs.Common.{◌≡◌, ℕ, ◌+◌, ◌-◌, ◌*◌, ◌<◌, [], drop, length, map, slice_index_or, refl, ap, sym, subst, ◌∙◌, arith}
 use Rattle.std.proofs.lemmas.Bool.Decides.{nat_tests}
 use Rattle.std.proofs.lemmas.List.{drop_all}
 use Rattle.std.proofs.lemmas.List.Elements.{All-get_or}
@@ -6,10 +6,27 @@ use Rattle.str_indices.specs.Text.{byte_len}
 use Rattle.ropey.specs.Chunks.{text_of}
 use Rattle.rope_search_changes.specs.Text.{bytes_of}
 use Rattle.rope_search_templates.specs.Matches.{matched}
-use Rattle.rope_search_changes.specs.Replacement.{replaced, whole, expand, HasSpansIn}
+use Rattle.rope_search_changes.specs.Replacement.{AreMatchesIn, alone, replaced, whole, expand, HasSpansIn}
 use Rattle.rope_search_templates.proofs.ContentLemmas.{text-scalars, text-utf8, all-left}
 use Rattle.rope_search_templates.proofs.LengthLemmas.{HasRoom, room-next, room-more, room-gap, room-told, room-end}
+use Rattle.rope_search_templates.proofs.ShortLemmas.{all-short}
 use Rattle.rope_search_templates.proofs.replacing.is_over.Goals as goal
+
+pub returns-then-most_bytes-limit : goal.returns-then-most_bytes-limit
+returns-then-most_bytes-limit c =
+    let content = bytes_of (text_of c.args.text.now) in
+    let template = c.args.template.now in
+    let utf8 = text-utf8 _ c.len_bytes-text_len.ensures.cut.cut in
+    let spans = c.in-Spans.spans in
+    let are : AreMatchesIn content (map alone spans.items) = subst (λ ms. AreMatchesIn content (matched ms)) c.in-Spans.is c.requires in
+    let short = all-short content template spans.items utf8 (all-left content (map alone spans.items) utf8 are) in
+    let same = ap (λ ms. byte_len (replaced content template 0 (matched ms))) c.in-Spans.is in
+    let most : ℕ → ℕ → ℕ → ℕ = λ m l k. m * l + l + m * k in
+    let numbers : most c.len_bytes.result c.len_bytes-text_len.result c.len.result ≡ most (byte_len template) (length content) (length spans.items) =
+    ap (λ m. most m c.len_bytes-text_len.result c.len.result) c.len_bytes.ensures
+    ∙ ap (λ l. most (byte_len template) l c.len.result) c.len_bytes-text_len.ensures.bytes
+    ∙ ap (λ k. most (byte_len template) (length content) k) (c.len.ensures ∙ spans.ok.0) in
+    (λ so. absurd (cc), λ long. absurd (omega (arith, long, same, short, numbers, c.if-most_bytes-limit.true, c.most_bytes.ensures)))
 
 pub loop-index-init : goal.loop-index-init
 loop-index-init c = record {
@@ -35,12 +52,12 @@ len_within-requires c = (
   subst (HasSpansIn (bytes_of (text_of c.args.text.now))) (sym c.at-found.ensures) (All-get_or (HasSpansIn (bytes_of (text_of c.args.text.now))) (matched c.args.matches.now) c.loop-index.index [] (omega (arith, c.loop-index-test.true, c.len-index-end.ensures)) c.requires.spans),
 )
 
-pub returns-in_default : goal.returns-in_default
-returns-in_default c =
+pub returns-in_default-len_within : goal.returns-in_default-len_within
+returns-in_default-len_within c =
     let cut = c.len_bytes-text_len.ensures.cut.cut in
     let here = room-next _ _ _ (matched c.args.matches.now) c.loop-index.index _ _ _ (omega (arith, c.loop-index-test.true, c.len-index-end.ensures)) c.loop-index.invariant in
     let spans = subst (HasSpansIn (bytes_of (text_of c.args.text.now))) (sym c.at-found.ensures) (All-get_or (HasSpansIn (bytes_of (text_of c.args.text.now))) (matched c.args.matches.now) c.loop-index.index [] (omega (arith, c.loop-index-test.true, c.len-index-end.ensures)) c.requires.spans) in
-    let long = c.in_default.ensures (text_of c.args.text.now) (text-scalars _ cut) spans in
+    let long = c.in_default-len_within.ensures (text_of c.args.text.now) (text-scalars _ cut) spans in
     let start = ap (λ p. p.0) (c.span-start.ensures ∙ ap whole c.at-found.ensures) in (
       λ _. room-told _ _ _ _ _ _ _ _ (text-utf8 _ cut) here (omega (arith, c.if-room-gap.false, start)) (omega (arith, long, start, ap (λ g. byte_len (expand (bytes_of (text_of c.args.text.now)) g c.args.template.now)) c.at-found.ensures)),
       λ _. refl,
