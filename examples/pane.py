@@ -71,7 +71,7 @@ class Session:
         pane.saved = pane.document.state() if is_saved else object()  # which is no state
         pane.typed, pane.found, pane.mode = "", None, "search" if pane.mode == "template" else pane.mode
         pane.asked, pane.place = pane.spelled(), pane.document.text.clamped(*pane.place)
-        pane.told = f"begun anew, with nothing to undo: {ended}"
+        pane.told = f"restarted, with nothing to undo: {ended}"
 
     def guarded(self, do):
         try:
