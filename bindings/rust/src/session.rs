@@ -648,7 +648,7 @@ impl Session {
     /// session.set_pattern(r"e\no|o")?;
     /// let mut out = [Match::default(); 10];
     /// let count = session.next_all((0, 1), &mut out)?;
-    /// let starts: Vec<_> = out[..count].iter().map(|found| found.start.into()).collect();
+    /// let starts: Vec<(usize, usize)> = out[..count].iter().map(|found| found.start.into()).collect();
     /// assert_eq!(starts, [(0, 2), (1, 2)]);
     /// # Ok::<(), rope_search::Error>(())
     /// ```

@@ -13,10 +13,10 @@ returns-clause-answer c =
     let count = c.in_ok-count.count in
     let out = c.args.out.now in
     let state : BufferState = record { texts = history.texts; current = history.current; pattern = Some finder } in
-    let copies : CopiesMatchesFrom (current_text state) finder c.args.from count out c.next_all-count.new.out =
-    subst (λ t. CopiesMatchesFrom t finder c.args.from count out c.next_all-count.new.out) c.current.ensures.text c.in_ok-count.ensures.found in
+    let copies : CopiesMatchesFrom (current_text state) finder c.args.from count out c.next_all.new.out =
+    subst (λ t. CopiesMatchesFrom t finder c.args.from count out c.next_all.new.out) c.current.ensures.text c.in_ok-count.ensures.found in
     let one : c.self.inside.search ≡ Some c.in-Some.search = c.in-Some.is in
     let same : state ≡ c.args.self.now.state =
     ap (λ (o : Option Search). record { texts = history.texts; current = history.current; pattern = option_map (λ (s : Search). s.finder) o }) (sym one)
     ∙ ap (λ (v : LimitedBuffer). v.state) c.self.view_is in
-    subst (λ b. AnswersNextAll b c.args.from (Ok count) out c.next_all-count.new.out) same (found_told state finder c.args.from count out c.next_all-count.new.out refl copies)
+    subst (λ b. AnswersNextAll b c.args.from (Ok count) out c.next_all.new.out) same (found_told state finder c.args.from count out c.next_all.new.out refl copies)
