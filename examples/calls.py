@@ -1,5 +1,5 @@
-"""Commands of the protocol carried out by calls of the library that `make lib` builds, in place of a child process, and
-what they would be replied. `Calls` has the calls of `client.Client`.
+"""Commands of the protocol executed by calls of the library that `make lib` builds, instead of a child process, with their
+replies. `Calls` has the calls of `client.Client`.
 
     with Calls() as search:
         search.ask(command(b"text", b"a frog"))             # b"ok\\n"
@@ -16,12 +16,12 @@ WORDS = dict(zip(rope_search.FAULTS, (b"none", b"range", b"utf8", b"pattern", b"
 
 
 def shown(match):
-    """How a match in a whole text is replied."""
+    """The reply for a match in a whole text."""
     return b"m %d %d %d %d\n" % (*match.start, *match.stop) if match else b"no match\n"
 
 
 def listed(session):
-    """How a report is replied: without a pattern it has no rows, and is refused."""
+    """The reply for a report: without a pattern it has no rows, and is refused."""
     if session.rows == 0:
         raise rope_search.Nothing()
     matches = session.matches()
@@ -33,7 +33,7 @@ def printed(session):
     return b"text %d\n%b\n" % (len(text), text)
 
 
-# What each command is, as calls of a session: it is given the session, the numbers, and the payload.
+# Each command as calls of a session, given the session, the numbers, and the payload.
 CALLS = {
     "text": lambda session, numbers, payload: session.set_text(payload),
     "edit": lambda session, numbers, payload: session.edit(numbers[:2], numbers[2:4], payload),
@@ -51,7 +51,7 @@ CALLS = {
 
 
 def reply(session, word, numbers, payload):
-    """What a command is replied, which the session carries out."""
+    """The reply to a command, which the session executes."""
     try:
         return CALLS[word](session, numbers, payload) or b"ok\n"
     except rope_search.Fault as fault:
@@ -59,7 +59,7 @@ def reply(session, word, numbers, payload):
 
 
 class Calls:
-    """A session, which ends as this is closed."""
+    """A session, which ends when this is closed."""
 
     def __init__(self):
         self.session = rope_search.Session()
@@ -71,7 +71,7 @@ class Calls:
         self.close()
 
     def ask(self, sent):
-        """Carries out one command, with its payload, and answers the whole reply. Raises ValueError for what isn't one
+        """Executes one command, with its payload, and returns the whole reply. Raises ValueError for what isn't one
         command."""
         check(sent)
         line, _, payload = sent.partition(b"\n")
@@ -81,6 +81,6 @@ class Calls:
         return reply(self.session, word, tuple(map(int, numbers)), payload)
 
     def close(self):
-        """Ends the session, and answers 0, as a program that ends well."""
+        """Ends the session, and returns 0, the status of a program that succeeds."""
         self.session.close()
         return 0

@@ -1,32 +1,30 @@
 #!/usr/bin/env python3
-"""A search pane in a terminal: shows a file, and highlights the matches of a regular expression as one types it, and as
-one edits the text.
+"""A search pane in a terminal: shows a file, and highlights the matches of a regular expression while you type it and
+while you edit the text.
 
     examples/pane.py FILE [PROGRAM]
 
-Enter or F3     the next match, from the last one the first; Shift-Tab, Ctrl-P or Shift-F3: the one before
-arrows          move the file, also sideways; PageUp, PageDown by a screen, Home and End to its ends
-Alt-C, Alt-W    letters in either case; whole words alone
-Ctrl-R          asks for a template, in which $0 stands for the match and $1 to $9 for its groups; Enter puts what it
-                stands for in the place of all matches, Escape goes back
-Tab             goes to the text, to where the match is, and back. There what is typed or pasted is put in,
-                Backspace and Delete take away, Enter breaks the line, arrows, Home and End move
-Ctrl-Z, Ctrl-Y  undo and redo, and go to what changed
-Ctrl-S          writes the file, once it has asked
-Escape          leaves, and asks before if the text isn't saved; Ctrl-C leaves at once
+Enter or F3     the next match, after the last one the first; Shift-Tab, Ctrl-P or Shift-F3: the preceding one
+arrows          scroll the file, also sideways; PageUp, PageDown by a screen, Home and End to its ends
+Alt-C, Alt-W    ignore case; match whole words only
+Ctrl-R          prompts for a template, in which $0 is the match and $1 to $9 are its groups; Enter replaces all matches,
+                Escape goes back
+Tab             goes to the match in the text, and back. In the text, typed and pasted text is inserted, Backspace and
+                Delete remove, Enter breaks the line, arrows, Home and End move
+Ctrl-Z, Ctrl-Y  undo and redo, and go to the change
+Ctrl-S          writes the file, after a confirmation
+Escape          leaves, with a confirmation if the text isn't saved; Ctrl-C leaves at once
 
-Matches are those of the report: of each line by itself. Where there is none, Enter looks for one that goes over
-lines.
+Matches are those of the report: of each line by itself. If there is none, Enter searches for one that spans lines.
 
-The pane goes by the library that `make lib` builds, where it is built, and else, or where one is named, by the program.
-By the library it searches a pattern in slices of some thousand lines between keys: the lines that are shown at once, and
-`+` stands behind a number of matches until all are done. A line is searched whole, however long it is. No key waits for
-more than a slice, but for a replacement, its undo, and a search for a match over lines: these go through the whole text.
-Replaced are exactly the matches that are listed, or, where none is, those over lines. Letters that are typed one after
-the other are one step to undo.
+The pane uses the library, if `make lib` has built it and no PROGRAM is named, and otherwise the program. With the library
+it searches a pattern in slices of some thousand lines between keys: the visible lines at once, and a number of matches ends
+with `+` until all lines are done. A line is searched whole, however long it is. No key waits for more than a slice, except
+for a replacement, its undo, and a search for a match that spans lines: these read the whole text. Exactly the listed
+matches are replaced, or, if there are none, those that span lines. Letters typed one after the other are one undo step.
 
-By the program each letter is a step of its own, a pattern is searched whole, and replaced are the matches of the whole
-text, which may be others than those that are listed: docs/protocol.md tells how.
+With the program each letter is its own undo step, a pattern is searched at once, and the matches of the whole text are
+replaced, which may differ from the listed ones, as docs/protocol.md explains.
 """
 import os
 import signal
@@ -50,7 +48,7 @@ END = "\x1b[?2004l\x1b[?7h\x1b[?1049l"
 
 
 def document_of(program, text):
-    """A text in the program, or in the library where none is named."""
+    """A text in the program, or in the library if no program is named."""
     return Document(Client(program, SECONDS), text) if program else LibraryDocument(text)
 
 
@@ -59,21 +57,21 @@ def is_built():
 
 
 class Session:
-    """A pane in a terminal. A program is begun anew if it ends: its text is kept here too."""
+    """A pane in a terminal. If the program ends, it is restarted with the text, which is kept here too."""
 
     def __init__(self, program, text, path):
         self.program = program
         self.pane = Pane(document_of(program, text), path)
 
     def begin_anew(self, ended):
-        """Goes on with another child, which has the text, and no history."""
+        """Continues with a new child, which has the text and no history."""
         pane, is_saved = self.pane, self.pane.document.state() is self.pane.saved
         pane.document.close()
         pane.document = document_of(self.program, pane.document.text.whole())
         pane.saved = pane.document.state() if is_saved else object()  # which is no state
         pane.typed, pane.found, pane.mode = "", None, "search" if pane.mode == "template" else pane.mode
         pane.asked, pane.place = pane.spelled(), pane.document.text.clamped(*pane.place)
-        pane.told = f"begun anew, with nothing to undo: {ended}"
+        pane.told = f"restarted, with nothing to undo: {ended}"
 
     def guarded(self, do):
         try:
@@ -82,7 +80,7 @@ class Session:
             self.begin_anew(ended)
 
     def search_on(self, is_waiting):
-        """Searches the lines that are left, slice by slice, until a key is typed or the terminal has another size."""
+        """Searches the remaining lines, slice by slice, until a key is typed or the terminal is resized."""
         drawn = time.monotonic()
         while self.pane.document.is_pending and not is_waiting():
             self.guarded(self.pane.document.advance)
@@ -91,7 +89,7 @@ class Session:
                 drawn = time.monotonic()
 
     def run(self):
-        """Takes keys and shows what they do, until one of them leaves, or the terminal goes."""
+        """Handles keys and shows the result, until one of them leaves, or the terminal closes."""
         keys, (resized, told) = Keys(0), os.pipe()
         os.set_blocking(told, False)
         signal.set_wakeup_fd(told)
@@ -112,7 +110,7 @@ class Session:
 
 
 def read_text(path):
-    """The text of a file. Raises OSError, or ValueError with the place where it isn't UTF-8."""
+    """The text of a file. Raises OSError, or ValueError with the offset at which it isn't UTF-8."""
     with open(path, "rb") as file:
         data = file.read()
     try:
@@ -123,7 +121,7 @@ def read_text(path):
 
 
 def start(path, program):
-    """A session over a file, or why there is none, as a text."""
+    """A pane for a file, or a message why there is none."""
     if not (os.isatty(0) and os.isatty(1)):
         return "it needs a terminal"
     try:

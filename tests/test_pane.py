@@ -385,7 +385,7 @@ def test_ended():
     pane.shows(b"     1  a frog")
     wrong = asked("frog\t!", "     1  !\x1b7a \x1b[7mfrog")
     os.kill(pane.children()[0], signal.SIGKILL)
-    wrong += asked("x", "begun anew, with nothing to undo: ", "     1  !\x1b7a frog")
+    wrong += asked("x", "restarted, with nothing to undo: ", "     1  !\x1b7a frog")
     wrong += asked("y", "     1  !y\x1b7a frog") + asked("\tfrog", "1 match\x1b", "\x1b[7mfrog")
     test("where the program is killed, the pane tells it, and goes on with the text", wrong)
     pane.type("\x03")

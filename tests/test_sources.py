@@ -25,8 +25,8 @@ GROUPS = {r"ropey_(tree|walk)": r"ropey\w*", r"rx_\w+": r"rx_\w+|regex_cursor\w*
 UNUSUAL = re.compile(r"\b(?:turned round|wants? of memory|lets? go of|serves? on|(?:is|are|be) come (?:by|to)|made anew|"
                      r"(?:steps?|pass(?:es)?) back|lies? in pieces|stands? (?:before|behind|there)|goes by|hands? on|"
                      r"what is told)\b", re.I)
-READ_FOR_ENGLISH = ("*.md", "docs/*.md", "crates/*/README.md", "bindings/**/*", "examples/[cds]*", "examples/language_server/*",
-                    "examples/web/*", "include/*", "Makefile", "bench/*", "bench/plain/src/*", "tests/*", "tests/compiled/**/*")
+READ_FOR_ENGLISH = ("*.md", "docs/*.md", "crates/*/README.md", "bindings/**/*", "examples/**/*", "include/*", "Makefile", "bench/*",
+                    "bench/plain/src/*", "tests/*", "tests/compiled/**/*")
 WRITTEN = {"docs/meaning.md", "docs/definitions.md", "tests/test_sources.py"}  # by tools/meaning; and this list
 # A line whose call only shows a proof an invariant of the type.
 FOR_PROOFS = r"^ *let _ = \(?[\w.]+\(\)"

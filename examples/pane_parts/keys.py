@@ -1,13 +1,13 @@
-"""Keys typed into a terminal, each by its name, whatever sequence of bytes stands for it."""
+"""Keys typed into a terminal, each by its name, whatever sequence of bytes it sends."""
 import codecs
 import os
 import re
 import select
 from collections import namedtuple
 
-MOMENT = 0.05  # seconds in which the rest of a key's sequence comes, if it was no Escape
+MOMENT = 0.05  # seconds within which the rest of a key's sequence arrives, unless it is Escape
 
-# A key: its name, and what it types, if that is a text, which a pasted one is too.
+# A key: its name, and the text that it types, if any; pasted text is a key too.
 Key = namedtuple("Key", "name text")
 
 PASTE, PASTE_END = "\x1b[200~", "\x1b[201~"
@@ -22,7 +22,7 @@ CONTROLS = {"\r": "enter", "\n": "enter", "\t": "tab", "\x7f": "backspace", "\x0
 
 
 def name_of(sequence):
-    """The name of a key that sends this, or one that nothing asks for. Control and Alt make no other key of it."""
+    """The name of the key that sends this, or one that nothing uses. Control and Alt don't change the key."""
     if sequence["end"] is None and sequence["short"] is None:
         return "f3" if sequence[0].endswith("C") else "unknown"
     number, *more = (sequence["numbers"] or "").split(";")
@@ -40,7 +40,7 @@ def key_of(character):
 
 
 def first_key(typed, is_all):
-    """The key at the front of what was typed, and how long it is, or None where more of it is to come."""
+    """The first key of the typed bytes and its length, or None if it isn't complete."""
     if typed.startswith(PASTE):
         end = typed.find(PASTE_END)
         pasted = typed[len(PASTE) : end].replace("\r\n", "\n").replace("\r", "\n")
@@ -62,19 +62,19 @@ class Keys:
         self.number, self.typed, self.decoder = number, "", codecs.getincrementaldecoder("utf-8")("ignore")
 
     def is_waiting(self, seconds=0, *others):
-        """Whether something was typed, or there is something to read from other files."""
+        """Whether something was typed, or other files have something to read."""
         return bool(select.select([self.number, *others], [], [], seconds)[0])
 
     def wait(self, other):
-        """Waits until a key is typed, and tells whether one was, or till there is something to read from another file,
-        which is read."""
+        """Waits until a key is typed or another file has something to read, reads that, and returns whether a key was
+        typed."""
         ready = select.select([self.number, other], [], [])[0]
         if other in ready:
             os.read(other, 4096)
         return self.number in ready
 
     def take_more(self):
-        """Takes what was typed, once there is some, and tells whether there was: the terminal may have gone."""
+        """Reads typed bytes, and returns whether there were any: the terminal may have closed."""
         try:
             data = os.read(self.number, 1 << 16)
         except OSError:
@@ -83,12 +83,12 @@ class Keys:
         return bool(data)
 
     def read(self):
-        """The keys that were typed, in a list, which is None once the terminal has gone."""
+        """The list of typed keys, or None if the terminal has closed."""
         keys, is_there = [], self.take_more()
         while is_there and self.typed:
             key = first_key(self.typed, False)
             if key is None and self.typed.startswith(PASTE):
-                break  # its end is still to come
+                break  # its end hasn't arrived
             if key is None and self.is_waiting(MOMENT):
                 is_there = self.take_more()
                 continue

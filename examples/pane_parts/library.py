@@ -1,8 +1,8 @@
-"""A text and its matches in a session of the library. Nothing is kept beside it: lines and rows are asked for as they are
-shown, so a key takes about as long in a large text as in a small one.
+"""A text and its matches in a session of the library. Nothing is kept besides: lines and rows are read when they are shown,
+so a key takes about as long in a large text as in a small one.
 
-A pattern is pending at first: its rows are made in slices, and those of the lines that are shown at once. Letters that are
-typed one after the other are one step to undo."""
+A new pattern is pending: its rows are made in slices, and those of the visible lines at once. Letters typed one after the
+other are one undo step."""
 import bisect
 import itertools
 
@@ -11,8 +11,8 @@ from calls import WORDS, rope_search
 from .document import Refused
 from .text import Lines
 
-SLICE = 4000  # lines that are searched at once for a pending pattern, or gone through for one of its matches
-FEW = 100  # lines that are looked at together
+SLICE = 4000  # lines of a slice of a pending pattern, or of a search for one of its matches
+FEW = 100  # lines that are read together
 
 
 class LibraryText(Lines):
@@ -32,7 +32,7 @@ class LibraryText(Lines):
         return tuple(self.session.clamp(line, column))
 
     def break_of(self, number):
-        """The break that ends a line; none ends the last one."""
+        """The break that ends a line, or an empty text for the last one."""
         if number + 1 >= self.count:
             return ""
         end = self.session.byte_of((number, self.session.line_len(number)))
@@ -49,31 +49,31 @@ class LibraryDocument:
         self.session = rope_search.Session()
         self.called(lambda: self.session.set_text(text))
         self.text, self.has_pattern, self.count = LibraryText(self.session), False, 0
-        self.states, self.at = [object()], 0  # what tells each text of the history from the others
-        self.seen = {}  # the rows of the lines that are shown
+        self.states, self.at = [object()], 0  # a key for each text of the history
+        self.seen = {}  # the rows of the visible lines
 
     def close(self):
         self.session.close()
 
     def called(self, call):
-        """What a call of the library answers."""
+        """The result of a call of the library."""
         try:
             return call()
         except rope_search.Fault as fault:
             raise Refused(WORDS[type(fault)].decode()) from None
 
     def state(self):
-        """What tells one state of the text from another."""
+        """A key for the state of the text."""
         return self.states[self.at]
 
     # ---- the pattern and its rows
 
     def is_pattern(self, pattern):
-        """Whether it is one by itself."""
+        """Whether a text is a pattern."""
         return self.called(lambda: rope_search.pattern_error(pattern)) is None
 
     def set_pattern(self, pattern):
-        """Takes another pattern, or none where it is empty or refused. The first slice is searched at once."""
+        """Sets another pattern, or none if it is empty or refused. The first slice is searched at once."""
         self.has_pattern = False
         try:
             if pattern:
@@ -88,11 +88,11 @@ class LibraryDocument:
 
     @property
     def is_pending(self):
-        """Whether lines are left to be searched."""
+        """Whether lines remain to be searched."""
         return self.session.pending is not None
 
     def advance(self):
-        """Searches a slice more."""
+        """Searches another slice."""
         start = self.session.pending
         if self.called(lambda: self.session.advance(SLICE)):
             self.count += self.session.count_matches(start)
@@ -101,12 +101,12 @@ class LibraryDocument:
         self.seen = {}
 
     def finish(self):
-        """Searches all lines that are left."""
+        """Searches all remaining lines."""
         while self.is_pending:
             self.advance()
 
     def recount(self):
-        """Counts the matches anew, of a pending pattern those in the lines that are done."""
+        """Counts the matches again; of a pending pattern, those in the lines that are done."""
         self.seen = {}
         self.count = self.session.count_pending() if self.is_pending else self.session.count_matches()
 
@@ -119,7 +119,7 @@ class LibraryDocument:
         return {line: [(span.start, span.stop) for span in row] for line, row in itertools.groupby(spans, lambda span: span.line)}
 
     def show(self, lines):
-        """Takes the rows of lines that are shown, whether they are done or not."""
+        """Reads the rows of visible lines, whether they are done or not."""
         shown = range(lines.start, min(lines.stop, self.text.count))
         self.seen = {line: [] for line in shown}
         self.seen.update(self.rows_of(shown.start, shown.stop))
@@ -131,7 +131,7 @@ class LibraryDocument:
     # ---- changes
 
     def place_of_change(self):
-        """Where the last change of the text ends, or the first of several begins."""
+        """The end of the last change of the text, or the start of the first of several."""
         changes = self.session.text_changes
         if not changes:
             return None
@@ -143,9 +143,9 @@ class LibraryDocument:
         self.at += 1
 
     def edit(self, first, last, text, is_run=False):
-        """Puts a text in the place of what lies between two positions, and answers where it ends. Where it goes on with what
-        was typed before, both are one step."""
-        # A CR and an LF that meet or part may touch the line before.
+        """Replaces the text between two positions, and returns where the new text ends. If it continues what was typed
+        before, both are one step."""
+        # A CR and an LF that meet or are separated may change the preceding line.
         start, stop, lines = max(0, first[0] - 1), last[0] + 2, self.text.count
         gone = self.session.count_matches(start, stop)
         self.called(lambda: self.session.edit(first, last, text))
@@ -169,8 +169,8 @@ class LibraryDocument:
         self.at -= 1
 
     def replace(self, template):
-        """Puts what a template stands for in the place of all matches that are listed, or, where none is, of those of the
-        whole text, which go over lines; and answers how many."""
+        """Replaces all listed matches by a template, or, if there are none, those of the whole text, which span lines; and
+        returns their number."""
         self.finish()
         if self.count:
             count = self.called(lambda: self.session.replace_listed(0, self.text.count, template))
@@ -181,14 +181,14 @@ class LibraryDocument:
         return count
 
     def undo(self):
-        """Goes a text back, and answers where it changed."""
+        """Undoes a step, and returns where the text changed."""
         self.called(self.session.undo)
         self.at -= 1
         self.recount()
         return self.place_of_change()
 
     def redo(self):
-        """Goes a text forward, and answers where it changed."""
+        """Redoes a step, and returns where the text changed."""
         self.called(self.session.redo)
         self.at += 1
         self.recount()
@@ -197,13 +197,13 @@ class LibraryDocument:
     # ---- matches
 
     def match_behind(self, line, mark):
-        """The first match of a line behind a pair of columns, or of the lines behind: its line and columns."""
+        """The first match of a line after a pair of columns, or of the following lines: its line and columns."""
         row = self.row(line)
         at = bisect.bisect_right(row, mark)
         return (line, *row[at]) if at < len(row) else self.first_from(line + 1)
 
     def match_before(self, line, mark):
-        """The last match of a line before a pair of columns, or of the lines before."""
+        """The last match of a line before a pair of columns, or of the preceding lines."""
         row = self.row(line)
         at = bisect.bisect_left(row, mark)
         return (line, *row[at - 1]) if at > 0 else self.last_before(line)
@@ -230,15 +230,15 @@ class LibraryDocument:
         return None
 
     def number_of(self, line, *match):
-        """Which match it is, from 1."""
+        """The number of a match, from 1."""
         number = bisect.bisect_left(self.row(line), match)
         if self.is_pending:
             return self.session.count_pending(0, line) + number + 1
         return self.session.list_index(line, number)[0] + 1
 
     def find_over_lines(self, line, column):
-        """The first match of the whole text at a position or behind it, as two positions, or none. It may go over
-        lines, which no row tells."""
+        """The first match of the whole text at or after a position, as two positions, or None. It may span lines, unlike
+        the matches of rows."""
         self.finish()
         found = self.called(lambda: self.session.next((line, column)))
         return found and (tuple(found.start), tuple(found.stop))

@@ -7,16 +7,16 @@ from . import screen
 from .document import Refused
 from .text import units
 
-AFTER_ALL = (float("inf"),)  # behind each pair of columns of a line
+AFTER_ALL = (float("inf"),)  # after each pair of columns of a line
 TOLD = {"pattern": "no pattern, or not yet: docs/patterns.md", "limit": "too large a pattern: docs/patterns.md"}
 
 
 class Left(Exception):
-    """A key left the pane."""
+    """A key ended the pane."""
 
 
 def stamp_of(path):
-    """What tells one state of a file from another, or none where there is no file."""
+    """A key for the state of a file, or None if there is no file."""
     try:
         told = os.stat(path)
     except OSError:
@@ -25,7 +25,7 @@ def stamp_of(path):
 
 
 def save(path, text):
-    """Writes a text to a file beside one, which then takes that one's place."""
+    """Writes a text to a new file, which then replaces the old one."""
     path = os.path.realpath(path)
     with tempfile.NamedTemporaryFile(dir=os.path.dirname(path), delete=False) as file:
         try:
@@ -40,27 +40,27 @@ def save(path, text):
 
 
 class Pane:
-    """A document, what of it is shown, a cursor in it, and what was typed to search for."""
+    """A document, its visible part, a cursor in it, and the typed pattern."""
 
     def __init__(self, document, path):
         self.document, self.path, self.saved, self.stamp = document, path, document.state(), stamp_of(path)
         self.mode, self.question = "search", None  # or the mode is "text", or "template"
-        self.typed, self.folds, self.words = "", False, False  # a pattern, whatever the case, as whole words
+        self.typed, self.folds, self.words = "", False, False  # the pattern, whether it ignores case, whether it matches whole words
         self.asked = self.spelled()
-        self.template, self.told, self.refused = "", "", ""  # what the last key is told, and why there is no pattern
-        self.top, self.left = 0, 0  # the first line and the first cell shown
-        self.place, self.found = (0, 0), None  # the cursor, and the match gone to, as two positions
-        self.run = None  # where letters that were typed one after the other end, which are one step to undo
+        self.template, self.told, self.refused = "", "", ""  # the message of the last key, and why there is no pattern
+        self.top, self.left = 0, 0  # the first visible line and cell
+        self.place, self.found = (0, 0), None  # the cursor, and the current match, as two positions
+        self.run = None  # the end of letters typed one after the other, which are one undo step
 
     # ---- the pattern and its matches
 
     def spelled(self):
-        """The pattern that was typed, with what was chosen for it."""
+        """The typed pattern, with its options."""
         pattern = rf"\b(?:{self.typed})\b" if self.typed and self.words else self.typed
         return "(?i)" + pattern if pattern and self.folds else pattern
 
     def set_pattern(self):
-        """Gives the program the pattern that was typed, or none."""
+        """Sets the typed pattern, or none."""
         self.asked, self.found, self.refused = self.spelled(), None, ""
         try:
             if self.words and self.typed and not self.document.is_pattern(self.typed):
@@ -71,8 +71,7 @@ class Pane:
             self.refused = TOLD.get(str(refused), f"error {refused}")
 
     def follow(self):
-        """Takes the pattern, once nothing more was typed meanwhile, and shows a match of it: where none is in sight,
-        the one that comes next."""
+        """Sets the pattern, unless more was typed meanwhile, and shows a match of it: if none is visible, the next one."""
         if self.spelled() != self.asked:
             self.set_pattern()
             self.document.show(self.shown())
@@ -83,7 +82,7 @@ class Pane:
                 self.top = match[0] if match else self.top
 
     def report(self):
-        """Which match was gone to, and how many there are."""
+        """The number of the current match, and of all."""
         count, more = self.document.count, "+" * self.document.is_pending
         if not self.document.has_pattern:
             return ""
@@ -93,8 +92,8 @@ class Pane:
         return f"{count}{more} match{'es' * (count != 1 or bool(more))}" + ", and one over lines" * bool(self.found)
 
     def go_to_match(self, is_back):
-        """Goes to the match behind the one that was gone to, or before it, or else that is nearest to the cursor; from
-        the last one to the first, and back."""
+        """Goes to the match after the current one, or before it, or, without one, to the nearest to the cursor; from the
+        last one to the first, and back."""
         if self.spelled() != self.asked:
             self.set_pattern()
         line, column = self.found[0] if self.found else self.place_shown()
@@ -128,29 +127,29 @@ class Pane:
     # ---- what is shown
 
     def front(self):
-        """How many cells a line's number has."""
+        """The number of cells of a line's number."""
         return max(6, len(str(self.document.text.count)))
 
     def size(self):
-        """How many lines there is room for, and how many cells for a line's text."""
+        """The number of lines on the screen, and of cells for a line's text."""
         size = os.get_terminal_size()
         return max(1, size.lines - 1), max(1, size.columns - self.front() - 2)
 
     def shown(self):
-        """The numbers of the lines for which there is room."""
+        """The numbers of the lines on the screen."""
         return range(self.top, self.top + self.size()[0])
 
     def place_shown(self):
-        """The cursor, or the first place that is shown."""
+        """The cursor, or the first visible position."""
         return self.place if self.place[0] in self.shown() else (self.top, 0)
 
     def resize(self):
-        """Keeps the cursor in sight."""
+        """Keeps the cursor visible."""
         if self.mode == "text":
             self.go(self.place)
 
     def go(self, place, end=None):
-        """Puts the cursor at a position, and shows it, and where a match that begins there ends, if there is room."""
+        """Moves the cursor to a position, and shows it, and the end of a match that begins there, if there is room."""
         self.place, (height, width) = place, self.size()
         if not self.top - 1 <= place[0] <= self.top + height:
             self.top = max(0, place[0] - height // 2)
@@ -161,12 +160,12 @@ class Pane:
             self.left = 0 if last < width else max(0, cell - width // 2)
 
     def lines_of(self, key):
-        """How many lines a key moves by."""
+        """The number of lines by which a key moves."""
         height, _ = self.size()
         return {"up": -1, "down": 1, "page up": -height, "page down": height}.get(key, 0)
 
     def move_file(self, key):
-        """Moves what is shown."""
+        """Scrolls."""
         height, width = self.size()
         lines = self.lines_of(key)
         last = self.document.text.count - 1
@@ -176,7 +175,7 @@ class Pane:
     # ---- changes
 
     def changed(self, change):
-        """Makes a change, and tells if it was refused. Lines that are shown, and the cursor, may be gone then."""
+        """Makes a change, and returns its result, or None if it was refused. Visible lines and the cursor may be gone then."""
         self.run = None
         try:
             answer = change()
@@ -188,11 +187,11 @@ class Pane:
         return answer
 
     def edit(self, first, last, text, is_run=False):
-        """Puts a text in the place of what lies between two positions, and the cursor behind it."""
+        """Replaces the text between two positions, and moves the cursor after the new text."""
         self.make(lambda: self.document.edit(first, last, text, is_run))
 
     def replace_all(self):
-        """Puts what the template stands for in the place of all matches, if the pattern that was typed is one."""
+        """Replaces all matches by the template, if the typed pattern is one."""
         if self.spelled() != self.asked:
             self.set_pattern()
         if self.document.has_pattern:
@@ -203,13 +202,13 @@ class Pane:
                 self.told = f"replaced: {count}{other}, matches: {self.document.count}"
 
     def make(self, change):
-        """Makes a change, and goes to where it is."""
+        """Makes a change, and goes to it."""
         place = self.changed(change)
         if place:
             self.go(place)
 
     def undo_or_redo(self, change):
-        """Goes a text back, or forward."""
+        """Undoes or redoes."""
         self.make(change)
         if self.told == "error none":
             self.told = "there is nothing to undo or to redo"
@@ -240,7 +239,7 @@ class Pane:
         self.go(place or self.place)
 
     def type_into_text(self, key):
-        """A key where it edits the text."""
+        """Handles a key that edits the text."""
         text, place = self.document.text, self.place
         if key.text or key.name == "enter":
             is_letter, is_run = len(key.text) == 1, self.run == place
@@ -254,7 +253,7 @@ class Pane:
             self.move(key.name)
 
     def type_into_search(self, key):
-        """A key where it is of the pattern, or moves the file."""
+        """Handles a key of the pattern, or one that scrolls."""
         if key.name == "enter":
             self.go_to_match(False)
         elif key.text or key.name in ("backspace", "ctrl-u"):
@@ -263,7 +262,7 @@ class Pane:
             self.move_file(key.name)
 
     def type_into_template(self, key):
-        """A key where it is of the template."""
+        """Handles a key of the template."""
         if key.name in ("enter", "escape"):
             self.mode = "search"
         if key.name == "enter":
@@ -292,13 +291,13 @@ class Pane:
         raise Left
 
     def answer(self, key):
-        """Does what was asked for, or nothing."""
+        """Does what was confirmed, or nothing."""
         (_, do), self.question = self.question, None
         if key.text in ("y", "Y"):
             do()
 
     def always(self, key):
-        """What a key does wherever one types, or none."""
+        """The action of a key in every mode, or None."""
         if key in ("shift-tab", "ctrl-p", "shift-f3"):
             return lambda: self.go_to_match(True)
         return {
@@ -314,7 +313,7 @@ class Pane:
         }.get(key)
 
     def take(self, key):
-        """Does what a key says."""
+        """Handles a key."""
         self.told = ""
         if key.name == "ctrl-c":
             self.leave()
@@ -330,14 +329,14 @@ class Pane:
     # ---- drawing
 
     def found_in(self, line):
-        """What of the match that was gone to lies in a line, as two columns."""
+        """The part of the current match in a line, as two columns."""
         if not self.found or not self.found[0][0] <= line <= self.found[1][0]:
             return None
         (first, start), (last, end) = self.found
         return start if line == first else 0, end if line == last else units(self.document.text.line(line))
 
     def head(self):
-        """The first row: the pattern, the template if one is typed, and what is told."""
+        """The first row: the pattern, the template if one is typed, and the message."""
         columns = os.get_terminal_size().columns
         if self.question:
             return screen.cut(self.question[0], columns) + "\x1b7"
@@ -355,7 +354,7 @@ class Pane:
         return out + screen.cut(told, columns - used)
 
     def draw(self):
-        """Shows the head, and below it the lines from `top` on."""
+        """Draws the head, and below it the lines from `top` on."""
         self.document.show(self.shown())
         count, (_, width) = self.document.text.count, self.size()
         out = f"\x1b[H\x1b[K{self.head()}"

@@ -1,4 +1,4 @@
-"""Lines on a screen of cells: what of them is seen, how wide each character is, and where matches are marked."""
+"""Lines on a screen of cells: their visible part, the width of each character, and the marks of matches."""
 import bisect
 import functools
 import unicodedata
@@ -8,7 +8,7 @@ TAB = 8  # cells from one tab stop to the next
 
 @functools.lru_cache(maxsize=None)
 def shown(character):
-    """What stands for a character, and in how many cells."""
+    """The text shown for a character, and its number of cells."""
     if unicodedata.category(character) in ("Mn", "Me"):
         return character, 0
     if not character.isprintable():
@@ -17,7 +17,7 @@ def shown(character):
 
 
 def placed(line):
-    """Each character of a line: its column in UTF-16 code units, what stands for it, its cell, and how many it has."""
+    """Each character of a line: its column in UTF-16 code units, the text shown for it, its cell, and its number of cells."""
     column = cell = 0
     for character in line:
         text, size = (" " * (TAB - cell % TAB), TAB - cell % TAB) if character == "\t" else shown(character)
@@ -31,7 +31,7 @@ def is_plain(line):
 
 
 def cell_of(line, column):
-    """The cell in which a column's character begins, or behind the line's last."""
+    """The cell in which a column's character begins, or the one after the line's last."""
     if is_plain(line):
         return min(column, len(line))
     end = 0
@@ -43,8 +43,8 @@ def cell_of(line, column):
 
 
 def seen(line, left, width):
-    """What is seen of a line in so many cells from a cell on: for each character its column and what stands for it. Of
-    a wide one of which a part would stand outside, blanks."""
+    """The part of a line in this number of cells from a cell on: for each character its column and the text shown for it;
+    blanks for a wide character that is partly outside."""
     if is_plain(line):
         yield from enumerate(line[left : left + width], left)
         return
@@ -57,8 +57,8 @@ def seen(line, left, width):
 
 
 def marked(line, left, width, matches, found, cursor):
-    """What is seen of a line, with its matches in reverse video and the match that was gone to underlined. At the
-    cursor's column, if it is in this line, the terminal is told to keep the place."""
+    """The visible part of a line, with its matches in reverse video and the current match underlined. At the cursor's
+    column, if it is in this line, the terminal saves the cursor position."""
     out, style, is_kept = "", (False, False), cursor is None
     for column, text in seen(line, left, width):
         at = bisect.bisect_right(matches, (column, float("inf"))) - 1
@@ -75,7 +75,7 @@ def ends(style):
 
 
 def cut(text, width, from_end=False):
-    """As much of a text as fits in so many cells, its start or its end."""
+    """As much of a text as fits in this number of cells, its start or its end."""
     sizes = [shown(character) for character in (reversed(text) if from_end else text)]
     out, room = [], width
     for character, size in sizes:
@@ -87,5 +87,5 @@ def cut(text, width, from_end=False):
 
 
 def cells(text):
-    """How many cells a text takes in one line, where a tab has one."""
+    """The number of cells of a text in one line, with one for a tab."""
     return sum(shown(character)[1] for character in text)

@@ -1,28 +1,28 @@
--- A search that is kept live over a buffer of Neovim: the matches in its windows are painted, and
--- counted, as one types and undoes. It stands on bindings/lua, and needs the shared library that
--- `make lib` builds. Matches are those of docs/patterns.md, line by line.
+-- A live search over a buffer of Neovim: the matches in its windows are highlighted and counted while
+-- you type and undo. It uses bindings/lua, and needs the shared library that `make lib` builds. Matches
+-- are those of docs/patterns.md, line by line.
 --
--- The buffer's text is its lines with an LF behind each, so the last line of the session, behind the
--- last LF, is no line of the buffer, and what matches there isn't told. Places go between Neovim and
--- the session as bytes of that text: a CR ends a line of the session and none of Neovim's. Neovim keeps
--- the history, so the session keeps none.
+-- The session's text is the buffer's lines, each followed by an LF. So the last line of the session,
+-- after the last LF, is no line of the buffer, and matches in it aren't shown. Positions are passed
+-- between Neovim and the session as byte offsets of that text: a CR ends a line of the session, but not
+-- of Neovim. Neovim keeps the history, so the session keeps none.
 local rope_search = require("rope_search")
 
 local M = {}
 
--- A pattern is searched in slices of so many lines, between Neovim's own events, so nothing waits longer
--- than one slice; a line is searched whole, however long it is.
+-- A pattern is searched in slices of this number of lines, between Neovim's own events, so nothing
+-- waits longer than one slice; a line is searched whole, however long it is.
 M.slice = 4000
--- How many of them are looked at together where one match is looked for.
+-- The number of lines that are read together in a search for one match.
 M.few = 100
 
 local NAMESPACE = vim.api.nvim_create_namespace("live_search")
 local GROUP = vim.api.nvim_create_augroup("live_search", { clear = true })
--- The session of each buffer that is searched, whether it doesn't have the buffer's text, and whether
--- it already has what the buffer is being edited to.
+-- The session of each searched buffer, whether its text is stale, and whether it already has the text
+-- that the buffer is being edited to.
 local sessions, stale, ahead = {}, {}, {}
--- Which rows of Neovim are painted of each buffer, by its windows; and which of the session's rows
--- were replaced since: nothing where all are to be painted.
+-- The rows of Neovim that are highlighted for each buffer, by window; and the rows of the session that
+-- were replaced since, or nil if all have to be highlighted.
 local painted, replaced = {}, {}
 -- The pattern of each buffer, and the timer that searches it in slices, while it is pending.
 local patterns, timers = {}, {}
@@ -31,7 +31,7 @@ local function text_of(buffer)
   return table.concat(vim.api.nvim_buf_get_lines(buffer, 0, -1, true), "\n") .. "\n"
 end
 
--- The byte at which a row begins. Neovim knows none of an empty buffer.
+-- The offset at which a row begins. Neovim has none for an empty buffer.
 local function offset_of(buffer, row)
   return math.max(0, vim.api.nvim_buf_get_offset(buffer, row))
 end
@@ -44,7 +44,7 @@ local function end_timer(buffer)
   end
 end
 
--- Searches a slice more, and paints the windows once all lines are done.
+-- Searches another slice, and highlights the windows when all lines are done.
 local function advance(buffer)
   local session = sessions[buffer]
   if not session or not session:pending() then
@@ -62,7 +62,7 @@ local function advance(buffer)
   end
 end
 
--- Begins a pattern, and searches the first slice; the others come when Neovim is idle.
+-- Begins a pattern, and searches the first slice; the others are searched when Neovim is idle.
 local function begin(buffer, pattern)
   local session = sessions[buffer]
   local done, why = session:begin_pattern(pattern)
@@ -80,7 +80,7 @@ local function begin(buffer, pattern)
   return done ~= nil or nil, why
 end
 
--- The session of a buffer, with the buffer's text. A text that is given anew is searched in slices too.
+-- The session of a buffer, with the buffer's text. If that is set again, it is searched in slices too.
 local function session_of(buffer)
   local session = sessions[buffer]
   if session and stale[buffer] then
@@ -94,19 +94,19 @@ local function session_of(buffer)
   return session
 end
 
--- How many of the session's lines are the buffer's.
+-- The number of the session's lines that are the buffer's.
 local function lines_of(session)
   return session:text_lines() - 1
 end
 
--- How many bytes that is, without the text.
+-- The number of bytes of that text.
 local function length_of(buffer)
   local last = vim.api.nvim_buf_line_count(buffer) - 1
   local line = vim.api.nvim_buf_get_lines(buffer, last, last + 1, true)[1]
   return offset_of(buffer, last) + #line + 1
 end
 
--- The byte at which a row of Neovim begins, or, behind the last row, at which the text ends.
+-- The offset at which a row of Neovim begins, or, after the last row, at which the text ends.
 local function byte_of_row(buffer, row)
   if row < vim.api.nvim_buf_line_count(buffer) then
     return offset_of(buffer, row)
@@ -114,7 +114,7 @@ local function byte_of_row(buffer, row)
   return sessions[buffer]:text_len()
 end
 
--- The row and the column of Neovim at which a byte of the text is, among rows from `first` on.
+-- The row and the column of Neovim for an offset in the text, among rows from `first` on.
 local function place_of(buffer, byte, first)
   local row, last = first, vim.api.nvim_buf_line_count(buffer) - 1
   while row < last do
@@ -129,7 +129,7 @@ local function place_of(buffer, byte, first)
 end
 
 -- The matches in some lines of the session, with columns in bytes; while a pattern is pending, its
--- matches, of which those that are not known are searched.
+-- matches, for which lines that aren't done are searched.
 local function matches_of(session, first, last)
   if not session:pending() then
     return session:matches(first, last, "utf-8")
@@ -170,7 +170,7 @@ function M.matches(buffer, first_row, last_row)
   return found
 end
 
--- Paints the matches in some rows, in place of what was painted there.
+-- Highlights the matches in some rows, and removes the old highlights there.
 local function paint_rows(buffer, first_row, last_row)
   if first_row > last_row then
     return
@@ -185,22 +185,22 @@ local function paint_rows(buffer, first_row, last_row)
   end
 end
 
--- Paints the matches in some rows, in place of all that was painted.
+-- Highlights the matches in some rows, and removes all old highlights.
 function M.paint(buffer, first_row, last_row)
   vim.api.nvim_buf_clear_namespace(buffer, NAMESPACE, 0, -1)
   paint_rows(buffer, first_row, last_row)
   painted[buffer] = nil
 end
 
--- The rows of Neovim in which rows of the session stand that were replaced.
+-- The rows of Neovim that contain replaced rows of the session.
 local function replaced_rows(buffer)
   local session, rows = sessions[buffer], replaced[buffer]
   local first_row = place_of(buffer, session:byte_of({ rows.first, 0 }), 0)
   return first_row, (place_of(buffer, session:byte_of({ rows.last - 1, 0 }), first_row))
 end
 
--- Paints the matches in a buffer's windows: where the same rows are shown as before and none has
--- moved, in the replaced rows alone.
+-- Highlights the matches in a buffer's windows; if the same rows are visible as before and none has
+-- moved, only in the replaced rows.
 function M.paint_windows(buffer)
   local session = session_of(buffer)
   if not session or not vim.api.nvim_buf_is_valid(buffer) then
@@ -226,7 +226,7 @@ function M.paint_windows(buffer)
   painted[buffer], replaced[buffer] = shown, { first = math.huge, last = 0 }
 end
 
--- Keeps in mind which rows of the session an edit replaced.
+-- Records which rows of the session an edit replaced.
 local function note_replaced(buffer)
   local rows, changed = replaced[buffer], sessions[buffer]:changed()
   if not rows or stale[buffer] or sessions[buffer]:pending() or changed.removed ~= changed.added then
@@ -237,7 +237,7 @@ local function note_replaced(buffer)
   end
 end
 
--- What an edit puts in, or nothing where it can't be told.
+-- The text that an edit inserts, or nil if it can't be determined.
 local function inserted(buffer, row, column, rows, columns)
   local to_row = row + rows
   local to_column = (rows == 0 and column or 0) + columns
@@ -248,9 +248,9 @@ local function inserted(buffer, row, column, rows, columns)
   return done and table.concat(lines, "\n") or nil
 end
 
--- Has the session follow an edit of the buffer. Where one of its bytes is between a CR and an LF, or
--- the buffer has gone on before its edits are told, as in `:move`, the whole text is given anew once
--- it is asked for.
+-- Makes the session follow an edit of the buffer. If one of its offsets is between a CR and an LF, or
+-- the buffer has changed further before its edits are reported, as in `:move`, the whole text is set
+-- again when it is needed.
 local function follow(buffer, row, column, byte, old_len, rows, columns, new_len)
   local session = sessions[buffer]
   local text = inserted(buffer, row, column, rows, columns)
@@ -284,7 +284,7 @@ local function end_search(buffer)
   end
 end
 
--- Why a pattern is refused, with the place where it isn't one.
+-- Why a pattern is refused, with the offset of the mistake.
 local function told_of(pattern, why)
   local found = why == "pattern" and rope_search.pattern_error(pattern)
   return found and ("%s, at byte %d"):format(found.reason, found.place) or why
@@ -335,8 +335,8 @@ function M.stop(buffer)
   end_search(buffer)
 end
 
--- How many matches start at the cursor or before it, and how many there are; and whether there may be
--- more, since lines are left to be searched: then those of the lines that are done are counted.
+-- The number of matches that start at or before the cursor, and of all; and whether there may be more
+-- because lines remain to be searched: then those of the lines that are done are counted.
 function M.count(window)
   local session = session_of(vim.api.nvim_win_get_buf(window))
   if not session then
@@ -367,7 +367,8 @@ local function go_to(window, match)
   vim.api.nvim_win_set_cursor(window, { row + 1, column })
 end
 
--- The first match of a pending pattern behind a position, in a slice of lines, and the last one before it.
+-- The first match of a pending pattern after a position, in a slice of lines, and the last one before
+-- it.
 local function pending_behind(session, at)
   local stop = math.min(lines_of(session), at.line + M.slice)
   for line = at.line, stop - 1, M.few do
@@ -391,8 +392,8 @@ local function pending_before(session, at)
   end
 end
 
--- Goes to the first match behind the cursor, or else to the first of all; while a pattern is pending, to
--- one in a slice of lines. What matches behind the last LF is no match of the buffer.
+-- Goes to the first match after the cursor, or, without one, to the first of all; while a pattern is
+-- pending, to one in a slice of lines. A match after the last LF is no match of the buffer.
 function M.next(window)
   local session, at = session_of(vim.api.nvim_win_get_buf(window)), M.position(window)
   local lines, match = lines_of(session), nil
@@ -409,7 +410,7 @@ function M.next(window)
   end
 end
 
--- Goes to the last match before the cursor, or else to the last of all, in the same way.
+-- Goes to the last match before the cursor, or, without one, to the last of all, in the same way.
 function M.previous(window)
   local session, at = session_of(vim.api.nvim_win_get_buf(window)), M.position(window)
   local lines, match = lines_of(session), nil
@@ -424,7 +425,7 @@ function M.previous(window)
   end
 end
 
--- Puts the texts that the session has in the place of those of the buffer, from the last one back.
+-- Replaces texts of the buffer by those of the session, from the last one to the first.
 local function put_changes(buffer, session)
   local changes = session:text_changes()
   for i = #changes, 1, -1 do
@@ -436,12 +437,12 @@ local function put_changes(buffer, session)
   end
 end
 
--- Replaces the matches that are listed in some rows, or in all, each by what the template stands for with
--- the groups of its line, as one step to undo, and returns how many there were. The session makes the
--- edits, and the buffer follows it.
+-- Replaces the matches that are listed in some rows, or in all, each by the expansion of the template
+-- with the groups of its line, as one undo step, and returns their number. The session makes the edits,
+-- and the buffer follows it.
 function M.replace(buffer, template, first_row, last_row)
   local session = session_of(buffer)
-  -- The pattern that was asked for last lists none before all lines are done.
+  -- The last pattern lists no match before all lines are done.
   while session:pending() do
     assert(session:advance(M.slice) ~= nil)
   end
