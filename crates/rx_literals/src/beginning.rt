@@ -351,9 +351,9 @@ impl Prefilter {
     /// assertions, and in a repetition of at least one. At an alternation, a set with at most four
     /// members, or an optional part, each branch is followed until a literal has three bytes, or a
     /// single one has two. There are at most 16 literals, each of at most 64 bytes. If there are
-    /// several, each has at least three bytes; or each has at least two, and they begin with at most
-    /// three different bytes, none of which is common in texts, or one is and there are at most
-    /// three literals.
+    /// several, each has at least three bytes; or each has at least two, and they begin with at
+    /// most three different bytes, none of which is common in texts, or one is and there are at
+    /// most three literals.
     ///
     /// # Errors
     ///

@@ -40,7 +40,8 @@ impl NeedleTable {
     /// Adds the first three bytes of a needle, and returns whether it has that many.
     fn put(&mut self, needle: &[u8]) -> bool
         ensures has { IsTrue result → MayOccurAt self.new needle.now 0 }
-        ensures keeps { (other : List ℕ) → MayOccurAt self.old other 0 → MayOccurAt self.new other 0 }
+        ensures keeps { (other : List ℕ) → MayOccurAt self.old other 0
+            → MayOccurAt self.new other 0 }
     {
         if needle.len() < TABLE_LEN {
             return false;
