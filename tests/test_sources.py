@@ -181,8 +181,8 @@ def test_costs():
     names = {"C": "in C", "Rust": "in Rust", "Python": "in Python", "Lua": "in LuaJIT", "Node": "by the program from Node",
              "A web page": "in WebAssembly, in Node", "A child process": "by the program over pipes",
              "A language server": "by the language server", "Neovim": "in Neovim, with its own edit"}
-    told = dict(re.findall(r"^\| \[([^]]*)\].*\| ([\d.]+) µs \|$", page, re.M))
-    due = {way: f"{measured[name]:.{int(measured[name] < 10)}f}" for way, name in names.items() if name in measured}
+    told = dict(re.findall(r"^\| \[([^]]*)\].*\| ([\d.,]+) µs \|$", page, re.M))
+    due = {way: f"{measured[name]:,.{int(measured[name] < 10)}f}" for way, name in names.items() if name in measured}
     wrong = [] if told == due else [f"it has {told}, not {due}: run bench/cite"]
     test("docs/embedding.md has the time of a letter for each way that is measured", wrong)
 
