@@ -188,14 +188,13 @@ TOPICS = {
         built=("bin/librope_search.so",),
     ),
     "windows": Topic(
-        "a pattern whose report is made in slices of 4,000 lines, in 2,000,000 lines of 50 bytes: the first window of 50 "
-        "lines with what `begin_pattern` takes, the longest slice, and all of them beside `set_pattern`",
+        "a report in slices of 4,000 lines, of 2,000,000 lines: `begin_pattern` with the first window of 50 lines, the longest "
+        "slice, and all slices",
         [windows.first_windows],
         built=("bin/librope_search.so",),
     ),
     "copies": Topic(
-        "matches of `\\w+` in 400,000 lines, copied with columns in UTF-16 code units and in bytes; and the first 50 of the "
-        "whole text from its middle",
+        "copies of matches of `\\w+` in 400,000 lines",
         [windows.copies],
         built=("bin/librope_search.so",),
     ),

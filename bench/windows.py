@@ -88,7 +88,7 @@ def copies(_, tiny):
     rope_search = bindings()
     lines = 4_000 if tiny else 400_000
     ascii_lines = lines_of(lines).decode()
-    for kind, text in (("ASCII", ascii_lines), ("`é` behind each line", ascii_lines.replace("\n", "é\n"))):
+    for kind, text in (("ASCII", ascii_lines), ("`é` added", ascii_lines.replace("\n", "é\n"))):
         with rope_search.Session() as session:
             session.set_text(text)
             session.set_pattern(r"\w+")
@@ -105,4 +105,4 @@ def copies(_, tiny):
             next_all = lambda: calls.rope_search_next_all(handle, middle, found, SHOWN, count)
             runs = [spent(next_all) for _ in range(RUNS)]
             is_right = all(status == 0 for _, status in runs) and count.value == SHOWN
-            yield f"{SHOWN} matches from the middle, {kind}", "`next_all`", *figure([time_of_run for time_of_run, _ in runs], is_right)
+            yield f"{SHOWN} from the middle, {kind}", "`next_all`", *figure([time_of_run for time_of_run, _ in runs], is_right)
