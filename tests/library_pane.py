@@ -117,7 +117,7 @@ def wrong_look_ups(shown, model):
         due = [number + 1, *((matches + [None])[number + 1 :][:1]), *([None] + matches)[number : number + 1]]
         told = [shown.number_of(line, *span), shown.match_behind(line, span), shown.match_before(line, span)]
         if told != due:
-            yield f"of match {number} is told {told}, not {due}"
+            yield f"match {number} has {told}, not {due}"
 
 
 def wrong_text(shown, model):
@@ -130,7 +130,7 @@ def wrong_text(shown, model):
         lines = [(text.line(line), text.break_of(line), text.break_near(line), text.clamped(line, 99)) for text in (own, shown_lines)]
         steps = [(text.behind(line, 0), text.before(line, 0), text.before(*text.clamped(line, 9))) for text in (own, shown_lines)]
         if lines[0] != lines[1] or steps[0] != steps[1]:
-            yield f"of line {line} is told {lines[1]}, {steps[1]}, not {lines[0]}, {steps[0]}"
+            yield f"line {line} has {lines[1]}, {steps[1]}, not {lines[0]}, {steps[0]}"
 
 
 def wrong_document(seed):

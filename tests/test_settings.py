@@ -72,7 +72,7 @@ VECTORS = [
     # A later value replaces an earlier one, and leaves other settings.
     (["x*"], "せ", "utf8_empty=0/hybrid=0", "0-0 1-1 2-2 3-3"),
     (["x*"], "せ", "utf8_empty=0/utf8_empty=1", "0-0 3-3"),
-    # States are made at so many bytes that a small cache doesn't hold them.
+    # Too many states are made for a small cache.
     (["[ab]*a[ab]{5}"], "abbab" * 40 + "c", "hybrid_cache_capacity=0.dfa=0", "0-199"),
     (["[ab]*a[ab]{5}"], "abbab" * 40 + "c", "hybrid=0.dfa=0", "0-199"),
     (["[ab]*a[ab]{5}"], "abbab" * 40 + "c", "dfa_state_limit=none.dfa_size_limit=none", "0-199"),

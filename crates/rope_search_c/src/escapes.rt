@@ -26,7 +26,8 @@ pub extern "C" fn rope_search_escape(
     out: &mut [u8],
     pattern_len: &mut usize,
 ) -> u32
-    ensures written { WritesEscaped text.now result out.old out.new pattern_len.old pattern_len.new }
+    ensures written { WritesEscaped text.now result out.old out.new
+        pattern_len.old pattern_len.new }
     ensures utf8 { (result ≡ 3) ↔ ¬ (IsUtf8 text.now) }
 {
     match escape(alloc, text) {
