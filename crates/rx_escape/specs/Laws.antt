@@ -22,7 +22,7 @@ MatchesItsText text = (tree : Tree) (terminator : ℕ) → all_scalars text ≡ 
     → Spells (escaped text) default_settings tree
     → MatchesOnly (encode_utf8_all text) (program_of (tree ∷ []) terminator)
 
--- what it spells weighs 2 for each character, and at most 4 more
+-- what it spells weighs at most 2 for each character, and 4 more
 abbrev pub WeighsLittle : List ℕ → Type 0
 WeighsLittle text = (tree : Tree) → all_scalars text ≡ true
     → Spells (escaped text) default_settings tree → pattern_weight tree ≤ 2 * length text + 4
