@@ -7,7 +7,7 @@ ghost use Rattle.ropey_walk.specs.Iter.{GivesItem};
 ghost use Rattle.ropey_walk.specs.Slices.{slice_text};
 
 use crate::slice::RopeSlice;
-use ropey_tree::counts::By;
+use ropey_tree::node::OnTheWay;
 use std::alloc::AllocError;
 use std::iter::{ExactSizeIterator, FusedIterator};
 use std::marker::Model;
@@ -15,7 +15,8 @@ use std::marker::Model;
 /// An iterator over the bytes of a text's UTF-8, in both directions. Contracts see the bytes on
 /// both sides.
 ///
-/// A step takes `O(1)` inside a chunk, and `O(log n)` from one to the next.
+/// A step takes `O(1)` inside a chunk. From one chunk to the next it descends from the node above
+/// the last chunk, or from the root, in `O(log n)`, if that node has no further chunk.
 #[derive(Drop)]
 pub struct Bytes<'a> {
     slice: RopeSlice<'a>,
@@ -26,6 +27,8 @@ pub struct Bytes<'a> {
     at: usize,
     // The length of the text in bytes.
     len: usize,
+    // The node above the leaf of the chunk, from which the search for the next one starts.
+    near: Option<OnTheWay<'a>>,
     is_reversed: bool,
 }
 
@@ -33,7 +36,7 @@ impl<'a> Model for Bytes<'a> {
     ghost use Rattle.std.specs.Prelude.{◌≡◌, ℕ, ◌+◌, ◌^◌, ◌<◌, ◌≤◌, length, encode_utf8_all};
     ghost use Rattle.ropey_walk.specs.TwoWay.{TwoWay, facing};
     ghost use Rattle.ropey_walk.specs.Iter.{IsPartAt};
-    ghost use Rattle.ropey_walk.specs.Slices.{slice_text};
+    ghost use Rattle.ropey_walk.specs.Slices.{slice_text, IsNear};
 
     ghost Value = { TwoWay ℕ };
 
@@ -43,22 +46,26 @@ impl<'a> Model for Bytes<'a> {
     ghost invariant = { λ bytes.
         IsPartAt bytes.start bytes.chunk.now (encode_utf8_all (slice_text bytes.slice)) ×
         (bytes.at ≤ length bytes.chunk.now) ×
-        (bytes.len ≡ length (encode_utf8_all (slice_text bytes.slice))) × (bytes.len < 2 ^ 63) };
+        (bytes.len ≡ length (encode_utf8_all (slice_text bytes.slice))) × (bytes.len < 2 ^ 63) ×
+        IsNear bytes.slice bytes.near };
 }
 
 impl<'a> Bytes<'a> {
     /// Returns an iterator from a byte index, or from the end.
+    #[inline]
     pub(crate) fn at(slice: RopeSlice<'a>, byte_idx: usize) -> Self
         requires { byte_idx ≤ byte_len (slice_text slice) }
         ensures { result ≡ before_item byte_idx (encode_utf8_all (slice_text slice.entry)) }
     {
-        let chunk = slice.chunk(By::Bytes, byte_idx);
+        let mut near = None;
+        let chunk = slice.chunk_near(&mut near, byte_idx);
         Bytes {
             slice,
             chunk: chunk.text,
             start: chunk.start.bytes,
             at: byte_idx - chunk.start.bytes,
             len: slice.len_bytes(),
+            near,
             is_reversed: false,
         }
     }
@@ -78,8 +85,52 @@ impl<'a> Bytes<'a> {
         self
     }
 
+    /// `next` in all cases. Loops call this at a chunk's end, so it isn't inlined.
+    #[inline(never)]
+    fn step(&mut self) -> Option<u8>
+        ensures { GivesItem self.old result self.new }
+    {
+        if self.is_reversed {
+            if self.at == 0 {
+                if self.start == 0 {
+                    return None;
+                }
+                let byte_idx = self.start - 1;
+                let mut near = self.near;
+                let chunk = self.slice.chunk_near(&mut near, byte_idx);
+                self.near = near;
+                let at = byte_idx - chunk.start.bytes;
+                self.chunk = chunk.text;
+                self.start = chunk.start.bytes;
+                self.at = at;
+                return Some(chunk.text.as_bytes()[at]);
+            }
+            let at = self.at - 1;
+            self.at = at;
+            Some(self.chunk.as_bytes()[at])
+        } else {
+            if self.at == self.chunk.len() {
+                let byte_idx = self.start + self.at;
+                if byte_idx == self.len {
+                    return None;
+                }
+                let mut near = self.near;
+                let chunk = self.slice.chunk_near(&mut near, byte_idx);
+                self.near = near;
+                let at = byte_idx - chunk.start.bytes;
+                self.chunk = chunk.text;
+                self.start = chunk.start.bytes;
+                self.at = at + 1;
+                return Some(chunk.text.as_bytes()[at]);
+            }
+            let at = self.at;
+            self.at = at + 1;
+            Some(self.chunk.as_bytes()[at])
+        }
+    }
+
     /// Returns the preceding byte and moves back before it, or returns `None` and stays.
-    #[inline]
+    #[inline(always)]
     pub fn prev(&mut self) -> Option<u8>
         ensures { GivesPrev GivesItem self.old result self.new }
     {
@@ -99,45 +150,20 @@ impl<'a> Iterator for Bytes<'a> {
 
     ghost remaining = { item_count (λ bytes. bytes.ahead) };
 
-    #[inline]
+    #[inline(always)]
     fn next(&mut self) -> Option<u8> {
         if self.is_reversed {
-            if self.at == 0 {
-                if self.start == 0 {
-                    return None;
-                }
-                let byte_idx = self.start - 1;
-                // A copy, so that loops keep the iterator itself in registers.
-                let slice = self.slice;
-                let chunk = slice.chunk(By::Bytes, byte_idx);
-                let at = byte_idx - chunk.start.bytes;
-                self.chunk = chunk.text;
-                self.start = chunk.start.bytes;
+            if self.at > 0 {
+                let at = self.at - 1;
                 self.at = at;
-                return Some(chunk.text.as_bytes()[at]);
+                return Some(self.chunk.as_bytes()[at]);
             }
-            let at = self.at - 1;
-            self.at = at;
-            Some(self.chunk.as_bytes()[at])
-        } else {
-            if self.at == self.chunk.len() {
-                let byte_idx = self.start + self.at;
-                if byte_idx == self.len {
-                    return None;
-                }
-                // A copy, so that loops keep the iterator itself in registers.
-                let slice = self.slice;
-                let chunk = slice.chunk(By::Bytes, byte_idx);
-                let at = byte_idx - chunk.start.bytes;
-                self.chunk = chunk.text;
-                self.start = chunk.start.bytes;
-                self.at = at + 1;
-                return Some(chunk.text.as_bytes()[at]);
-            }
+        } else if self.at < self.chunk.len() {
             let at = self.at;
             self.at = at + 1;
-            Some(self.chunk.as_bytes()[at])
+            return Some(self.chunk.as_bytes()[at]);
         }
+        self.step()
     }
 }
 
@@ -166,6 +192,7 @@ impl<'a> Clone for Bytes<'a> {
             start: self.start,
             at: self.at,
             len: self.len,
+            near: self.near,
             is_reversed: self.is_reversed,
         })
     }
