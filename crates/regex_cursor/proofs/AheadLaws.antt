@@ -121,22 +121,25 @@ module _ (p : ByteProgram) (s : Search) where
       omega (arith, is, above, behind t finds, lies.found.ordered, lies.found.inside.3)
 
   -- what is found where the span starts is what is found, if the search isn't anchored
+  pub found_here : s.anchoring ≡ unanchored → (u : Outcome Notes) → Finds p (anchored_at s s.start) (Some u) → Finds p s (Some u)
+  found_here free u finds =
+      let counts = some_counts s.start (omega arith) (starts_inside s.start (omega arith)) finds in
+      let there : Finds p S (Some u) = is_found counts (λ j v below other. absurd (omega (arith, below, other.possible.0.2))) in
+      let freed_is : S ≡ s = ap (λ a. record s { anchoring = a }) (sym free) in
+      subst (λ x. Finds p x (Some u)) freed_is there
+
   pub whole_here : s.anchoring ≡ unanchored → (half : HalfFound) → IsHalfAnswer p (anchored_at s s.start) (Some half) → IsFound (Finds p) s (Some (whole_of half s.start))
   whole_here free half answer = by answer.found answer.finds answer.met_is
     where
-      freed_is : S ≡ s
-      freed_is = ap (λ a. record s { anchoring = a }) (sym free)
-
       by : (out : Option (Outcome Notes)) → Finds p (anchored_at s s.start) out → Some half ≡ option_map (λ (t : Outcome Notes). record { pattern = t.pattern; offset = t.end }) out → IsFound (Finds p) s (Some (whole_of half s.start))
       by None finds is = absurd (cc is)
       by (Some u) finds is =
           let counts = some_counts s.start (omega arith) (starts_inside s.start (omega arith)) finds in
           let kept = walk_keeps is_in is_word_char C S counts.least.walk in
           let at_start : start_of u ≡ s.start = kept.start in
-          let there : Finds p S (Some u) = is_found counts (λ j v below other. absurd (omega (arith, below, other.possible.0.2))) in
           let same : half ≡ record { pattern = u.pattern; offset = u.end } = same_Some half (record { pattern = u.pattern; offset = u.end }) is in (
             Some u,
-            subst (λ x. Finds p x (Some u)) freed_is there,
+            found_here free u finds,
             ap (λ (h : HalfFound). Some (whole_of h s.start)) same ∙ ap (λ k. Some (whole_of (record { pattern = u.pattern; offset = u.end }) k)) (sym at_start),
           )
 

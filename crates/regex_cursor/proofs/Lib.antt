@@ -21,3 +21,5 @@ pub mod LowerLaws
 pub mod TreeLaws
 pub mod LastLaws
 pub mod ExactLaws
+pub mod SlotLaws
+pub mod HereLaws

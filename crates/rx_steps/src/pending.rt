@@ -56,6 +56,11 @@ impl Pending {
         ensures threads { OnOk result (self.new.threads ≡ []) }
     {
         self.stack.clear();
+        // Mostly as many as before, which takes no check for room.
+        if self.slots.len() == slots.len() {
+            self.slots.copy_from_slice(slots);
+            return Ok(());
+        }
         self.slots.clear();
         self.slots.extend_from_slice(slots)?;
         Ok(())
@@ -90,6 +95,11 @@ impl Pending {
         ensures size { OnOk result (self.new.size ≤ self.old.size + 1) }
     {
         if slot < self.slots.len() {
+            // Only a thread that waits needs the value that the slot had.
+            if self.stack.is_empty() {
+                self.slots[slot] = Some(at);
+                return Ok(());
+            }
             let held = self.slots[slot];
             self.stack.push(FollowEpsilon::RestoreCapture(slot, held))?;
             self.slots[slot] = Some(at);

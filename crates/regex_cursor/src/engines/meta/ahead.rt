@@ -16,9 +16,10 @@ use rx_input::{Cursor, Input};
 use rx_matches::halves::whole;
 use rx_util::{Anchored, HalfMatch, Match, MatchError, PatternID};
 
-/// Returns the match found in an input that isn't anchored, as `Strategy::whole_match` does: starts
-/// at the first offset from which the automaton finds one; once that took as long as reversing the
-/// program, searches backward. Outlined, because it isn't called once the program is reversed.
+/// Returns the match found in an input that isn't anchored, as `Strategy::whole_match` does: it
+/// starts at the first offset from which the automaton finds one. Once that took as long as
+/// reversing the program, searches backward. Outlined, because it isn't called once the program is
+/// reversed.
 pub(super) fn whole_match<C: Cursor>(
     strategy: &Strategy,
     kept: &mut Kept,
@@ -75,9 +76,10 @@ fn find_start<C: Cursor>(
 }
 
 /// Returns the first offset from which an anchored input's span has a match, otherwise the span's
-/// end. Returns `None` if the automaton quits or gives up, or after it took long enough: then the
-/// program should be reversed. The start of the input's span afterwards isn't specified. The only
-/// error is `Memory`.
+/// end. Returns `None` if the automaton quits or gives up; once it has read as many bytes as the
+/// span has, because finds that read more make the further matches be listed, which takes longer
+/// than to follow threads over the span; and after it took long enough: then the program should be
+/// reversed. The start of the input's span afterwards isn't specified. The only error is `Memory`.
 fn first_place<C: Cursor>(
     strategy: &Strategy,
     kept: &mut Kept,
@@ -97,8 +99,9 @@ fn first_place<C: Cursor>(
 {
     let end = input.end();
     let mut place = input.start().max(input.get_slice().start);
+    let limit = kept.step_limit(end.saturating_sub(place));
     while place < end {
-        if !kept.may_step() {
+        if !kept.may_step_below(limit) {
             return Ok(None);
         }
         input.set_start(place);

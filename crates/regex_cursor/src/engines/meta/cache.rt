@@ -37,6 +37,9 @@ const BYTES_A_CLEAR: usize = 50_000;
 /// of matches whose ends are known before the program is turned round, which takes about as long.
 const BYTES_A_STATE: usize = 35;
 
+/// The PikeVM takes as long for a byte as those searches for this number of bytes.
+const BYTES_A_WALKED: usize = 4;
+
 /// The greatest number of failed tries in a row. A try asks whether a match begins at the first
 /// offset at which one can begin.
 const TRIES: usize = 32;
@@ -174,7 +177,25 @@ impl Kept {
 
     /// Whether searches forward for starts took about as long as to turn the program round.
     fn pays_to_turn(&self) -> bool {
-        self.walked >= self.core.states().saturating_mul(BYTES_A_STATE)
+        self.walked >= self.bytes_before_turning()
+    }
+
+    /// In how many bytes searches forward look for starts before the program is turned round.
+    fn bytes_before_turning(&self) -> usize {
+        self.core.states().saturating_mul(BYTES_A_STATE)
+    }
+
+    /// Returns in how many bytes searches forward may have looked for starts once they have read
+    /// this number of bytes more. That is less if the program is turned round before.
+    pub(super) fn step_limit(&self, bytes: usize) -> usize {
+        let limit = self.walked.saturating_add(bytes);
+        limit.min(self.bytes_before_turning())
+    }
+
+    /// Returns whether a match's start may be looked for forward: the program isn't turned round,
+    /// and the limit isn't reached.
+    pub(super) fn may_step_below(&self, limit: usize) -> bool {
+        self.back.is_none() && self.walked < limit
     }
 
     /// Notes that a match's start was looked for at the start of an input's span, from where it was
@@ -273,7 +294,8 @@ impl Kept {
         ensures refused { IfErr result (λ error. error ≡ MatchError.Memory) }
     {
         let bytes = input.end() - input.start();
-        self.turn(bytes)?;
+        // Until the program is turned round, the PikeVM reads them.
+        self.turn(bytes.saturating_mul(BYTES_A_WALKED))?;
         let utf8_empty = self.core.vm().utf8_empty();
         match &mut self.back {
             Some(back) => {

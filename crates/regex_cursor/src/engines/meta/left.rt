@@ -247,6 +247,32 @@ pub(super) fn put_match(slots: &mut [Option<NonMaxUsize>], span: Span)
     requires end { span.end < 2 ^ 63 }
     ensures { slots.new ≡ answer_slots (length slots.old) (Some (literal_match span)) }
 {
+    if slots.len() == 2 {
+        put_both(slots, span);
+    } else {
+        put_first(slots, span);
+    }
+}
+
+/// Does the same for two slots.
+fn put_both(slots: &mut [Option<NonMaxUsize>], span: Span)
+    requires two { length slots.old ≡ 2 }
+    requires start { span.start < 2 ^ 63 }
+    requires end { span.end < 2 ^ 63 }
+    ensures { slots.new ≡ answer_slots (length slots.old) (Some (literal_match span)) }
+{
+    let start = NonMaxUsize::new(span.start);
+    let end = NonMaxUsize::new(span.end);
+    slots[0] = start;
+    slots[1] = end;
+}
+
+/// Does the same for any number of slots: clears all, then writes the first two.
+fn put_first(slots: &mut [Option<NonMaxUsize>], span: Span)
+    requires start { span.start < 2 ^ 63 }
+    requires end { span.end < 2 ^ 63 }
+    ensures { slots.new ≡ answer_slots (length slots.old) (Some (literal_match span)) }
+{
     clear_slots(slots);
     let len = slots.len();
     if len == 0 {
@@ -257,6 +283,28 @@ pub(super) fn put_match(slots: &mut [Option<NonMaxUsize>], span: Span)
         return;
     }
     slots[1] = NonMaxUsize::new(span.end);
+}
+
+/// Clears slots, as `clear_slots` does, but two of them, as those of one whole match, without a loop.
+pub(super) fn clear_few(slots: &mut [Option<NonMaxUsize>])
+    ensures all { slots.new ≡ no_slots (length slots.old) }
+    ensures none { slots.new ≡ no_slots (length slots.new) }
+{
+    if slots.len() == 2 {
+        clear_both(slots);
+    } else {
+        clear_slots(slots);
+    }
+}
+
+/// Clears two slots.
+fn clear_both(slots: &mut [Option<NonMaxUsize>])
+    requires two { length slots.old ≡ 2 }
+    ensures all { slots.new ≡ no_slots (length slots.old) }
+    ensures none { slots.new ≡ no_slots (length slots.new) }
+{
+    slots[0] = None;
+    slots[1] = None;
 }
 
 /// Notes that there is no match.

@@ -3,6 +3,7 @@
 
 ghost use Rattle.std.specs.Prelude.{◌≡◌, ℕ, ◌*◌, ◌≤◌, IfOk, IfErr, IfSome, OnOk, OnErr, None, Some, true, false, length};
 ghost use Rattle.std.specs.Option.{ForSome};
+ghost use Rattle.rx_util.specs.declared.search.Anchored.TheVariants.{No};
 ghost use Rattle.rx_util.specs.declared.search.MatchError.{MatchError};
 ghost use Rattle.rx_util.specs.declared.search.MatchKind.{MatchKind};
 ghost use Rattle.rx_input.specs.Cursors.{IsSameContent};
@@ -16,13 +17,12 @@ ghost use Rattle.regex_cursor.specs.Regexes.{HoldsMatches, IsCacheOf, TellsHalf,
 ghost use Rattle.regex_cursor.specs.Strategies.{IsPart, regex_of};
 
 use super::cache::Cache;
-use super::left::{Left, Part, half_of, note_nothing, put_back, put_match};
+use super::left::{Left, Part, clear_few, half_of, note_nothing, put_back, put_match};
 use super::strategy::Strategy;
 use rx_chunk::pikevm;
 use rx_input::{Cursor, Input};
 use rx_matches::halves::is_empty_at_last;
-use rx_steps::clear_slots;
-use rx_util::{Captures, HalfMatch, Match, MatchError, NonMaxUsize, PatternID};
+use rx_util::{Anchored, Captures, HalfMatch, Match, MatchError, NonMaxUsize, PatternID};
 
 /// Returns whether there is a match, for `Strategy::is_match`.
 pub(super) fn is_match<C: Cursor>(
@@ -185,7 +185,7 @@ pub(super) fn search_slots<C: Cursor>(
     ensures same { IsSameContent input.old.cursor input.new.cursor }
     ensures refused { IfErr result (λ error. error ≡ MatchError.Memory) }
 {
-    clear_slots(slots);
+    clear_few(slots);
     match strategy.ask(&mut cache.kept, input)? {
         Left::Nothing => Ok(None),
         Left::Match(span) => {
@@ -462,18 +462,84 @@ pub(super) fn next_slots<C: Cursor>(
     ensures engine { IsEngine strategy.now.vm }
     ensures refused { IfErr result (λ error. error ≡ MatchError.Memory) }
 {
-    clear_slots(slots);
-    let vm = strategy.vm();
+    clear_few(slots);
+    let _vm = strategy.vm(); // for the proof: what the engine is
     if slots.len() <= 2 {
         return next_whole(strategy, cache, input, slots, last_match_end);
     }
     let Some(part) = strategy.next_part(&mut cache.kept, input, last_match_end)? else {
         return Ok(None);
     };
+    let ends_known = part.pattern.is_some();
     let whole = part.cut(input);
+    let found = walk_to_next(strategy, cache, input, slots, last_match_end, ends_known);
+    put_back(input, whole);
+    found
+}
+
+/// Returns the pattern of the next match, with its offsets in slots, by the PikeVM. If it is known
+/// where the match ends, it mostly begins where the span starts. This is tried first, because it
+/// takes one thread instead of one from each offset.
+fn walk_to_next<C: Cursor>(
+    strategy: &Strategy,
+    cache: &mut Cache,
+    input: &mut Input<C>,
+    slots: &mut [Option<NonMaxUsize>],
+    last_match_end: Option<usize>,
+    ends_known: bool,
+) -> Result<Option<PatternID>, MatchError>
+    requires made { IsCacheOf (regex_of strategy.now) cache.old }
+    requires first { strategy.now.vm.match_kind ≡ MatchKind.LeftmostFirst }
+    requires slots { 2 * length strategy.now.vm.groups ≤ length slots.old }
+    requires ordered { input.old.asked.span.start ≤ input.old.asked.span.end }
+    ensures answer { IfOk result (λ pattern. IsNextAnswer (EngineFinds strategy.now.vm)
+        (search_by strategy.now.vm input.old) last_match_end pattern slots.new) }
+    ensures none { OnErr result (slots.new ≡ no_slots (length slots.new)) }
+    ensures made { IsCacheOf (regex_of strategy.now) cache.new }
+    ensures same { (start : ℕ) × StartsFrom input.old input.new start }
+    ensures refused { IfErr result (λ error. error ≡ MatchError.Memory) }
+{
+    if ends_known && !input.get_anchored().is_anchored() {
+        if let Some(pattern) = next_here(strategy, cache, input, slots, last_match_end)? {
+            return Ok(Some(pattern));
+        }
+    }
+    let vm = strategy.vm();
     let found = pikevm::next_slots(vm, &mut cache.kept.vm, input, slots, last_match_end);
     cache.kept.note_walk(input);
-    put_back(input, whole);
+    found
+}
+
+/// Returns the pattern of the next match in an input that isn't anchored, with its offsets in
+/// slots, if an anchored search by the PikeVM finds one.
+fn next_here<C: Cursor>(
+    strategy: &Strategy,
+    cache: &mut Cache,
+    input: &mut Input<C>,
+    slots: &mut [Option<NonMaxUsize>],
+    last_match_end: Option<usize>,
+) -> Result<Option<PatternID>, MatchError>
+    requires made { IsCacheOf (regex_of strategy.now) cache.old }
+    requires first { strategy.now.vm.match_kind ≡ MatchKind.LeftmostFirst }
+    requires slots { 2 * length strategy.now.vm.groups ≤ length slots.old }
+    requires ordered { input.old.asked.span.start ≤ input.old.asked.span.end }
+    requires unanchored { input.old.asked.anchored ≡ No }
+    ensures answer { IfOk result (λ found. IfSome found (λ pattern.
+        IsNextAnswer (EngineFinds strategy.now.vm) (search_by strategy.now.vm input.old)
+        last_match_end (Some pattern) slots.new)) }
+    ensures none { OnErr result (slots.new ≡ no_slots (length slots.new)) }
+    ensures made { IsCacheOf (regex_of strategy.now) cache.new }
+    ensures asked { input.new.asked ≡ input.old.asked }
+    ensures same { IsSameContent input.old.cursor input.new.cursor }
+    ensures refused { IfErr result (λ error. error ≡ MatchError.Memory) }
+{
+    let span = input.get_span();
+    input.set_anchored(Anchored::Yes);
+    let vm = strategy.vm();
+    let found = pikevm::next_slots(vm, &mut cache.kept.vm, input, slots, last_match_end);
+    cache.kept.note_walk(input);
+    input.set_anchored(Anchored::No);
+    put_back(input, span);
     found
 }
 

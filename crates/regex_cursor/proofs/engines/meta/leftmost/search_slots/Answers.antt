@@ -22,13 +22,13 @@ returns-in-Match-clause-answer g c =
     let i = c.args.input.now in
     let re = c.args.strategy.now.vm in
     let literal = subst (λ left. IsLeft re.program (search_of re.utf8_empty i) left) c.in-Match.is c.in_ok-ask.ensures.left in
-    literal_slots_told re c.requires.first (search_of re.utf8_empty i) i.asked.earliest c.in-Match.span c.put_match.new.slots (length c.clear_slots.new.slots) c.put_match.ensures literal
+    literal_slots_told re c.requires.first (search_of re.utf8_empty i) i.asked.earliest c.in-Match.span c.put_match.new.slots (length c.clear_few.new.slots) c.put_match.ensures literal
 
 pub returns-in-Nothing-clause-answer : goal.returns-in-Nothing-clause-answer
 returns-in-Nothing-clause-answer g c =
     let i = c.args.input.now in
     let none = subst (λ left. IsLeft c.args.strategy.now.vm.program (search_of c.args.strategy.now.vm.utf8_empty i) left) c.in-Nothing.is c.in_ok-ask.ensures.left in
-    no_slots_told c.args.strategy.now.vm c.requires.first (search_of c.args.strategy.now.vm.utf8_empty i) i.asked.earliest c.clear_slots.new.slots (length c.args.slots.now) none c.clear_slots.ensures.all
+    no_slots_told c.args.strategy.now.vm c.requires.first (search_of c.args.strategy.now.vm.utf8_empty i) i.asked.earliest c.clear_few.new.slots (length c.args.slots.now) none c.clear_few.ensures.all
 
 pub slots_of_found-requires-clause-found : goal.slots_of_found-requires-clause-found
 slots_of_found-requires-clause-found g c =

@@ -1,7 +1,7 @@
 use Rattle.std.proofs.Common.{◌≡◌, ◌≤◌, None, length, sym, ap, ◌∙◌, arith}
 use Rattle.std.proofs.lemmas.List.{length-replicate}
 use Rattle.regex_cursor.proofs.StrategyLaws.{no_slot, one_slot, some_given, two_slots}
-use Rattle.regex_cursor.proofs.engines.meta.left.put_match.Goals as goal
+use Rattle.regex_cursor.proofs.engines.meta.left.put_first.Goals as goal
 
 pub returns-then-len-eq0 : goal.returns-then-len-eq0
 returns-then-len-eq0 c =
