@@ -22,6 +22,8 @@ pub mod SpliceLemmas
 pub mod ChangeLemmas
 pub mod WeaveLemmas
 pub mod MadeLemmas
+mod TouchLemmas
+mod SpanLemmas
 pub mod TurnLemmas
 pub mod PutLemmas
 pub mod ReplacementLemmas

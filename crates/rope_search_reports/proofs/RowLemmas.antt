@@ -1,17 +1,19 @@
 -- The search of a haystack, match by match.
-use Rattle.std.proofs.Common.{◌≡◌, ℕ, ◌+◌, ◌<◌, ◌≤◌, arith, List, [], ◌∷◌, ◌++◌, Option, None, Some, length, map, refl, sym, ap, ap₂, subst, ◌∙◌}
+use Rattle.std.proofs.Common.{◌≡◌, ℕ, ◌<◌, List, [], ◌∷◌, ◌++◌, Option, None, Some, length, map, refl, sym, ap, ap₂, subst, ◌∙◌}
 use Rattle.std.specs.List.{range_with_len}
-use Rattle.std.specs.Str.{IsUtf8, IsCharBoundary}
+use Rattle.std.specs.Str.{IsUtf8}
 use Rattle.std.proofs.lemmas.Simd.{map-map}
-use Rattle.regex_cursor.specs.Patterns.{Tree, SpellsTree, FoundMatch, answer_slots}
+use Rattle.regex_cursor.specs.Patterns.{Tree, SpellsTree, FoundMatch, TreeMatches, answer_slots}
 use Rattle.regex_cursor.specs.PatternLaws.{HasFinds}
 use Rattle.rope_search_reports.specs.Text.{bytes_of}
 use Rattle.rope_search_reports.specs.Pattern.{span_of}
 use Rattle.rope_search_reports.specs.Matches.{AreGroups, IsMatches, both, group_of, groups_of}
-use Rattle.rope_search_reports.specs.Report.{IsRow, column, columns}
-use Rattle.regex_cursor.specs.NextMatches.{TreeFindsNext, at_once, passed}
-use Rattle.rope_search_reports.specs.Finders.{AreGroupsOf, AreSpansOf, IsRowOf, FinderTells, group_told, start_behind}
-use Rattle.rope_search_reports.proofs.MatchLemmas.{AllNote, Searched, Searched-more, Searched-end, comes-from, comes-further, lies-behind, room_behind, stands}
+use Rattle.rope_search_reports.specs.Report.{IsRow, columns}
+use Rattle.rope_search_reports.specs.Replacement.{AreMatchesIn, alone}
+use Rattle.regex_cursor.specs.NextMatches.{TreeFindsNext}
+use Rattle.rope_search_reports.specs.Finders.{AreGroupsOf, AreSpansOf, IsRowOf, FinderTells, group_told}
+use Rattle.rope_search_reports.proofs.GroupLemmas.{spans-alone}
+use Rattle.rope_search_reports.proofs.MatchLemmas.{AllNote, Searched, Searched-more, Searched-end, comes-from, comes-further, room_behind}
 use Rattle.rope_search_reports.proofs.NextLemmas.{ToldMatch, none-told, some-told}
 
 -- a next match, and what is shown of it
@@ -23,37 +25,6 @@ pub next-told : (tree : Tree) (content content' : List ℕ) (last : Option ℕ) 
 next-told tree content content' last told span slots same next is =
     let next' = subst (λ cs. FinderTells (TreeFindsNext tree cs last) told slots) same next in
     some-told (TreeFindsNext tree content last) span slots (subst (λ s. FinderTells (TreeFindsNext tree content last) s slots) is next')
-
--- it is in the haystack, at character boundaries
-pub record Stands (content : List ℕ) (span : ℕ × ℕ) : Type 0 where
-  pub starts : IsCharBoundary content span.0
-  pub ends : IsCharBoundary content span.1
-  pub inside : span.1 ≤ length content
-
-pub next-stands : (tree : Tree) (content : List ℕ) (last : Option ℕ) (span : ℕ × ℕ) (slots : List (Option ℕ)) → HasFinds tree → IsUtf8 content → NextMatch tree content last span slots
-    → Stands content span
-next-stands tree content last span slots has utf8 next =
-    let from = comes-from tree content last next.t next.is in
-    let at = stands tree content from.0 next.t has utf8 from.1 in
-    let inside = (lies-behind tree content from.0 next.t has from.1).inside in
-    subst (Stands content) (sym next.span_is) (record { starts = at.0; ends = at.1; inside = inside })
-
--- it starts after the last one, and ends at its start or after it
-pub record Follows (last : Option ℕ) (span : ℕ × ℕ) : Type 0 where
-  pub behind : start_behind last ≤ span.0
-  pub ordered : span.0 ≤ span.1
-
-follows : (tree : Tree) (content : List ℕ) (last : Option ℕ) (t : FoundMatch) → HasFinds tree → TreeFindsNext tree content last (Some t) → Follows last (span_of t)
-follows tree content last t has (at_once finds other) =
-    let h = lies-behind tree content (start_behind last) t has finds in
-    record { behind = h.behind; ordered = h.ordered }
-follows tree content last t has (passed found empty later) =
-    let h = lies-behind tree content (start_behind last + 1) t has later in
-    let behind = h.behind in
-    record { behind = omega (arith, behind); ordered = h.ordered }
-
-pub next-follows : (tree : Tree) (content : List ℕ) (last : Option ℕ) (span : ℕ × ℕ) (slots : List (Option ℕ)) → HasFinds tree → NextMatch tree content last span slots → Follows last span
-next-follows tree content last span slots has next = subst (Follows last) (sym next.span_is) (follows tree content last next.t has next.is)
 
 -- less is left after it
 pub next-further : (tree : Tree) (content : List ℕ) (last : Option ℕ) (span : ℕ × ℕ) (slots : List (Option ℕ)) → HasFinds tree → NextMatch tree content last span slots
@@ -84,12 +55,6 @@ none-next tree content content' last told slots same next is =
 abbrev pub columns_of : List ℕ → FoundMatch → ℕ × ℕ
 columns_of content t = columns content (span_of t)
 
-pub columns-are : (tree : Tree) (content : List ℕ) (last : Option ℕ) (span : ℕ × ℕ) (slots : List (Option ℕ)) (start_column end_column : ℕ) → (next : NextMatch tree content last span slots)
-    → start_column ≡ column content span.0 → end_column ≡ column content span.1 → (start_column, end_column) ≡ columns_of content next.t
-columns-are tree content last span slots start_column end_column next starts ends =
-    let pair : ℕ → ℕ → ℕ × ℕ = λ m n. (m, n) in
-    ap₂ pair starts ends ∙ ap (columns content) next.span_is
-
 -- all of a row, if there is no next match
 pub last-row : (tree : Tree) (line : List ℕ) (last : Option ℕ) (row : List (ℕ × ℕ)) → HasFinds tree → TreeFindsNext tree (bytes_of line) last None
     → Searched (columns_of (bytes_of line)) tree (bytes_of line) last row → IsRowOf tree line row
@@ -98,6 +63,22 @@ last-row tree line last row has none sofar = record {
   are = Searched-end (columns_of (bytes_of line)) tree (bytes_of line) last row has sofar none;
   shown = sofar.shown ∙ sym (map-map (columns (bytes_of line)) span_of sofar.matches);
 }
+
+-- spans of all matches, turned into columns
+pub row-of-spans : (tree : Tree) (line content : List ℕ) (spans row : List (ℕ × ℕ)) → content ≡ bytes_of line → AreSpansOf tree content spans
+    → row ≡ map (columns (bytes_of line)) spans → IsRowOf tree line row
+row-of-spans tree line content spans row same is shown = record {
+  matches = is.matches;
+  are = subst (λ cs. TreeMatches tree cs is.matches) same is.are;
+  shown = shown ∙ ap (map (columns (bytes_of line))) is.shown;
+}
+
+-- they are in order, at character boundaries
+pub spans-stand : (tree : Tree) (content content' : List ℕ) (spans : List (ℕ × ℕ)) → HasFinds tree → IsUtf8 content → content' ≡ content → AreSpansOf tree content' spans
+    → AreMatchesIn content (map alone spans)
+spans-stand tree content content' spans has utf8 same is =
+    subst (λ ss. AreMatchesIn content (map alone ss)) (sym is.shown)
+    (spans-alone tree content is.matches has utf8 (subst (λ cs. TreeMatches tree cs is.matches) same is.are))
 
 -- the row of a pattern's tree is the pattern's
 pub row-is : (pattern line : List ℕ) (tree : Tree) (row : List (ℕ × ℕ)) → SpellsTree pattern tree → IsRowOf tree line row → IsRow pattern line row

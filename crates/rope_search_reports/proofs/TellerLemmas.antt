@@ -1,5 +1,7 @@
 -- The lines of offsets, from the chunk that contains them.
-use Rattle.std.proofs.Common.{◌≡◌, ℕ, ◌+◌, ◌-◌, ◌<◌, ◌≤◌, ◌^◌, ◌&&◌, cond, List, [], ◌∷◌, ◌++◌, length, take, drop, map, nat_le, chars, refl, sym, ap, subst, ◌∙◌, arith, append_assoc, append-nil, length-append, IsUtf8}
+use Rattle.std.proofs.Common.{◌≡◌, ℕ, ◌+◌, ◌-◌, ◌<◌, ◌≤◌, ◌^◌, ◌&&◌, true, cond, List, [], ◌∷◌, ◌++◌, length, take, drop, map, nat_le, chars, refl, sym, ap, subst, ◌∙◌, arith, append_assoc, append-nil, length-append, IsUtf8, inl, inr}
+use Rattle.std.proofs.lemmas.Bool.{cases_Bool}
+use Rattle.std.proofs.lemmas.Bool.Decides.{nat_tests}
 use Rattle.std.proofs.lemmas.List.{nil_from_length, take-append-drop, length-take-le}
 use Rattle.std.proofs.lemmas.Bool.{lt-leb}
 use Rattle.std.proofs.lemmas.List.Folds.{concat-append}
@@ -11,7 +13,7 @@ use Rattle.str_indices.specs.Laws.{EndsAddUp, EndsBehind}
 use Rattle.str_indices.specs.Text.{breaks, break_ends, byte_len, ends_up_to, ends_with_cr, starts_with_lf, NoCrLfBetween}
 use Rattle.ropey.specs.Chunks.{IsCutting, IsPiece, ShowsChunk, is_break, lone_piece, text_of}
 use Rattle.rope_search_reports.specs.Text.{line_count}
-use Rattle.rope_search_reports.specs.Drafts.{IsTeller, StaysInLine}
+use Rattle.rope_search_reports.specs.Drafts.{IsSecondLine, IsTeller, KnowsLineEnd, StaysInLine}
 use Rattle.rope_search_reports.specs.Position.{line_at}
 use Rattle.rope_search_reports.proofs.LineLemmas.{byte_len-append, ends-joined_cr}
 use Rattle.rope_search_reports.proofs.WalkLemmas.{chunk-whole, cutting-tail, no-lf, reaches, uncut-behind}
@@ -196,9 +198,57 @@ none-before-first bytes start end place first low =
     ∙ sum_by-cons (λ e. cond (nat_le e place) 1 0) end others
     ∙ rw (lt-leb end place low) (omega (arith, none-up-to end place (break_ends is_break (chars (drop end bytes))) low))
 
+-- ends after an offset, counted from there
+ends-shifted : (end : ℕ) (ends : List ℕ) → ends_up_to end (map (λ e. end + e) ends) ≡ ends_up_to 0 ends
+ends-shifted end [] = refl
+ends-shifted end (e ∷ es) =
+    let same : nat_le (end + e) end ≡ nat_le e 0 = le-shifted end e in
+    sum_by-cons (λ e. cond (nat_le e end) 1 0) (end + e) (map (λ e. end + e) es)
+    ∙ rw same (ap (λ n. cond (nat_le e 0) 1 0 + n) (ends-shifted end es))
+    ∙ sym (sum_by-cons (λ e. cond (nat_le e 0) 1 0) e es)
+  where
+    le-shifted : (end e : ℕ) → nat_le (end + e) end ≡ nat_le e 0
+    le-shifted end e = elim (cases_Bool (nat_le e 0)) [
+      | inl low ↦ grind (arith, nat_tests, low)
+      | inr high ↦ grind (arith, nat_tests, high)
+    ]
+
+-- where the first break ends, one has ended
+pub one-at-first : EndsAddUp NoCrLfBetween (breaks is_break) (break_ends is_break) → (bytes : List ℕ) (start end : ℕ) → IsFirstBreak is_break bytes start end
+    → ends_up_to end (break_ends is_break (chars bytes)) ≡ 1
+one-at-first law bytes start end first =
+    let others = break_ends is_break (chars (drop end bytes)) in
+    ap (ends_up_to end) first.break_ends
+    ∙ sum_by-cons (λ e. cond (nat_le e end) 1 0) end (map (λ e. end + e) others)
+    ∙ rw (le-self end) (omega (arith, ends-shifted end others, none-yet law (chars (drop end bytes))))
+  where
+    le-self : (n : ℕ) → nat_le n n ≡ true
+    le-self n = grind (arith, nat_tests)
+
+-- the rest is a part of the text
+pub teller-within : (text rest : List ℕ) (start line : ℕ) → IsTeller text rest start line → start + length rest ≤ byte_len text
+teller-within text rest start line is =
+    let start_is = is.start_is in
+    omega (arith, start_is, ap byte_len is.parts, byte_len-append is.before (chars rest ++ is.after), byte_len-append (chars rest) is.after, ap length (encodes-chars rest is.utf8))
+
+-- the start of the next line, where the rest has it
+pub next-teller : EndsAddUp NoCrLfBetween (breaks is_break) (break_ends is_break) → EndsBehind (break_ends is_break) → (text rest : List ℕ) (start line same : ℕ)
+    → IsTeller text rest start line → same < length rest → IsSecondLine rest same → IsTeller text (drop same rest) (start + same) (line + 1)
+next-teller law behind text rest start line same is inside second =
+    let back : (start + same) - start ≡ same = omega arith in
+    let low : start ≤ start + same = omega arith in
+    let high : start + same ≤ start + length rest = omega (arith, inside) in
+    let told = line-told law behind text rest start line (start + same) is low high in
+    let one = ap (λ n. ends_up_to n (break_ends is_break (chars rest))) back ∙ second.one in
+    subst (λ n. IsTeller text (drop n rest) (start + same) (line + 1)) back
+    (teller-on text rest start line (start + same) (line + 1) is low high (subst (IsCharBoundary rest) (sym back) second.boundary) (omega (arith, told, one)))
+
 -- no offset is known to be in the same line
 pub stays-none : (text : List ℕ) (start line : ℕ) → StaysInLine text start line 0
 stays-none text start line = λ k low. absurd (omega (arith, low))
+
+pub ends-none : (rest : List ℕ) → KnowsLineEnd rest 0
+ends-none rest = λ some. absurd (omega (arith, some))
 
 -- the offsets of the rest, up to where its first line ends
 pub stays-on : EndsAddUp NoCrLfBetween (breaks is_break) (break_ends is_break) → EndsBehind (break_ends is_break) → (text rest : List ℕ) (start line count : ℕ) → IsTeller text rest start line

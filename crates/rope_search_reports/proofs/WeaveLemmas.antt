@@ -6,6 +6,7 @@ use Rattle.std.specs.Ordering.{ord_max}
 use Rattle.std.proofs.lemmas.Bool.Decides.{nat_tests}
 use Rattle.std.proofs.lemmas.List.{drop_all}
 use Rattle.str_indices.specs.Text.{byte_len, breaks}
+use Rattle.str_indices.proofs.TextLaws.{from_byte_idx_is_monotone-lines}
 use Rattle.ropey.specs.Chunks.{is_break}
 use Rattle.rope_search_reports.specs.Report.{line_texts}
 use Rattle.rope_search_reports.specs.Position.{line_at}
@@ -15,7 +16,8 @@ use Rattle.rope_search_reports.specs.Changes.{AreChanges}
 use Rattle.rope_search_changes.specs.declared.Change.{Change}
 use Rattle.rope_search_reports.specs.declared.patches.Patch.{Patch}
 use Rattle.rope_search_reports.specs.Patches.{patched, AreInTurn}
-use Rattle.rope_search_reports.specs.Drafts.{GoOnAlike, IsPatchAdded}
+use Rattle.rope_search_reports.specs.Drafts.{AddsRowsOf, GoOnAlike, IsPatchAdded, lines_between}
+use Rattle.rope_search_reports.specs.declared.changes.Splice.{Splice}
 use Rattle.rope_search_reports.proofs.LineLemmas.{byte_len-append}
 use Rattle.rope_search_reports.proofs.ReportLaws.{AreRows-join}
 use Rattle.rope_search_reports.proofs.SpliceLemmas.{AreRows-take, AreRows-drop}
@@ -188,7 +190,7 @@ next-rows pattern old new kept done start last gone patches p all ends lines fir
     (subst (λ rs. AreRows pattern (take done (line_texts new) ++ between ++ anew) rs) (sym rows-are) whole)
 
 -- one more patch
-pub Woven-step : (pattern old new : List ℕ) (c : Change) (left : List Change) (n kept done : ℕ) (patches patches' : List Patch) (p : Patch)
+Woven-step : (pattern old new : List ℕ) (c : Change) (left : List Change) (n kept done : ℕ) (patches patches' : List Patch) (p : Patch)
     → (w : Woven pattern old new (c ∷ left) n kept done patches) → (next : Next old new c left n kept done)
     → p.first ≡ kept + (max (line_at new c.new_start) done - done) → p.end ≡ line_at old c.old_end + 1
     → AreRows pattern (take (line_at new c.new_end + 1 - max (line_at new c.new_start) done) (drop (max (line_at new c.new_start) done) (line_texts new))) p.made.items
@@ -235,7 +237,7 @@ rows-joined at all [] last joined p touches first rows =
 rows-joined at all (q ∷ qs) last joined p touches first rows =
     ap (λ rs. take (q.first - at) (drop at all) ++ (q.made.items ++ rs)) (rows-joined q.end all qs last joined p touches first rows)
 
-pub Woven-added : (pattern old new : List ℕ) (changes : List Change) (n kept done : ℕ) (patches patches' : List Patch) (p : Patch) → IsPatchAdded patches p patches'
+Woven-added : (pattern old new : List ℕ) (changes : List Change) (n kept done : ℕ) (patches patches' : List Patch) (p : Patch) → IsPatchAdded patches p patches'
     → Woven pattern old new changes n kept done (patches ++ p ∷ []) → Woven pattern old new changes n kept done patches'
 Woven-added pattern old new changes n kept done patches patches' p (inl is) w = subst (Woven pattern old new changes n kept done) (sym is) w
 Woven-added pattern old new changes n kept done patches patches' p (inr g) w =
@@ -259,6 +261,58 @@ Woven-added pattern old new changes n kept done patches patches' p (inr g) w =
       rows = λ all are. subst (AreRows pattern (take done (line_texts new)))
           (ap (up_to 0 all) both ∙ rows-joined 0 all g.others g.last g.joined p g.touches g.first g.rows) (w.rows all are);
     })
+
+-- a change in lines that are done adds nothing
+Woven-skip : (pattern old new : List ℕ) (c : Change) (left : List Change) (n kept done : ℕ) (patches : List Patch) → Woven pattern old new (c ∷ left) n kept done patches
+    → (next : Next old new c left n kept done) → kept ≡ line_at old c.old_end + 1 → done ≡ line_at new c.new_end + 1 → Woven pattern old new left next.others kept done patches
+Woven-skip pattern old new c left n kept done patches w next kept-is done-is = record {
+  before = next.before;
+  before' = next.before';
+  after = next.after;
+  after' = next.after';
+  old_is = next.old_is;
+  new_is = next.new_is;
+  step = inr (record {
+    old_is = kept-is ∙ ap (λ t. line_at t c.old_end + 1) next.old_is ∙ ap (λ k. line_at (next.before ++ next.after) k + 1) next.old_end;
+    new_is = done-is ∙ ap (λ t. line_at t c.new_end + 1) next.new_is ∙ ap (λ k. line_at (next.before' ++ next.after') k + 1) next.new_end;
+  });
+  left = next.further;
+  turn = w.turn;
+  ends = w.ends;
+  within = w.within;
+  rows = w.rows;
+}
+
+-- the numbers of the next splice
+pub record IsSplice (old new : List ℕ) (c : Change) (kept done : ℕ) (splice : Splice) : Type 0 where
+  pub start : splice.start ≡ max (line_at new c.new_start) done
+  pub stop : splice.stop ≡ line_at new c.new_end + 1
+  pub first : splice.first ≡ kept + (splice.start - done)
+  pub ends : splice.end ≡ line_at old c.old_end + 1
+
+-- its rows are added
+pub Woven-more : (pattern old new : List ℕ) (c : Change) (left : List Change) (n kept done : ℕ) (patches patches' : List Patch) (splice : Splice)
+    → Woven pattern old new (c ∷ left) n kept done patches → (next : Next old new c left n kept done) → IsSplice old new c kept done splice
+    → AddsRowsOf pattern new splice patches patches' → Woven pattern old new left next.others splice.end splice.stop patches'
+Woven-more pattern old new c left n kept done patches patches' splice w next is (inl none) =
+    let rises = from_byte_idx_is_monotone-lines is_break new c.new_start c.new_end next.new_ordered in
+    let done-is : done ≡ splice.stop = omega (arith, is.start, is.stop, none.1, rises) in
+    let kept-is : kept ≡ splice.end = omega (arith, is.first, none.1, none.2, done-is) in
+    subst (λ ps. Woven pattern old new left next.others splice.end splice.stop ps) (sym none.0)
+    (subst (λ k. Woven pattern old new left next.others k splice.stop patches) kept-is
+    (subst (λ d. Woven pattern old new left next.others kept d patches) done-is
+    (Woven-skip pattern old new c left n kept done patches w next (kept-is ∙ is.ends) (done-is ∙ is.stop))))
+Woven-more pattern old new c left n kept done patches patches' splice w next is (inr adds) =
+    let start = max (line_at new c.new_start) done in
+    let p = adds.patch in
+    let made : AreRows pattern (take (line_at new c.new_end + 1 - start) (drop start (line_texts new))) p.made.items =
+    subst (λ d. AreRows pattern (take (d - start) (drop start (line_texts new))) p.made.items) is.stop
+    (subst (λ s. AreRows pattern (take (splice.stop - s) (drop s (line_texts new))) p.made.items) is.start adds.rows) in
+    let first-is : p.first ≡ kept + (start - done) = adds.first ∙ is.first ∙ ap (λ s. kept + (s - done)) is.start in
+    let step = Woven-step pattern old new c left n kept done patches (patches ++ p ∷ []) p w next first-is (adds.ends ∙ is.ends) made refl in
+    subst (λ d. Woven pattern old new left next.others splice.end d patches') (sym is.stop)
+    (subst (λ k. Woven pattern old new left next.others k (line_at new c.new_end + 1) patches') adds.ends
+    (Woven-added pattern old new left next.others p.end (line_at new c.new_end + 1) patches patches' p adds.added step))
 
 pub Woven-turn : (pattern old new : List ℕ) (changes : List Change) (n kept done : ℕ) (patches : List Patch) → Woven pattern old new changes n kept done patches
     → AreInTurn 0 (length (line_texts old)) patches
@@ -338,13 +392,6 @@ few-at made made' count all n b others start last start' last' total counts few 
 pub once-at : (tick tick' first done start last : ℕ) {start' last' : ℕ} → tick ≤ first + done → done ≤ start → start ≤ last + 1 → start' ≡ start → last' ≡ last
     → tick' ≤ tick + (last' + 1 - start') → tick' ≤ first + (last' + 1)
 once-at tick tick' first done start last sofar low high a e made = omega (arith, sofar, low, high, a, e, made)
-
-pub rows-at : (pattern pattern' new : List ℕ) (start last start' last' : ℕ) (made : List (List (ℕ × ℕ))) → pattern' ≡ pattern → start' ≡ start → last' ≡ last
-    → AreRows pattern' (take (last' + 1 - start') (drop start' (line_texts new))) made → AreRows pattern (take (last + 1 - start) (drop start (line_texts new))) made
-rows-at pattern pattern' new start last start' last' made p s e are =
-    subst (λ x. AreRows x (take (last + 1 - start) (drop start (line_texts new))) made) p
-    (subst (λ x. AreRows pattern' (take (last + 1 - x) (drop x (line_texts new))) made) s
-    (subst (λ x. AreRows pattern' (take (x + 1 - start') (drop start' (line_texts new))) made) e are))
 
 pub drop-none : {A : Type 0} (i : ℕ) (xs : List A) → length xs ≤ i → drop i xs ≡ []
 drop-none i xs l = drop_all i xs l

@@ -4,12 +4,13 @@ use Rattle.std.specs.Str.{NonePass, IsUtf8, IsCharBoundary, chars}
 use Rattle.ropey.specs.Chunks.{is_break}
 use Rattle.ropey.specs.Slices.{slice_text}
 use Rattle.str_indices.specs.FirstBreak.{IsBreak}
-use Rattle.str_indices.specs.Text.{breaks, byte_len, char_ends, ends_up_to, units, NoCrLfBetween}
+use Rattle.str_indices.specs.Text.{break_ends, breaks, byte_len, char_ends, ends_up_to, units, NoCrLfBetween}
 use Rattle.regex_cursor.specs.Patterns.{between}
 use Rattle.rope_search_reports.specs.Pattern.{FindsMatch}
 use Rattle.rope_search_reports.specs.Text.{IsText, line_count}
 use Rattle.rope_search_reports.specs.Position.{line_at, line_start, line_text}
 use Rattle.rope_search_reports.specs.Report.{line_texts, IsRow, AreRows}
+use Rattle.rope_search_reports.specs.declared.changes.Splice.{Splice}
 use Rattle.rope_search_reports.specs.declared.patches.Patch.{Patch}
 use Rattle.rope_search_reports.specs.declared.positions.Place.{Place}
 use Rattle.rope_search_reports.specs.declared.positions.OwnLine.{OwnLine}
@@ -168,6 +169,16 @@ pub record IsTeller (text rest : List ℕ) (start line : ℕ) : Type 0 where
 abbrev pub StaysInLine : List ℕ → ℕ → ℕ → ℕ → Type 0
 StaysInLine text start line count = (k : ℕ) → k < count → line_at text (start + k) ≡ line
 
+-- the second line of a text starts at this offset
+pub record IsSecondLine (text : List ℕ) (place : ℕ) : Type 0 where
+  pub boundary : IsCharBoundary text place
+  pub one : ends_up_to place (break_ends is_break (chars text)) ≡ 1
+
+-- if a number of offsets is known to be in the first line of a text, and the text has more, the next
+-- line starts there
+abbrev pub KnowsLineEnd : List ℕ → ℕ → Type 0
+KnowsLineEnd text count = 0 < count → count < length text → IsSecondLine text count
+
 -- ---- after the last change
 
 -- two texts are alike after an offset of the old one; the new one has `done` lines before that
@@ -197,3 +208,33 @@ pub record GoesInto (old : List Patch) (patch : Patch) (new : List Patch) : Type
 -- it is merged, or it is added after them
 abbrev pub IsPatchAdded : List Patch → Patch → List Patch → Type 0
 IsPatchAdded old patch new = (new ≡ old ++ patch ∷ []) ⊎ GoesInto old patch new
+
+-- it begins and ends at a row, and inserts none
+pub record IsEmptyAt (row : ℕ) (patch : Patch) : Type 0 where
+  pub first : patch.first ≡ row
+  pub ends : patch.end ≡ row
+  pub none : patch.made.items ≡ []
+
+-- the patch was the last one, and ends at this row
+pub record IsTakenAt (old : List Patch) (row : ℕ) (patch : Patch) (new : List Patch) : Type 0 where
+  pub last : old ≡ new ++ patch ∷ []
+  pub ends : patch.end ≡ row
+
+-- the patch is taken from the end of a list if it ends at this row; otherwise it is empty there
+abbrev pub IsTouching : List Patch → ℕ → Patch → List Patch → Type 0
+IsTouching old row patch new = IsTakenAt old row patch new ⊎ ((new ≡ old) × IsEmptyAt row patch)
+
+-- the rows of lines of a text are added by a patch, in place of the rows that they replace
+pub record AddsPatch (pattern text : List ℕ) (splice : Splice) (old new : List Patch)
+    : Type 0 where
+  pub patch : Patch
+  pub added : IsPatchAdded old patch new
+  pub first : patch.first ≡ splice.first
+  pub ends : patch.end ≡ splice.end
+  pub rows : AreRows pattern (lines_between text splice.start splice.stop) patch.made.items
+
+-- so they are, or there are no such lines and rows
+abbrev pub AddsRowsOf : List ℕ → List ℕ → Splice → List Patch → List Patch → Type 0
+AddsRowsOf pattern text splice old new =
+    ((new ≡ old) × (splice.start ≡ splice.stop) × (splice.first ≡ splice.end))
+    ⊎ AddsPatch pattern text splice old new

@@ -1,20 +1,20 @@
 //! Changes of a text, their reversal, and the rows that they replace.
-ghost use Rattle.std.specs.Prelude.{◌≡◌, ℕ, ◌+◌, ◌-◌, ◌^◌, ◌<◌, ◌≤◌, List, true, IfOk, IfErr};
+ghost use Rattle.std.specs.Prelude.{◌≡◌, ℕ, ◌+◌, ◌-◌, ◌^◌, ◌<◌, ◌≤◌, List, true, IfOk, IfErr, OnOk};
 ghost use Rattle.std.specs.Prelude.{length, slice_index_or};
 ghost use Rattle.rope_search_reports.specs.Report.{IsReport};
 ghost use Rattle.rope_search_reports.specs.Text.{line_count};
 ghost use Rattle.ropey.specs.Chunks.{text_of};
 ghost use Rattle.rope_search_reports.specs.Changes.{AreChanges};
 ghost use Rattle.rope_search_reports.specs.Position.{line_at};
-ghost use Rattle.rope_search_reports.specs.Drafts.{GoOnAlike};
+ghost use Rattle.rope_search_reports.specs.Drafts.{AddsRowsOf, GoOnAlike};
 ghost use Rattle.str_indices.specs.Text.{byte_len};
 ghost use Rattle.rope_search_reports.specs.Patches.{patched, AreInTurn, made_by};
 ghost use Rattle.rope_search_reports.specs.Ticks.{LooksAtMost, MakesAsMany, MakesAtMost};
 ghost use Rattle.rope_search_reports.specs.Turned.{Lead, listed, turned_changes, turned_from};
 
 use crate::line_teller::LineTeller;
-use crate::patches::{Patch, add_patch};
-use crate::reports::rows_ahead;
+use crate::patches::{Patch, take_touching};
+use crate::reports::push_rows_ahead;
 use crate::rows::{Finder, Lines};
 use crate::walk::Walk;
 use rope_search_changes::Change;
@@ -133,6 +133,71 @@ fn first_start(changes: &[Change]) -> usize
     }
 }
 
+/// Rows of a list, and the lines of a text whose rows replace them.
+#[derive(Clone, Copy, Debug)]
+struct Splice {
+    /// The first row that is removed.
+    first: usize,
+    /// The row after those that are removed.
+    end: usize,
+    /// The first line.
+    start: usize,
+    /// The line after the last one.
+    stop: usize,
+}
+
+/// Adds the rows of lines to patches, in place of the rows that they replace: to the last patch if
+/// that ends where these begin. Without a line and a row it adds nothing.
+///
+/// Errors: `Fault::Memory`; the finder remains usable.
+fn add_rows(
+    tick: &mut Lines,
+    alloc: Global,
+    finder: &mut Finder,
+    text: &Rope,
+    walk: &mut Walk<'_>,
+    patches: &mut Vec<Patch>,
+    splice: Splice,
+) -> Result<(), Fault>
+    requires ordered { splice.start ≤ splice.stop }
+    requires within { splice.stop ≤ line_count (text_of text.now) }
+    requires walks { walk.old.text ≡ text_of text.now }
+    requires ahead { walk.old.line ≤ splice.start }
+    ensures added { OnOk result (AddsRowsOf finder.old (text_of text.now) splice
+        patches.old.items patches.new.items) }
+    ensures fault { IfErr result (λ fault. fault ≡ Fault.Memory) }
+    ensures finder { finder.new ≡ finder.old }
+    ensures count { MakesAtMost (splice.stop - splice.start) tick.old tick.new }
+    ensures each { OnOk result (MakesAsMany (splice.stop - splice.start) tick.old tick.new) }
+    ensures looks { LooksAtMost (splice.stop - splice.start) tick.old tick.new }
+    ensures text { OnOk result (walk.new.text ≡ walk.old.text) }
+    ensures line { OnOk result (walk.new.line ≤ splice.stop) }
+{
+    let Splice {
+        first,
+        end,
+        start,
+        stop,
+    } = splice;
+    if start == stop && first == end {
+        return Ok(());
+    }
+    let mut patch = take_touching(alloc, patches, first);
+    push_rows_ahead(
+        tick,
+        alloc,
+        finder,
+        text,
+        walk,
+        start,
+        stop,
+        &mut patch.made,
+    )?;
+    patch.end = end;
+    patches.push(patch)?;
+    Ok(())
+}
+
 /// Returns the patches that turn the report of the old text into that of the new one. Changes next
 /// to each other come in one patch.
 ///
@@ -195,17 +260,17 @@ pub fn patches_of(
     for change in changes {
         left -= 1;
         let start = done.max(new_lines.line(change.new_start));
-        let end = new_lines.line(change.new_end) + 1;
-        let made = rows_ahead(tick, alloc, finder, new, &mut walk, start, end)?;
+        let stop = new_lines.line(change.new_end) + 1;
         let first = kept + (start - done);
-        kept = lines_kept(old, new, &mut old_lines, change.old_end, end, left == 0);
-        done = end;
-        let patch = Patch {
+        kept = lines_kept(old, new, &mut old_lines, change.old_end, stop, left == 0);
+        done = stop;
+        let splice = Splice {
             first,
             end: kept,
-            made,
+            start,
+            stop,
         };
-        add_patch(&mut patches, patch)?;
+        add_rows(tick, alloc, finder, new, &mut walk, &mut patches, splice)?;
     }
     Ok(patches)
 }

@@ -1,12 +1,12 @@
 //! The lines that contain given offsets, each found from the offset before.
-ghost use Rattle.std.specs.Prelude.{◌≡◌, ◌+◌, ◌<◌, ◌≤◌, ℕ, length};
+ghost use Rattle.std.specs.Prelude.{◌≡◌, ◌+◌, ◌<◌, ◌≤◌, ℕ, IfSome, length};
 ghost use Rattle.std.specs.Str.{chars};
 ghost use Rattle.str_indices.specs.Text.{break_ends, byte_len, ends_up_to};
 ghost use Rattle.ropey.specs.Chunks.{is_break};
 ghost use Rattle.ropey.specs.Slices.{slice_text};
 ghost use Rattle.rope_search_reports.specs.Text.{line_count};
 ghost use Rattle.rope_search_reports.specs.Position.{line_at};
-ghost use Rattle.rope_search_reports.specs.Drafts.{IsTeller};
+ghost use Rattle.rope_search_reports.specs.Drafts.{IsSecondLine, IsTeller};
 
 use ropey::{RopeSlice, breaks};
 use std::marker::Model;
@@ -32,6 +32,7 @@ fn len_of_first_line(text: &str) -> usize
     ensures within { result ≤ length text.now }
     ensures first { (place : ℕ) → place < result
         → ends_up_to place (break_ends is_break (chars text.now)) ≡ 0 }
+    ensures second { result < length text.now → IsSecondLine text.now result }
 {
     match breaks::first_break(text) {
         Some(found) => found.end,
@@ -42,7 +43,8 @@ fn len_of_first_line(text: &str) -> usize
 impl<'a> Model for LineTeller<'a> {
     ghost use Rattle.std.specs.Prelude.{◌+◌, length};
     ghost use Rattle.ropey.specs.Slices.{slice_text};
-    ghost use Rattle.rope_search_reports.specs.Drafts.{IsTeller, StaysInLine, TellerState};
+    ghost use Rattle.rope_search_reports.specs.Drafts.{IsTeller, KnowsLineEnd, StaysInLine};
+    ghost use Rattle.rope_search_reports.specs.Drafts.{TellerState};
 
     ghost Value = { TellerState };
 
@@ -53,7 +55,8 @@ impl<'a> Model for LineTeller<'a> {
     } };
 
     ghost invariant = { λ t. IsTeller (slice_text t.text) t.rest.now t.start t.line_idx ×
-        StaysInLine (slice_text t.text) t.start t.line_idx t.same };
+        StaysInLine (slice_text t.text) t.start t.line_idx t.same ×
+        KnowsLineEnd t.rest.now t.same };
 }
 
 impl<'a> LineTeller<'a> {
@@ -145,6 +148,50 @@ impl<'a> LineTeller<'a> {
         line_idx
     }
 
+    /// Returns the line of an offset that is known to be in the same line as the last one.
+    #[inline(always)]
+    fn known_line(&self, byte_idx: usize) -> Option<usize>
+        ensures line { IfSome result (λ line. line ≡ line_at self.now.text byte_idx) }
+        ensures few { IfSome result (λ line. line < line_count self.now.text) }
+    {
+        if self.start <= byte_idx && byte_idx - self.start < self.same {
+            return Some(self.line_idx);
+        }
+        None
+    }
+
+    /// Moves to the start of the next line if that is in the rest of the chunk and its start is
+    /// known. The line is then known up to its end.
+    fn to_next_line(&mut self)
+        ensures { self.new.text ≡ self.old.text }
+    {
+        let (rest, same) = (self.rest, self.same);
+        if same == 0 || same >= rest.len() {
+            return;
+        }
+        let rest = &rest[same..];
+        self.rest = rest;
+        self.start += same;
+        self.line_idx += 1;
+        self.same = len_of_first_line(rest);
+    }
+
+    /// Returns the line of an offset that isn't known to be in the same line as the last one.
+    #[inline(never)]
+    fn line_behind(&mut self, byte_idx: usize) -> usize
+        requires { byte_idx ≤ byte_len self.old.text }
+        ensures line { result ≡ line_at self.old.text byte_idx }
+        ensures few { result < line_count self.old.text }
+        ensures text { self.new.text ≡ self.old.text }
+    {
+        // Offsets often are in one line after the other.
+        self.to_next_line();
+        match self.known_line(byte_idx) {
+            Some(line_idx) => line_idx,
+            None => self.count_to(byte_idx),
+        }
+    }
+
     /// Returns the line of an offset. Later in the same line and chunk as the last offset, it takes
     /// constant time. Later in the same chunk it needs no look-up, and takes time linear in the
     /// text between the two offsets and in the offset's line.
@@ -155,9 +202,9 @@ impl<'a> LineTeller<'a> {
         ensures few { result < line_count self.old.text }
         ensures text { self.new.text ≡ self.old.text }
     {
-        if self.start <= byte_idx && byte_idx - self.start < self.same {
-            return self.line_idx;
+        match self.known_line(byte_idx) {
+            Some(line_idx) => line_idx,
+            None => self.line_behind(byte_idx),
         }
-        self.count_to(byte_idx)
     }
 }

@@ -1,15 +1,14 @@
 //! Rows replaced at several positions of a list.
 ghost use Rattle.std.specs.Prelude.{◌≡◌, ◌+◌, ◌-◌, ◌^◌, ◌<◌, ◌≤◌, ◌↔◌, ◌++◌, []};
 ghost use Rattle.std.specs.Prelude.{length, take, drop};
-ghost use Rattle.std.specs.Prelude.{vec_capacity, IsTrue, OnOk, IfErr};
+ghost use Rattle.std.specs.Prelude.{vec_capacity, IsTrue};
 ghost use Rattle.std.specs.Vec.Iter.{into_iter_items};
-ghost use Rattle.rope_search_reports.specs.Drafts.{IsPatchAdded};
+ghost use Rattle.rope_search_reports.specs.Drafts.{IsEmptyAt, IsTouching};
 ghost use Rattle.rope_search_reports.specs.Patches.{patched, AreInTurn, growth_by, growth_of};
 ghost use Rattle.rope_search_reports.specs.Patches.{shift_count, shifts};
 
 use crate::replacing::replace_rows;
 use crate::rows::Row;
-use rope_search_io::Fault;
 use std::alloc::Global;
 use std::mem;
 use std::vec::IntoIter;
@@ -26,6 +25,17 @@ pub struct Patch {
 }
 
 impl Patch {
+    /// Returns the patch before a row that changes nothing.
+    fn empty_at(alloc: Global, row: usize) -> Patch
+        ensures { IsEmptyAt row result }
+    {
+        Patch {
+            first: row,
+            end: row,
+            made: Vec::new(alloc),
+        }
+    }
+
     /// Returns by how many rows the list grows, or 0.
     fn growth(&self) -> usize
         ensures { result ≡ growth_of self.now }
@@ -45,34 +55,19 @@ impl Patch {
     }
 }
 
-/// Adds a patch after others. One that begins at the row where the last of them ends is merged into
-/// it, so adjacent new rows come in one patch.
-///
-/// # Errors
-///
-/// `Fault::Memory`.
-pub(crate) fn add_patch(patches: &mut Vec<Patch>, patch: Patch) -> Result<(), Fault>
-    ensures added { OnOk result (IsPatchAdded patches.old.items patch patches.new.items) }
-    ensures fault { IfErr result (λ fault. fault ≡ Fault.Memory) }
+/// Takes the last of some patches if it ends at a row; otherwise returns a new, empty one there.
+/// Put back after the others once rows are added to it, it makes adjacent new rows one patch.
+pub(crate) fn take_touching(alloc: Global, patches: &mut Vec<Patch>, row: usize) -> Patch
+    ensures { IsTouching patches.old.items row result patches.new.items }
 {
-    let Some(mut last) = patches.pop() else {
-        patches.push(patch)?;
-        return Ok(());
-    };
-    if last.end != patch.first {
-        patches.push(last)?;
-        patches.push(patch)?;
-        return Ok(());
+    match patches.pop() {
+        Some(last) if last.end == row => last,
+        Some(last) => {
+            patches.push_reserved(last);
+            Patch::empty_at(alloc, row)
+        }
+        None => Patch::empty_at(alloc, row),
     }
-    let Patch {
-        first: _,
-        end,
-        mut made,
-    } = patch;
-    last.made.append(&mut made)?;
-    last.end = end;
-    patches.push(last)?;
-    Ok(())
 }
 
 /// Returns whether at most one of the patches moves the rows after it.

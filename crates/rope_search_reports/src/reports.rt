@@ -136,11 +136,11 @@ fn pass_over(
     Ok(passed)
 }
 
-/// Returns the rows of lines `first..end` of a text as `rows_of_lines` does. A single line is
+/// Adds the rows of lines `first..end` of a text, as `rows_of_lines` returns them. A single line is
 /// reached by a walk that advances to it, without a look-up if it is in the walk's chunk.
 ///
 /// Errors: `Fault::Memory`; the finder remains usable.
-pub(crate) fn rows_ahead(
+pub(crate) fn push_rows_ahead(
     tick: &mut Lines,
     alloc: Global,
     finder: &mut Finder,
@@ -148,13 +148,14 @@ pub(crate) fn rows_ahead(
     walk: &mut Walk<'_>,
     first: usize,
     end: usize,
-) -> Result<Vec<Row>, Fault>
+    rows: &mut Vec<Row>,
+) -> Result<(), Fault>
     requires ordered { first ≤ end }
     requires within { end ≤ line_count (text_of text.now) }
     requires walks { walk.old.text ≡ text_of text.now }
     requires ahead { walk.old.line ≤ first }
-    ensures rows { IfOk result (λ rows. AreRows finder.old
-        (take (end - first) (drop first (line_texts (text_of text.now)))) rows.items) }
+    ensures rows { OnOk result (AddsRows finder.old (lines_between (text_of text.now) first end)
+        rows.old.items rows.new.items) }
     ensures fault { IfErr result (λ fault. fault ≡ Fault.Memory) }
     ensures finder { finder.new ≡ finder.old }
     ensures count { MakesAtMost (end - first) tick.old tick.new }
@@ -164,12 +165,16 @@ pub(crate) fn rows_ahead(
     ensures line { OnOk result (walk.new.line ≤ end) }
 {
     if end - first != 1 {
-        return rows_of_lines(tick, alloc, finder, text, first, end);
+        let mut made = rows_of_lines(tick, alloc, finder, text, first, end)?;
+        if rows.is_empty() {
+            *rows = made;
+            return Ok(());
+        }
+        rows.append(&mut made)?;
+        return Ok(());
     }
     walk.pass(first - walk.line_idx());
-    let mut rows = Vec::with_capacity(alloc, 1)?;
-    push_rows(tick, finder, walk, &mut rows, 1)?;
-    Ok(rows)
+    push_rows(tick, finder, walk, rows, 1)
 }
 
 /// Returns the number of lines to search before the next literal scan, from the number searched

@@ -1,5 +1,4 @@
-//! Patterns made ready to search, what their searches find in a line or in a whole text, and the
-//! count of these searches.
+//! Rows, the searches of a line or of a whole text, and the counts of these searches.
 ghost use Rattle.std.specs.Prelude.{◌≡◌, ◌+◌, ◌-◌, ◌^◌, ◌<◌, ◌≤◌, ℕ, List, map, min, IfOk, IfErr, OnOk};
 ghost use Rattle.std.specs.Str.{IsCharBoundary};
 ghost use Rattle.ropey.specs.Chunks.{text_of};
@@ -29,8 +28,8 @@ use ropey::{Rope, RopeSlice};
 use std::alloc::Global;
 use std::marker::Model;
 
-/// Shows that a call comes from a program in C, which has no runtime. It takes no bytes, so C passes
-/// nothing for it; in Rattle nothing makes one.
+/// Shows that a call comes from a program in C, which has no runtime. It has no bytes, so C passes
+/// nothing for it. In Rattle, none can be made.
 #[repr(C)]
 #[derive(Drop)]
 pub struct CallerInC {
@@ -38,14 +37,14 @@ pub struct CallerInC {
 }
 
 /// Counts the rows that were made, each by a search of one line, the searches of whole texts, and
-/// the lines that were looked through for a place at which a match may begin. All counts begin at 0
-/// and stay at `u64::MAX`. It is made of the runtime, or for a caller in C, and can't be copied, so
-/// what is handed one counts in it.
+/// the lines that were scanned for an offset at which a match may begin. All counts begin at 0 and
+/// end at `u64::MAX`. It is made from the runtime, or for a caller in C, and can't be copied, so a
+/// call that gets one counts in it.
 #[derive(Drop)]
 pub struct Lines {
     count: u64,
     wholes: u64,
-    // For contracts alone: it bounds what is looked through, and nothing tells it.
+    // For contracts only: it bounds the lines that are scanned, and no call returns it.
     looked: u64,
 }
 
@@ -97,7 +96,7 @@ impl Lines {
         self.wholes
     }
 
-    /// Counts one row more.
+    /// Counts one more row.
     fn add_row(&mut self)
         ensures count { self.new.count ≡ min (self.old.count + 1) (2 ^ 64 - 1) }
         ensures grows { self.old.count ≤ self.new.count }
@@ -108,7 +107,7 @@ impl Lines {
         *count = count.saturating_add(1);
     }
 
-    /// Counts one search of a whole text more.
+    /// Counts one more search of a whole text.
     fn add_whole(&mut self)
         ensures count { self.new.count ≡ self.old.count }
         ensures wholes { self.new.wholes ≡ min (self.old.wholes + 1) (2 ^ 64 - 1) }
@@ -119,7 +118,7 @@ impl Lines {
         *wholes = wholes.saturating_add(1);
     }
 
-    /// Counts so many lines more that are looked through.
+    /// Counts this number of lines as scanned.
     fn add_looked(&mut self, count: usize)
         ensures count { self.new.count ≡ self.old.count }
         ensures wholes { self.new.wholes ≡ self.old.wholes }
@@ -130,8 +129,8 @@ impl Lines {
     }
 }
 
-/// The matches of a pattern in one line, from the left: where each starts and where it ends, in
-/// UTF-16 code units from the line's start. Only the search of a line makes any, which is counted,
+/// The matches of a pattern in one line, from left to right: where each starts and where it ends,
+/// in UTF-16 code units from the line's start. Only a search of a line makes one, which is counted,
 /// and none can be copied.
 #[derive(Drop)]
 pub struct Row {
@@ -158,10 +157,10 @@ impl Row {
     }
 }
 
-/// Searches one line's text, where it lies, and returns its row. One row is counted, also after an
-/// error. It alone makes rows.
+/// Searches one line's text in place, and returns its row. Counts one row, also after an error.
+/// Rows are made only here.
 ///
-/// Errors: `Fault::Memory`; the finder serves on.
+/// Errors: `Fault::Memory`; the finder remains usable.
 #[inline(always)]
 pub(crate) fn row_of(tick: &mut Lines, finder: &mut Finder, line: Line<'_>) -> Result<Row, Fault>
     requires { HoldsText line }
@@ -177,12 +176,17 @@ pub(crate) fn row_of(tick: &mut Lines, finder: &mut Finder, line: Line<'_>) -> R
     Ok(Row { matches })
 }
 
-/// Searches one line's text, given without its break and searched where it lies, and returns its
-/// row: the first match from the line's start, and each further one from the end of the one before,
-/// an empty match there passed over. One row is counted, also after an error. Time is linear in the
-/// line, times the pattern's weight.
+/// Searches one line's text in place, given without its break, and returns its row: the first match
+/// from the line's start on, and each further one from the end of the one before, except an empty
+/// match there. Counts one row, also after an error.
 ///
-/// Errors: `Fault::Memory`; the finder serves on.
+/// # Errors
+///
+/// `Fault::Memory`; the finder remains usable.
+///
+/// # Complexity
+///
+/// Linear in the line, times the pattern's weight.
 pub fn search_line(tick: &mut Lines, finder: &mut Finder, line: RopeSlice<'_>) -> Result<Row, Fault>
     ensures row { IfOk result (λ row. IsRow finder.old (slice_text line.entry) row) }
     ensures fault { IfErr result (λ fault. fault ≡ Fault.Memory) }
@@ -195,15 +199,23 @@ pub fn search_line(tick: &mut Lines, finder: &mut Finder, line: RopeSlice<'_>) -
     row_of(tick, finder, Line::of(line))
 }
 
-/// Returns the groups 0 to 9 of the match of a number, from 0, in a line of a text, as
-/// `search_line` finds them: of each where it starts and where it ends, in UTF-16 code units from
-/// the line's start; or `None` where the line has no such match. Group 0 is the whole match; one
-/// that the pattern doesn't have, or that takes no part in the match, is `None`. That line alone is
-/// searched, up to the match, and one row is counted, also after an error. Requires
-/// `line_idx < len_lines()`. Time is linear in the line, times the pattern's weight, and `O(log n)`
-/// for each group.
+/// Returns the groups 0 to 9 of a match in a line of a text, given by its number among those that
+/// `search_line` finds, from 0. Of each group it returns where it starts and where it ends, in
+/// UTF-16 code units from the line's start. Group 0 is the whole match; a group that the pattern
+/// doesn't have, or that takes no part in the match, is `None`. Returns `None` if the line has no
+/// such match. Only that line is searched, up to the match. Counts one row, also after an error.
 ///
-/// Errors: `Fault::Memory`; the finder serves on.
+/// # Errors
+///
+/// `Fault::Memory`; the finder remains usable.
+///
+/// # Requires
+///
+/// `line_idx < len_lines()`
+///
+/// # Complexity
+///
+/// Linear in the line, times the pattern's weight, and `O(log n)` for each group.
 pub fn groups_at(
     tick: &mut Lines,
     finder: &mut Finder,
@@ -221,7 +233,7 @@ pub fn groups_at(
     ensures wholes { tick.new.wholes ≡ tick.old.wholes }
     ensures looked { tick.new.looked ≡ tick.old.looked }
 {
-    // The text's facts, for the proof alone.
+    // For the proof: the text's facts.
     let _ = text.len_bytes();
     finder.groups_at(tick, without_break(text.line(line_idx)), number)
 }
@@ -263,11 +275,20 @@ pub fn add_groups_of_line(
 }
 
 /// Returns the first match in a whole text from a byte index on, as the byte indices of its start
-/// and its end; looks see what stands before it. One search of a whole text is counted, also after
-/// an error. Requires that `from` is a character boundary of the text. Time is linear in the text
-/// behind it, times the pattern's weight.
+/// and its end. Look-around assertions see the text before that index. Counts one search of a whole
+/// text, also after an error.
 ///
-/// Errors: `Fault::Memory`; the finder serves on.
+/// # Errors
+///
+/// `Fault::Memory`; the finder remains usable.
+///
+/// # Requires
+///
+/// `from` is a character boundary of the text.
+///
+/// # Complexity
+///
+/// Linear in the text after `from`, times the pattern's weight.
 pub fn find_from(
     tick: &mut Lines,
     finder: &mut Finder,
@@ -287,12 +308,18 @@ pub fn find_from(
     finder.first_in(tick, text, from)
 }
 
-/// Returns all matches in a whole text with their groups 0 to 9: the first from the text's start,
-/// each further one from the end of the one before, an empty match there passed over. One search of
-/// a whole text is counted, also after an error. Time is linear in the text, times the pattern's
-/// weight. Memory is in proportion to the number of matches.
+/// Returns all matches in a whole text with their groups 0 to 9: the first from the text's start
+/// on, each further one from the end of the one before, except an empty match there. Counts one
+/// search of a whole text, also after an error.
 ///
-/// Errors: `Fault::Memory`; the finder serves on.
+/// # Errors
+///
+/// `Fault::Memory`; the finder remains usable.
+///
+/// # Complexity
+///
+/// Time is linear in the text, times the pattern's weight. Memory is proportional to the number of
+/// matches.
 pub fn find_all(tick: &mut Lines, finder: &mut Finder, text: &Rope) -> Result<Vec<Groups>, Fault>
     ensures found { IfOk result (λ groups.
         AreGroups finder.old (bytes_of (text_of text.now)) groups.items) }
@@ -309,10 +336,12 @@ pub fn find_all(tick: &mut Lines, finder: &mut Finder, text: &Rope) -> Result<Ve
 }
 
 /// Returns the spans of all matches in a whole text, as `find_all` finds them: the byte indices of
-/// the start and the end of each. One search of a whole text is counted, also after an error. It
-/// takes a fifteenth of the memory, and groups cost nothing.
+/// the start and the end of each. Counts one search of a whole text, also after an error. It takes
+/// a fifteenth of the memory of `find_all`, and no time for groups.
 ///
-/// Errors: `Fault::Memory`; the finder serves on.
+/// # Errors
+///
+/// `Fault::Memory`; the finder remains usable.
 pub fn find_spans(
     tick: &mut Lines,
     finder: &mut Finder,

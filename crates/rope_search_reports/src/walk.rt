@@ -182,6 +182,9 @@ impl<'a> Walk<'a> {
         ensures text { self.new.text ≡ self.old.text }
         ensures line { self.new.line ≡ self.old.line + count }
     {
+        if count == 0 {
+            return;
+        }
         let place = breaks::to_byte_idx(self.rest, count);
         if place >= self.rest.len() {
             *self = Walk::at(self.text, self.line_idx + count);

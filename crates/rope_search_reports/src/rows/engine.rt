@@ -1,5 +1,5 @@
-//! A pattern that is ready to search, and what its searches tell: rows, matches, groups, and the
-//! lines in which no match can begin.
+//! A pattern that is ready to search, and its searches: for rows, matches, groups, and lines
+//! without a match.
 ghost use Rattle.std.specs.Prelude.{◌≡◌, ◌+◌, ◌-◌, ◌^◌, ◌<◌, ◌≤◌, ◌⊎◌, ℕ, List, [], length, map, min, chars, IfOk, IfErr, IfSome, Err, OnOk};
 ghost use Rattle.std.specs.Str.{IsCharBoundary};
 ghost use Rattle.str_indices.specs.Text.{byte_len};
@@ -31,23 +31,23 @@ use ropey::{Rope, RopeSlice};
 use std::alloc::Global;
 use std::marker::Model;
 
-/// How many bytes a pattern has at most.
+/// The maximum number of bytes of a pattern.
 pub const PATTERN_LEN: usize = 65_536;
 
-/// A pattern that is ready to search, with what its searches keep from one to the next: all of it
-/// is made once. It can't be copied.
+/// A pattern that is ready to search, with the memory that its searches use again. It can't be
+/// copied.
 pub struct Finder {
     alloc: Global,
     regex: CountedRegex,
-    // Whether it is known that it doesn't match the empty text.
+    // Whether the pattern is known not to match the empty text.
     is_never_empty: bool,
-    // The columns of the matches in the line that was searched last.
+    // The columns of the matches in the last line that was searched.
     columns: Vec<(usize, usize)>,
-    // For contracts alone.
+    // For contracts only.
     pattern: PatternText,
 }
 
-// Written out, so that no crate above proves anew how what it holds is let go.
+// Written out, so that no crate above proves again how the fields are dropped.
 impl Drop for Finder {
     fn drop(self) {
         let Finder {
@@ -72,11 +72,13 @@ impl Model for Finder {
 }
 
 impl Finder {
-    /// Returns a finder of a pattern's matches, by the default settings of a regex. Time and memory
-    /// are in proportion to the pattern's weight.
+    /// Returns a finder for a pattern, with the default settings of a regex. Time and memory are
+    /// proportional to the pattern's weight.
     ///
-    /// Errors: `Fault::Limit` for more than 65,536 bytes, before anything is allocated, and for a
-    /// weight above 262,144; `Fault::Pattern` outside the grammar; `Fault::Memory`.
+    /// # Errors
+    ///
+    /// `Fault::Limit` if the pattern has more than 65,536 bytes, before anything is allocated, or a
+    /// weight above 262,144; `Fault::Pattern` if it is no pattern; `Fault::Memory`.
     pub fn new(alloc: Global, pattern: &str) -> Result<Finder, Fault>
         ensures ok { IfOk result (λ finder. finder ≡ chars pattern.now) }
         ensures is_pattern { IfOk result (λ finder. IsPattern finder) }
@@ -97,7 +99,7 @@ impl Finder {
             Err(BuildError::Size { .. }) => return Err(Fault::Limit),
             Err(BuildError::Memory) => return Err(Fault::Memory),
         };
-        // By its literals, no search.
+        // This scans for literals, and searches nothing.
         let is_never_empty = regex.no_match_before("", 0, 0).is_some();
         Ok(Finder {
             alloc,
@@ -108,15 +110,15 @@ impl Finder {
         })
     }
 
-    /// The allocator that the finder was made with.
+    /// Returns the allocator that the finder was made with.
     pub(super) fn alloc(&self) -> Global {
         self.alloc
     }
 
-    /// A place of the text in a line's chunk before which nothing matches: no part of it up to
-    /// there has a match, searched by itself. That is told by the literals that each match begins
-    /// with, and by no search; `None` where no such literals are known. Time is linear in the text
-    /// up to the place.
+    /// Returns an offset of a chunk before which nothing matches: no part of the chunk up to there
+    /// has a match, searched separately. It is found by a scan for the literals that each match
+    /// begins with, not by a search. Returns `None` if no such literals are known. Time is linear
+    /// in the text up to the offset.
     fn no_match_before(&self, text: &str) -> Option<usize>
         ensures no_match { IfSome result (λ place. FindsNoneBetween self.now text.now 0 place) }
         ensures within { IfSome result (λ place. place ≤ length text.now) }
@@ -124,7 +126,7 @@ impl Finder {
         self.regex.no_match_before(text, text.len(), 0)
     }
 
-    /// The same of a slice, from a place on.
+    /// Returns such an offset of a slice, from an offset on.
     fn no_match_from(&self, text: RopeSlice<'_>, from: usize) -> Option<usize>
         requires { from ≤ byte_len (slice_text text) }
         ensures no_match { IfSome result (λ place.
@@ -135,9 +137,9 @@ impl Finder {
             .no_match_before(RopeyCursor::at(text, from), text.len_bytes(), from)
     }
 
-    /// Passes over the lines that come next and end before the place at which a match may begin, as
-    /// far as the literals tell that each match begins with, and returns how many they are. The
-    /// literals are looked for from the next line on, over chunks.
+    /// Skips the next lines that end before the offset at which a match may begin, and returns
+    /// their number. The offset is found by a scan for literals from the next line on, in all
+    /// chunks.
     fn pass_chunks(&self, walk: &mut Walk<'_>) -> usize
         requires { walk.old.line < line_count walk.old.text }
         ensures text { walk.new.text ≡ walk.old.text }
@@ -154,7 +156,7 @@ impl Finder {
         }
     }
 
-    /// The same, but they are looked for in what is left of the chunk at first.
+    /// Skips these lines, as `pass_chunks` does, but scans the rest of the current chunk first.
     fn pass_bare(&self, walk: &mut Walk<'_>) -> usize
         requires { walk.old.line < line_count walk.old.text }
         ensures text { walk.new.text ≡ walk.old.text }
@@ -177,11 +179,11 @@ impl Finder {
         }
     }
 
-    /// Passes over those of the next `left` lines that end before the place at which a match may
-    /// begin, as far as the literals tell that each match begins with, and returns how many they
-    /// are. These lines and the one behind them are counted as looked through. Requires that no
-    /// line of the walk comes behind the `left`, but for an empty one. Time is linear in the text up
-    /// to that place.
+    /// Skips those of the next `left` lines that end before the offset at which a match may begin,
+    /// and returns their number. The offset is found by a scan for the literals that each match
+    /// begins with. Counts these lines and the one after them as scanned. Requires that the walk
+    /// has no line after the `left`, except an empty one. Time is linear in the text up to that
+    /// offset.
     pub(crate) fn bare_lines(&self, tick: &mut Lines, walk: &mut Walk<'_>, left: usize) -> usize
         requires some { 0 < left }
         requires within { walk.old.line + left ≤ line_count walk.old.text }
@@ -201,7 +203,7 @@ impl Finder {
         passed
     }
 
-    /// `columns_of` by a search of the line.
+    /// Returns the matches in a line, as `columns_of` does, by a search of the line.
     fn searched_columns(&mut self, tick: &mut Lines, line: Line<'_>) -> Result<Found, Fault>
         requires { HoldsText line }
         ensures row { IfOk result
@@ -218,9 +220,9 @@ impl Finder {
         Ok(Found::of(self.alloc, self.columns.as_slice())?)
     }
 
-    /// The matches in a line, by their columns. One row is counted, also after an error.
+    /// Returns the matches in a line, by their columns. Counts one row, also after an error.
     ///
-    /// Errors: `Fault::Memory`; the finder serves on.
+    /// Errors: `Fault::Memory`; the finder remains usable.
     #[inline(always)]
     pub(super) fn columns_of(&mut self, tick: &mut Lines, line: Line<'_>) -> Result<Found, Fault>
         requires { HoldsText line }
@@ -240,10 +242,10 @@ impl Finder {
         self.searched_columns(tick, line)
     }
 
-    /// The first match in a whole text from a place on. One search of a whole text is counted, also
-    /// after an error.
+    /// Returns the first match in a whole text from an offset on. Counts one search of a whole
+    /// text, also after an error.
     ///
-    /// Errors: `Fault::Memory`; the finder serves on.
+    /// Errors: `Fault::Memory`; the finder remains usable.
     pub(super) fn first_in(
         &mut self,
         tick: &mut Lines,
@@ -263,10 +265,10 @@ impl Finder {
         self.regex.first_in(tick, text.slice(..), from)
     }
 
-    /// All matches in a whole text with their groups. One search of a whole text is counted, also
-    /// after an error.
+    /// Returns all matches in a whole text with their groups. Counts one search of a whole text,
+    /// also after an error.
     ///
-    /// Errors: `Fault::Memory`; the finder serves on.
+    /// Errors: `Fault::Memory`; the finder remains usable.
     pub(super) fn groups_of(&mut self, tick: &mut Lines, text: &Rope) -> Result<Vec<Groups>, Fault>
         ensures found { IfOk result (λ groups.
             AreGroups self.old (bytes_of (text_of text.now)) groups.items) }
@@ -282,10 +284,10 @@ impl Finder {
         all_groups(tick, self.alloc, &mut self.regex, text.slice(..))
     }
 
-    /// The groups of the match of a number, from 0, in a line, each by its columns, or `None` where
-    /// there is no such match. One row is counted, also after an error.
+    /// Returns the groups of a match in a line, given by its number from 0, each by its columns, or
+    /// `None` if there is no such match. Counts one row, also after an error.
     ///
-    /// Errors: `Fault::Memory`; the finder serves on.
+    /// Errors: `Fault::Memory`; the finder remains usable.
     pub(super) fn groups_at(
         &mut self,
         tick: &mut Lines,
@@ -307,10 +309,10 @@ impl Finder {
         }
     }
 
-    /// Appends the groups of all matches in a line of a text, by offsets of the text. One row is
-    /// counted, also after an error.
+    /// Appends the groups of all matches in a line of a text, by offsets of the text. Counts one
+    /// row, also after an error.
     ///
-    /// Errors: `Fault::Memory`; the finder serves on.
+    /// Errors: `Fault::Memory`; the finder remains usable.
     pub(super) fn add_groups_of_line(
         &mut self,
         tick: &mut Lines,
@@ -328,17 +330,17 @@ impl Finder {
         ensures wholes { tick.new.wholes ≡ tick.old.wholes }
         ensures looked { tick.new.looked ≡ tick.old.looked }
     {
-        // The text's facts, for the proof alone.
+        // For the proof: the text's facts.
         let _ = text.len_bytes();
         let start = text.line_to_byte(line_idx);
         let line = line_text(text, line_idx);
         add_groups(tick, &mut self.regex, line, start, groups)
     }
 
-    /// The spans of all matches in a whole text. One search of a whole text is counted, also after
-    /// an error.
+    /// Returns the spans of all matches in a whole text. Counts one search of a whole text, also
+    /// after an error.
     ///
-    /// Errors: `Fault::Memory`; the finder serves on.
+    /// Errors: `Fault::Memory`; the finder remains usable.
     pub(super) fn spans_of(
         &mut self,
         tick: &mut Lines,

@@ -13,8 +13,8 @@ use rope_search_changes::Groups;
 use rope_search_io::Fault;
 use ropey::RopeSlice;
 
-/// The groups of the match of a number, from 0, among all in a line, or `None` where there is no
-/// such match. One row is counted as it begins.
+/// Returns the groups of a match in a line, given by its number from 0, or `None` if there is no
+/// such match. Counts one row as it begins.
 pub fn groups_of_match(
     tick: &mut Lines,
     regex: &mut CountedRegex,
@@ -32,10 +32,9 @@ pub fn groups_of_match(
     ensures wholes { tick.new.wholes ≡ tick.old.wholes }
     ensures looked { tick.new.looked ≡ tick.old.looked }
 {
-    // The slice's facts, for the proof alone.
     let mut pass = regex.in_line(tick, RopeyCursor::new(line), line.len_bytes());
     let mut slots = [None; SLOT_COUNT];
-    // How many come before the one that is asked for.
+    // The number of matches before the requested one.
     let mut left = number;
     while let Some(_) = regex.next(&mut pass, &mut slots)? {
         if left == 0 {
@@ -46,7 +45,7 @@ pub fn groups_of_match(
     Ok(None)
 }
 
-/// A span in a line that starts at an offset of its text, by offsets of the text.
+/// Returns a span by offsets of the text, given by offsets of a line and where that starts.
 fn moved_span(start: usize, span: Option<(usize, usize)>) -> Option<(usize, usize)>
     requires { IfSome span (λ span. (start + span.0 < 2 ^ 64) × (start + span.1 < 2 ^ 64)) }
     ensures { result ≡ option_map (moved_span start) span }
@@ -57,13 +56,13 @@ fn moved_span(start: usize, span: Option<(usize, usize)>) -> Option<(usize, usiz
     }
 }
 
-/// Groups in a line that starts at an offset of its text, by offsets of the text.
+/// Returns groups by offsets of the text, given by offsets of a line and where that starts.
 fn moved(line: &RopeSlice<'_>, start: usize, groups: &Groups) -> Groups
     requires spans { HasSpansIn (slice_bytes line.now) groups.now }
     requires fits { start + byte_len (slice_text line.now) < 2 ^ 63 }
     ensures { result ≡ moved start groups.now }
 {
-    // The slice's facts, for the proof alone.
+    // For the proof: the slice's facts.
     let _ = line.len_bytes();
     let mut told = [None; 10];
     for k in 0..10 {
@@ -72,8 +71,8 @@ fn moved(line: &RopeSlice<'_>, start: usize, groups: &Groups) -> Groups
     told
 }
 
-/// Appends the groups of all matches in a line, by offsets of the text in which the line starts at
-/// an offset. One row is counted as the search begins.
+/// Appends the groups of all matches in a line, by offsets of the text, given where the line
+/// starts. Counts one row as the search begins.
 pub fn add_groups(
     tick: &mut Lines,
     regex: &mut CountedRegex,

@@ -1,6 +1,6 @@
 //! All matches of a haystack, in order: those of a line as columns, those of a whole text with
 //! their groups or as spans only.
-ghost use Rattle.std.specs.Prelude.{◌≡◌, ◌+◌, ◌-◌, ◌^◌, ◌≤◌, min, ℕ, List, [], IfOk, IfErr, OnOk, map};
+ghost use Rattle.std.specs.Prelude.{◌≡◌, ◌+◌, ◌-◌, ◌^◌, ◌≤◌, min, false, ℕ, List, [], None, IfOk, IfErr, OnOk, map};
 ghost use Rattle.std.specs.List.{range_with_len};
 ghost use Rattle.ropey.specs.Slices.{slice_bytes};
 ghost use Rattle.regex_cursor.specs.Regexes.{IsRegexOf};
@@ -10,7 +10,7 @@ ghost use Rattle.rope_search_reports.specs.Drafts.{HoldsText, own_text};
 ghost use Rattle.rope_search_reports.specs.Finders.{AreGroupsOf, AreSpansOf, IsRowOf, group_told};
 
 use super::Lines;
-use super::counted::{CountedRegex, Cursor, RopeyCursor, Slot, group_in};
+use super::counted::{CountedRegex, Cursor, Pass, RopeyCursor, Slot, group_in};
 use crate::line::Line;
 use rope_search_changes::Groups;
 use rope_search_io::Fault;
@@ -59,6 +59,29 @@ pub fn all_groups(
     Ok(groups)
 }
 
+/// Writes the spans of all matches of a search that has begun into an empty list.
+fn write_spans<C: Cursor>(
+    regex: &mut CountedRegex,
+    pass: &mut Pass<C>,
+    spans: &mut Vec<(usize, usize)>,
+) -> Result<(), Fault>
+    requires built { (text : List ℕ) × IsRegexOf text regex.old }
+    requires by { pass.old.by ≡ regex.old }
+    requires first { pass.old.last ≡ None }
+    requires goes_on { pass.old.is_over ≡ false }
+    requires empty { spans.old.items ≡ [] }
+    ensures spans { (text : List ℕ) → (built : IsRegexOf text regex.old)
+        → OnOk result (AreSpansOf built.tree pass.old.content spans.new.items) }
+    ensures same { regex.new ≡ regex.old }
+    ensures fault { IfErr result (λ fault. fault ≡ Fault.Memory) }
+{
+    let mut slots = [None; 2];
+    while let Some(span) = regex.next(pass, &mut slots)? {
+        spans.push(span)?;
+    }
+    Ok(())
+}
+
 /// Returns the spans of all matches in a whole text. Counts one search of a whole text as it
 /// begins.
 pub fn all_spans(
@@ -81,10 +104,7 @@ pub fn all_spans(
 {
     let mut pass = regex.in_text(tick, text);
     let mut spans = Vec::new(alloc);
-    let mut slots = [None; 2];
-    while let Some(span) = regex.next(&mut pass, &mut slots)? {
-        spans.push(span)?;
-    }
+    write_spans(regex, &mut pass, &mut spans)?;
     Ok(spans)
 }
 
@@ -136,16 +156,7 @@ fn columns_in<C: Cursor + Drop>(
     ensures looked { tick.new.looked ≡ tick.old.looked }
 {
     let mut pass = regex.in_line(tick, cursor, line.len_bytes());
-    let mut slots = [None; 2];
-    // Where the last match ended, and the column of that.
-    let (mut place, mut column) = (0, 0);
-    let mut is_narrow = false;
-    while let Some((start, end)) = regex.next(&mut pass, &mut slots)? {
-        is_narrow = line.is_narrow_at(columns.len(), is_narrow);
-        let start_column = line.column_from(is_narrow, place, column, start);
-        column = line.column_from(is_narrow, start, start_column, end);
-        columns.push((start_column, column))?;
-        place = end;
-    }
+    write_spans(regex, &mut pass, columns)?;
+    line.turn_into_columns(columns.as_mut_slice());
     Ok(())
 }

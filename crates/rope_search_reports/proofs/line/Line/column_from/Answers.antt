@@ -1,9 +1,7 @@
 use Rattle.std.proofs.Common.{chars, ap, arith}
 use Rattle.str_indices.specs.Text.{units}
 use Rattle.rope_search_reports.specs.Report.{column}
-use Rattle.rope_search_reports.specs.Drafts.{own_text}
-use Rattle.rope_search_reports.proofs.ColumnLemmas.{ascii-column}
-use Rattle.rope_search_reports.proofs.OwnLemmas.{counts-on, own-scalars, whole-bytes}
+use Rattle.rope_search_reports.proofs.OwnLemmas.{counts-on, whole-bytes}
 use Rattle.rope_search_reports.proofs.TextPlaces.{places}
 use Rattle.rope_search_reports.proofs.line.Line.column_from.Goals as goal
 
@@ -49,8 +47,3 @@ returns-in-Whole c =
       ap (λ bs. column bs c.args.place) bytes,
       ap (λ bs. column bs c.args.end) bytes,
     )
-
-pub returns-then-is_narrow : goal.returns-then-is_narrow
-returns-then-is_narrow c =
-    let r = c.requires in
-    ascii-column places (own_text c.args.self.now) c.args.end (own-scalars c.args.self.now r.holds) r.ends (r.narrow c.if-is_narrow.true)

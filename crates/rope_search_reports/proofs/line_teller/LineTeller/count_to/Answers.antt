@@ -69,4 +69,5 @@ invariant_of-self c =
     (teller-on text c.self.inside.rest.now c.self.inside.start c.self.inside.line_idx c.args.byte_idx _ c.self.invariant.0 low high (c.is_char_boundary.ensures.test.0 c.if-not-is_char_boundary.false) told) in (
       on,
       stays-on (ends_of_a_part-lines is_break) (ends_behind_a_boundary-lines is_break) text _ c.args.byte_idx _ _ on c.len_of_first_line-self-inside.ensures.within c.len_of_first_line-self-inside.ensures.first,
+      λ _. c.len_of_first_line-self-inside.ensures.second,
     )
