@@ -1,4 +1,5 @@
 pub mod AnswerLaws
+pub mod ArrivingLemmas
 pub mod EditLemmas
 pub mod EditAllLemmas
 pub mod EncodingLemmas

@@ -7,18 +7,34 @@ use Rattle.rope_search_io.specs.ReadBuffer.{Unread, Takes}
 use Rattle.rope_search.specs.declared.commands.CommandOf.{CommandOf}
 use Rattle.rope_search.specs.declared.payloads.Collected.{Collected}
 use Rattle.rope_search.specs.declared.requests.Request.{Request}
-use Rattle.rope_search.specs.declared.requests.Request.TheVariants.{Given, End}
+use Rattle.rope_search.specs.declared.requests.Request.TheVariants.{Text, Given, End}
 use Rattle.rope_search.specs.declared.endings.Ended.TheVariants.{Input, Command, Cut}
 use Rattle.rope_search.specs.Order.{Order, SetText, EditText, UndoEdit, RedoEdit, PrintText, ForkBuffer, SetPattern, DropPattern, ListMatches, FindNext, ReplaceAll, UseBuffer}
 use Rattle.rope_search.specs.Stands.{limit_on}
 use Rattle.rope_search.specs.Header.{IsHeaderOf}
 use Rattle.rope_search.specs.Reads.{IsLine, payload_of}
-use Rattle.rope_search.specs.Requests.{Collects, TakesCollected, TakesRestOf, TakesPartOf, TakesRest, TakesRequest}
+use Rattle.rope_search_texts.specs.declared.arriving.ArrivingText.{ArrivingText}
+use Rattle.rope_search_texts.specs.Arriving.{Arrives}
+use Rattle.rope_search.specs.Requests.{Collects, IsReadAs, IsTextOf, TakesGathered, TakesRestOf, TakesPartOf, TakesRest, TakesRequest}
 use Rattle.rope_search.proofs.TakesLemmas.{Takes-trans, TakesLast-after, TakesUntil-after}
 
 -- the payload of each command with this header has this number of bytes
 abbrev pub HasPayload : CommandOf ℕ → ℕ → Type 0
 HasPayload header len = (order : Order) → IsHeaderOf header order → length (payload_of order) ≡ len
+
+pub has_text : (len : ℕ) → HasPayload (SetText len) len
+has_text len (SetText bytes) is = is
+has_text len (EditText from to bytes) is = absurd is
+has_text len UndoEdit is = absurd is
+has_text len RedoEdit is = absurd is
+has_text len PrintText is = absurd is
+has_text len ForkBuffer is = absurd is
+has_text len (SetPattern bytes) is = absurd is
+has_text len DropPattern is = absurd is
+has_text len ListMatches is = absurd is
+has_text len (FindNext from) is = absurd is
+has_text len (ReplaceAll bytes) is = absurd is
+has_text len (UseBuffer k) is = absurd is
 
 no_bytes : (bytes : List ℕ) → length bytes ≡ 0 → [] ≡ bytes
 no_bytes [] none = refl
@@ -43,12 +59,18 @@ order_for (UseBuffer k) len bytes has is = (UseBuffer k, refl, no_bytes bytes (i
 
 -- a payload that was read whole
 pub TakesRest-whole : (limit len : ℕ) (header : CommandOf ℕ) (kept : Collected) (old new : Unread) (s t : SourceState) → HasPayload header len
-    → TakesCollected (Ok (Some kept)) (limit_on header limit) len old new s t → TakesRestOf limit header header kept old new s t
+    → TakesGathered Collects (Ok (Some kept)) (limit_on header limit) len old new s t → TakesRestOf header (IsReadAs limit header kept) old new s t
 TakesRest-whole limit len header kept old new s t has h =
     let o = order_for header len h.0 has h.1 in
     let payload : Collects (limit_on header limit) (length (payload_of o.0)) kept (payload_of o.0) =
     subst (λ bs. Collects (limit_on header limit) (length bs) kept bs) (sym o.2) (subst (λ n. Collects (limit_on header limit) n kept h.0) (sym h.1) h.2) in
     record { order = o.0; of_header = o.1; is = record { of_header = o.1; payload = payload }; taken = subst (Takes old new s t) (sym o.2) h.3 }
+
+-- a text that was read whole
+pub TakesRest-text : (limit len : ℕ) (text : ArrivingText) (old new : Unread) (s t : SourceState)
+    → TakesGathered Arrives (Ok (Some text)) limit len old new s t → TakesRestOf (SetText len) (IsTextOf limit text) old new s t
+TakesRest-text limit len text old new s t h =
+    record { order = SetText h.0; of_header = h.1; is = record { payload = h.0; sets = refl; arrived = subst (λ n. Arrives limit n text h.0) (sym h.1) h.2 }; taken = h.3 }
 
 -- a payload that was read in part
 pub TakesPart-of : (header : CommandOf ℕ) (len : ℕ) (Taken : List ℕ → Type 0) → HasPayload header len → (bytes : List ℕ) × (length bytes < len) × Taken bytes → TakesPartOf header Taken
@@ -63,6 +85,13 @@ line_then line rest = append_assoc line (10 ∷ []) rest
 -- a command's line, and then what follows it
 pub TakesRequest-after : (limit : ℕ) (header : CommandOf ℕ) (line : List ℕ) (r : Result Request Broken) (a b c : Unread) (s t u : SourceState)
     → ((o : Order) → IsLine o line ↔ IsHeaderOf header o) → Takes a b s t (line ++ 10 ∷ []) → TakesRest limit header r b c t u → TakesRequest limit r a c s u
+TakesRequest-after limit header line (Ok (Text text)) a b c s t u told p q = record {
+  order = q.order;
+  bytes = (line ++ 10 ∷ []) ++ payload_of q.order;
+  spells = record { line = line; is_line = (told q.order).1 q.of_header; whole = line_then line (payload_of q.order) };
+  is = q.is;
+  taken = Takes-trans a b c s t u (line ++ 10 ∷ []) (payload_of q.order) p q.taken;
+}
 TakesRequest-after limit header line (Ok (Given given kept)) a b c s t u told p q = record {
   order = q.order;
   bytes = (line ++ 10 ∷ []) ++ payload_of q.order;

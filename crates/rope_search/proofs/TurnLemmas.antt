@@ -7,14 +7,12 @@ use Rattle.rope_search_io.specs.declared.faults.Broken.TheVariants.{Read, Write,
 use Rattle.rope_search_io.specs.Sources.{SinkState}
 use Rattle.rope_search_io.specs.WriteBuffer.{Writes, WritesFront, WritesUntil}
 use Rattle.rope_search_reports.specs.Ticks.{Ticks}
-use Rattle.rope_search.specs.declared.commands.CommandOf.{CommandOf}
-use Rattle.rope_search.specs.declared.payloads.Collected.{Collected}
 use Rattle.rope_search.specs.Order.{Order}
 use Rattle.rope_search.specs.Session.{State}
 use Rattle.rope_search.specs.Step.{Answer, Step}
 use Rattle.rope_search.specs.Shows.{IsShown}
 use Rattle.rope_search.specs.Cost.{Costs, SearchesFor, whole_searches}
-use Rattle.rope_search.specs.Requests.{IsReadAs, TakesOrder}
+use Rattle.rope_search.specs.Requests.{TakesOrder}
 use Rattle.rope_search.specs.Runs.{SearchesWithin, Scene, Turned, TakesTurn, SoFar}
 use Rattle.rope_search.specs.Laws.{AllHoldTexts, Known}
 use Rattle.rope_search.proofs.StepLaws.{costs_exist}
@@ -53,12 +51,12 @@ SearchesWithin-more os ps m n t u before = record {
 -- ---- one turn
 
 -- a command that was read whole was executed, and this is what was written of its answer
-pub Turned-given : (known : Known) (limit : ℕ) (header : CommandOf ℕ) (kept : Collected) (answer : Answer) (old new : Scene) (Written : List ℕ → Type 0) → AllHoldTexts old.session
-    → TakesOrder limit header kept old.buffer new.buffer old.source new.source
-    → ((order : Order) → IsReadAs limit header kept order → Step limit old.session order answer new.session)
-    → ((order : Order) → IsReadAs limit header kept order → SearchesFor limit old.session order old.ticks new.ticks)
+pub Turned-given : (known : Known) (limit : ℕ) (Is : Order → Type 0) (answer : Answer) (old new : Scene) (Written : List ℕ → Type 0) → AllHoldTexts old.session
+    → TakesOrder Is old.buffer new.buffer old.source new.source
+    → ((order : Order) → Is order → Step limit old.session order answer new.session)
+    → ((order : Order) → Is order → SearchesFor limit old.session order old.ticks new.ticks)
     → IsShown new.session answer Written → Turned limit old new Written
-Turned-given known limit header kept answer old new Written all read step searches written =
+Turned-given known limit Is answer old new Written all read step searches written =
     let cost = costs_exist known limit old.session read.order all in
     record {
       order = read.order;

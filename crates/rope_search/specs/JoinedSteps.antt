@@ -6,7 +6,7 @@ use Rattle.rope_search.specs.Session.{BufferState, LimitedBuffer}
 -- ---- the changes of several steps
 
 -- From two places on, a byte stays: that of the old text at the first place is that of the new one
--- at the second. It lies before the changes, between two of them or behind them.
+-- at the second. It lies before the changes, between two of them or after them.
 abbrev pub StaysFrom : ℕ → ℕ → List Change → ℕ → ℕ → Type 0
 StaysFrom at at_new [] x y = (at ≤ x) × (y ≡ at_new + (x - at))
 StaysFrom at at_new (change ∷ changes) x y =
@@ -72,7 +72,7 @@ JoinsChanges changes current steps changes' =
     (steps ≤ 1 → changes' ≡ changes)
     × (2 ≤ steps → HasComposed changes current steps changes')
 
--- what a buffer keeps and tells of its last steps made one
+-- what a buffer keeps and returns of its last steps, joined into one
 abbrev pub KeepsJoined : ℕ → LimitedBuffer → LimitedBuffer → Type 0
 KeepsJoined steps old new =
     JoinsChanges old.changes old.state.current steps new.changes

@@ -100,7 +100,7 @@ pub record RowsOfListed (buffer : BufferState) (from to : ℕ) (template : List 
 
 -- Under this limit the replacement in the chosen buffer may be answered so, and leave this session. It
 -- is refused without a pattern, else if the template isn't UTF-8, else if the text would get too long;
--- and it may be refused for want of memory, but in place of the last of these only.
+-- and it may be refused for memory, but in place of the last of these only.
 abbrev pub StepByListed : ℕ → State → ℕ → ℕ → List ℕ → Result ℕ Fault → State → Type 0
 StepByListed limit old from to template (Ok count) new = IsUtf8 template
     × (GetsTooLongListed limit (chosen_buffer old) from to (chars template) → ⊥)

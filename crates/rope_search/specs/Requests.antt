@@ -4,16 +4,18 @@ use Rattle.rope_search_io.specs.declared.faults.Broken.{Broken}
 use Rattle.rope_search_io.specs.Sources.{SourceState}
 use Rattle.rope_search_io.specs.ReadBuffer.{Unread, Takes, TakesLast, TakesUntil}
 use Rattle.rope_search_io.specs.Utf8Judge.{Continues}
+use Rattle.rope_search_texts.specs.declared.arriving.ArrivingText.{ArrivingText}
+use Rattle.rope_search_texts.specs.Arriving.{Arrives}
 use Rattle.rope_search.specs.declared.command_lines.LineRead.{LineRead}
 use Rattle.rope_search.specs.declared.command_lines.LineRead.TheVariants.{Whole, Long, Part}
 use Rattle.rope_search.specs.declared.payloads.Collected.{Collected}
 use Rattle.rope_search.specs.declared.payloads.Collected.TheVariants.{Kept, Judged, Lost}
 use Rattle.rope_search.specs.declared.commands.CommandOf.{CommandOf}
 use Rattle.rope_search.specs.declared.requests.Request.{Request}
-use Rattle.rope_search.specs.declared.requests.Request.TheVariants.{Given, End}
+use Rattle.rope_search.specs.declared.requests.Request.TheVariants.{Text, Given, End}
 use Rattle.rope_search.specs.declared.endings.Ended.{Ended}
 use Rattle.rope_search.specs.declared.endings.Ended.TheVariants.{Input, Command, Cut}
-use Rattle.rope_search.specs.Order.{Order}
+use Rattle.rope_search.specs.Order.{Order, SetText}
 use Rattle.rope_search.specs.Stands.{limit_on}
 use Rattle.rope_search.specs.Header.{IsHeaderOf}
 use Rattle.rope_search.specs.Reads.{HasNoLf, SpellsOrder, Ends, payload_of}
@@ -40,33 +42,38 @@ Collects limit len (Judged judge) before =
     (limit < len) × ((more : List ℕ) → IsUtf8 (before ++ more) ↔ Continues judge more)
 Collects limit len Lost before = len ≤ limit
 
+-- what is kept of a payload so far, given a limit on its bytes, their number in all, and those
+-- before
+abbrev pub KeptSoFar : Type 0 → Type 1
+KeptSoFar K = ℕ → ℕ → K → List ℕ → Type 0
+
 -- what is kept after more bytes, from what was kept before
-abbrev pub CollectsMore : Collected → Collected → List ℕ → Type 0
-CollectsMore old new bytes =
-    (limit len : ℕ) (before : List ℕ) → Collects limit len old before
-    → Collects limit len new (before ++ bytes)
+abbrev pub GathersMore : {K : Type 0} → KeptSoFar K → K → K → List ℕ → Type 0
+GathersMore Keeps old new bytes =
+    (limit len : ℕ) (before : List ℕ) → Keeps limit len old before
+    → Keeps limit len new (before ++ bytes)
 
 -- a payload of this many bytes was taken, or fewer, before the end or before an error
-abbrev pub TakesPayload : Result Bool Broken → ℕ → Collected → Collected → Unread → Unread
+abbrev pub TakesPayload : {K : Type 0} → KeptSoFar K → Result Bool Broken → ℕ → K → K → Unread → Unread
     → SourceState → SourceState → Type 0
-TakesPayload (Ok true) len kept kept' old new source source' =
-    (bytes : List ℕ) × (length bytes ≡ len) × CollectsMore kept kept' bytes
+TakesPayload Keeps (Ok true) len kept kept' old new source source' =
+    (bytes : List ℕ) × (length bytes ≡ len) × GathersMore Keeps kept kept' bytes
     × Takes old new source source' bytes
-TakesPayload (Ok false) len kept kept' old new source source' =
+TakesPayload Keeps (Ok false) len kept kept' old new source source' =
     (bytes : List ℕ) × (length bytes < len) × TakesLast old new source source' bytes
-TakesPayload (Err broken) len kept kept' old new source source' =
+TakesPayload Keeps (Err broken) len kept kept' old new source source' =
     (bytes : List ℕ) × (length bytes < len) × TakesUntil broken old new source source' bytes
 
--- a payload of this many bytes was read, and collected under a limit on them; or the input ended
+-- a payload of this many bytes was read, and gathered under a limit on them; or the input ended
 -- before, or there was an error
-abbrev pub TakesCollected : Result (Option Collected) Broken → ℕ → ℕ → Unread → Unread → SourceState
-    → SourceState → Type 0
-TakesCollected (Ok (Some collected)) limit len old new source source' =
-    (bytes : List ℕ) × (length bytes ≡ len) × Collects limit len collected bytes
+abbrev pub TakesGathered : {K : Type 0} → KeptSoFar K → Result (Option K) Broken → ℕ → ℕ → Unread
+    → Unread → SourceState → SourceState → Type 0
+TakesGathered Keeps (Ok (Some kept)) limit len old new source source' =
+    (bytes : List ℕ) × (length bytes ≡ len) × Keeps limit len kept bytes
     × Takes old new source source' bytes
-TakesCollected (Ok None) limit len old new source source' =
+TakesGathered Keeps (Ok None) limit len old new source source' =
     (bytes : List ℕ) × (length bytes < len) × TakesLast old new source source' bytes
-TakesCollected (Err broken) limit len old new source source' =
+TakesGathered Keeps (Err broken) limit len old new source source' =
     (bytes : List ℕ) × (length bytes < len) × TakesUntil broken old new source source' bytes
 
 -- a header and what was kept of a payload are of this command, under a limit on the bytes of a text
@@ -75,13 +82,19 @@ pub record IsReadAs (limit : ℕ) (header : CommandOf ℕ) (kept : Collected)
   pub of_header : IsHeaderOf header order
   pub payload : Collects (limit_on header limit) (length (payload_of order)) kept (payload_of order)
 
--- all bytes of a command were taken
-pub record TakesOrder (limit : ℕ) (header : CommandOf ℕ) (kept : Collected) (old new : Unread)
+-- a text is that of a command that sets it, under a limit on its bytes
+pub record IsTextOf (limit : ℕ) (text : ArrivingText) (order : Order) : Type 0 where
+  pub payload : List ℕ
+  pub sets : order ≡ SetText payload
+  pub arrived : Arrives limit (length payload) text payload
+
+-- all bytes of a command of which this holds were taken
+pub record TakesOrder (Is : Order → Type 0) (old new : Unread)
     (source source' : SourceState) : Type 0 where
   pub order : Order
   pub bytes : List ℕ
   pub spells : SpellsOrder order bytes
-  pub is : IsReadAs limit header kept order
+  pub is : Is order
   pub taken : Takes old new source source' bytes
 
 -- after these bytes the source reported its end, except for a line that is no command
@@ -111,19 +124,21 @@ pub record TakesUnfinished (broken : Broken) (old new : Unread)
 -- a command was read whole, or the input ended, or there was an error
 abbrev pub TakesRequest : ℕ → Result Request Broken → Unread → Unread → SourceState → SourceState
     → Type 0
+TakesRequest limit (Ok (Text text)) old new source source' =
+    TakesOrder (IsTextOf limit text) old new source source'
 TakesRequest limit (Ok (Given header kept)) old new source source' =
-    TakesOrder limit header kept old new source source'
+    TakesOrder (IsReadAs limit header kept) old new source source'
 TakesRequest limit (Ok (End ending)) old new source source' =
     TakesEnding ending old new source source'
 TakesRequest limit (Err broken) old new source source' =
     TakesUnfinished broken old new source source'
 
--- the payload of a command with this header was taken
-pub record TakesRestOf (limit : ℕ) (header given : CommandOf ℕ) (kept : Collected)
-    (old new : Unread) (source source' : SourceState) : Type 0 where
+-- the payload of a command with this header was taken, and this holds of the command
+pub record TakesRestOf (header : CommandOf ℕ) (Is : Order → Type 0) (old new : Unread)
+    (source source' : SourceState) : Type 0 where
   pub order : Order
   pub of_header : IsHeaderOf header order
-  pub is : IsReadAs limit given kept order
+  pub is : Is order
   pub taken : Takes old new source source' (payload_of order)
 
 -- fewer bytes than the payload of a command with this header were taken
@@ -137,8 +152,10 @@ pub record TakesPartOf (header : CommandOf ℕ) (Taken : List ℕ → Type 0) : 
 -- what follows a command's line was read
 abbrev pub TakesRest : ℕ → CommandOf ℕ → Result Request Broken → Unread → Unread → SourceState
     → SourceState → Type 0
+TakesRest limit header (Ok (Text text)) old new source source' =
+    TakesRestOf header (IsTextOf limit text) old new source source'
 TakesRest limit header (Ok (Given given kept)) old new source source' =
-    TakesRestOf limit header given kept old new source source'
+    TakesRestOf header (IsReadAs limit given kept) old new source source'
 TakesRest limit header (Ok (End Cut)) old new source source' =
     TakesPartOf header (TakesLast old new source source')
 TakesRest limit header (Ok (End Input)) old new source source' = ⊥

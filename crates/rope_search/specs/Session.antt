@@ -36,7 +36,7 @@ chosen_buffer session = slice_index_or session.buffers session.chosen (fresh [])
 abbrev pub with_text : BufferState → List ℕ → BufferState
 with_text buffer text = record buffer { texts = text ∷ []; current = 0 }
 
--- the buffer with a further text, which becomes the current one; the texts behind the current one
+-- the buffer with a further text, which becomes the current one; the texts after the current one
 -- are dropped
 abbrev pub with_edit : BufferState → List ℕ → BufferState
 with_edit buffer text = record buffer {
@@ -93,7 +93,7 @@ no_buffer = record {
   pending = None;
 }
 
--- a buffer with one text and no pattern, under a limit, which tells of no call
+-- a buffer with one text and no pattern, under a limit, on which nothing was called
 abbrev pub fresh_buffer : ℕ → List ℕ → LimitedBuffer
 fresh_buffer limit text = record {
   limit = limit;

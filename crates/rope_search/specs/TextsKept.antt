@@ -1,4 +1,4 @@
--- In which ranges a buffer tells that its text was replaced; and what a session's buffers keep of a
+-- The ranges that a buffer returns as replaced in its text; and what a session's buffers keep of a
 -- command, of a pending pattern too.
 use Rattle.std.specs.Prelude.{◌≡◌, ℕ, ◌+◌, ◌≤◌, List, [], ◌∷◌, ◌++◌, map, None, Ok, Err, chars, slice_set}
 use Rattle.str_indices.specs.Text.{byte_len}
@@ -28,7 +28,7 @@ TellsAllText old new = new.text_changes
     ≡ ranges_of (whole_change (byte_len (current_text old.state))
     (byte_len (current_text new.state)) ∷ [])
 
--- the changes were made that lead to the text behind the one that was current: a range for each
+-- the changes were made that lead from the text that was current to the next one: a range for each
 abbrev pub TellsForward : LimitedBuffer → LimitedBuffer → Type 0
 TellsForward old new =
     new.text_changes ≡ ranges_of (changes_at old.changes (old.state.current + 1))
@@ -38,8 +38,8 @@ abbrev pub TellsBack : LimitedBuffer → LimitedBuffer → Type 0
 TellsBack old new =
     new.text_changes ≡ map turned_range (ranges_of (changes_at old.changes old.state.current))
 
--- no more rows come than lines stand from where the first change of what comes back starts to where
--- the last one ends
+-- at most as many rows are added as there are lines from the start of the first change of what comes
+-- back to the end of the last one
 abbrev pub AddsBack : LimitedBuffer → LimitedBuffer → Type 0
 AddsBack old new = new.changed.added ≤ lines_spanned (bytes_of (current_text (undone old.state)))
     (turned_changes 0 0 (changes_at old.changes old.state.current))
@@ -50,7 +50,7 @@ AddsOn old new = new.changed.added ≤ lines_spanned (bytes_of (current_text (re
 
 -- ---- the chosen buffer of a session
 
--- what the chosen buffer keeps and tells of a command that replaces its text, or its pattern
+-- what the chosen buffer keeps and returns of a command that replaces its text, or its pattern
 abbrev pub KeepsOf : Order → LimitedBuffer → LimitedBuffer → Type 0
 KeepsOf (SetText payload) old new =
     (new.changes ≡ [] ∷ []) × TellsText old new × TellsAllText old new × KeepsPending old new
@@ -83,7 +83,7 @@ abbrev pub KeepsEditsOf : List FullEdit → LimitedBuffer → LimitedBuffer → 
 KeepsEditsOf edits old new =
     KeepsEdits old edits new × TellsText old new × KeepsPending old new
 
--- by dropping all but so many undo steps
+-- by dropping all but the last undo steps, of this number
 abbrev pub KeepsSteps : ℕ → LimitedBuffer → LimitedBuffer → Type 0
 KeepsSteps steps old new =
     (new.changes ≡ changes_with_steps old.changes old.state.current steps)
@@ -105,7 +105,7 @@ KeepsAccepted old (EditText from to payload) new =
 KeepsAccepted old UndoEdit new = ChangesChosen (KeepsOf UndoEdit) old new
 KeepsAccepted old RedoEdit new = ChangesChosen (KeepsOf RedoEdit) old new
 KeepsAccepted old PrintText new = new.buffers ≡ old.buffers
--- a fork keeps nothing, and tells nothing
+-- a fork keeps nothing, and returns no ranges
 KeepsAccepted old ForkBuffer new = new.buffers ≡ old.buffers
     ++ fresh_buffer (chosen_in old).limit (current_text (chosen_in old).state) ∷ []
 KeepsAccepted old (SetPattern payload) new = ChangesChosen (KeepsOf (SetPattern payload)) old new

@@ -41,15 +41,15 @@ use ropey::Rope;
 use std::alloc::Global;
 use std::marker::Model;
 
-/// A text within a limit on its bytes, with its history; and where a pattern is set, the report of
-/// its matches. A fork shares the memory of the text.
+/// A text with its history, and a limit on its number of bytes. If a pattern is set, also the
+/// report of its matches. A fork shares the memory of the text.
 #[derive(Drop)]
 pub struct Buffer {
     alloc: Global,
     limits: Limits,
     history: History,
     search: Option<Search>,
-    // A pattern that is to take the place of that one, with the rows of the first lines.
+    // The pattern that is to replace that one, with the rows of the first lines.
     pending: Option<Search>,
     // Which rows of the report were replaced last.
     changed: Stretch,
@@ -85,7 +85,11 @@ impl Model for Buffer {
 }
 
 impl Buffer {
-    /// Returns a buffer with an empty text and no pattern. Errors: `Fault::Memory`.
+    /// Returns a buffer with an empty text and no pattern.
+    ///
+    /// # Errors
+    ///
+    /// `Fault::Memory`.
     pub fn new(alloc: Global, limits: Limits) -> Result<Buffer, Fault>
         ensures ok { IfOk result (λ buffer. buffer ≡ fresh_buffer limits.text []) }
         ensures err { IfErr result (λ fault. fault ≡ Fault.Memory) }
@@ -101,12 +105,12 @@ impl Buffer {
         })
     }
 
-    /// The allocator that the buffer was made with.
+    /// Returns the allocator that the buffer was created with.
     pub(crate) fn alloc(&self) -> Global {
         self.alloc
     }
 
-    /// The limits that the buffer was made with.
+    /// Returns the limits that the buffer was created with.
     pub(crate) fn limits(&self) -> Limits
         ensures { result.text ≡ self.now.limit }
     {
@@ -118,24 +122,26 @@ impl Buffer {
         ensures text { text_of result.now ≡ current_text self.now.state }
         ensures current { self.now.state.current < length self.now.state.texts }
 
-        // What is kept of changes leads from each text of the history to the next.
+        // The recorded changes lead from each text of the history to the next.
         ensures led { LeadOn self.now.state.texts self.now.changes }
     {
         self.history.current()
     }
 
-    /// Returns which rows of the report the last accepted call of those replaced that may: of
-    /// `set_text`, `edit`, `edit_all`, `undo`, `redo`, `set_pattern`, `off` and `replace`. All rows
-    /// before them and behind them are those of the report from before it. `O(1)`.
+    /// Returns which rows of the report were replaced by the last accepted call of `set_text`,
+    /// `edit`, `edit_all`, `undo`, `redo`, `set_pattern`, `off` and `replace`. All rows before and
+    /// after them are rows of the report before that call. `O(1)`.
     pub fn changed(&self) -> Stretch
         ensures { result ≡ self.now.changed }
     {
         self.changed
     }
 
-    /// Replaces the text, with a new history. The pattern stays, and its report is made anew.
+    /// Replaces the text and starts a new history. The pattern stays, and its report is rebuilt.
     ///
-    /// Errors, which leave the buffer as it was: `Fault::Size` for more bytes than the limit;
+    /// # Errors
+    ///
+    /// They leave the buffer as it was: `Fault::Size` if the text has more bytes than the limit;
     /// `Fault::Memory`.
     pub fn set_text(&mut self, tick: &mut Lines, text: &str) -> Result<(), Fault>
         ensures ok { OnOk result (self.new.state ≡ with_text self.old.state (chars text.now)) }
@@ -149,8 +155,8 @@ impl Buffer {
         ensures fault { IfErr result (λ fault. (fault ≡ Fault.Size) ⊎ (fault ≡ Fault.Memory)) }
         ensures err { OnErr result (self.new ≡ self.old) }
 
-        // A report that is made anew has a row for each line, which is counted; a text that is too
-        // long is searched nowhere.
+        // A new report has a row for each line, and each is counted; a text that is too long is not
+        // searched.
         ensures unsearched { result ≡ Err Fault.Size → tick.new ≡ tick.old }
         ensures rows { MakesAtMost (rows_anew self.old.state (chars text.now)) tick.old tick.new }
         ensures each { OnOk result
@@ -159,10 +165,29 @@ impl Buffer {
         if self.limits.text < text.len() {
             return Err(Fault::Size);
         }
-        // Nothing is copied that is refused.
+        // A text that is refused is not copied.
         let Ok(text) = Rope::from_str(self.alloc, text) else {
             return Err(Fault::Memory);
         };
+        self.set_rope(tick, text)
+    }
+
+    /// Replaces the text by that of a rope, as `set_text` does, under any limit. The only error is
+    /// `Fault::Memory`, which leaves the buffer as it was.
+    pub(crate) fn set_rope(&mut self, tick: &mut Lines, text: Rope) -> Result<(), Fault>
+        ensures ok { OnOk result (self.new.state ≡ with_text self.old.state (text_of text)) }
+        ensures changes { OnOk result (self.new.changes ≡ [] ∷ []) }
+        ensures changed { OnOk result (Replaces self.old.state self.new.state self.new.changed) }
+        ensures text_changes { OnOk result (TellsText self.old self.new) }
+        ensures whole { OnOk result (TellsAllText self.old self.new) }
+        ensures pending { OnOk result (KeepsPending self.old self.new) }
+        ensures limit { self.new.limit ≡ self.old.limit }
+        ensures fault { IfErr result (λ fault. fault ≡ Fault.Memory) }
+        ensures err { OnErr result (self.new ≡ self.old) }
+        ensures rows { MakesAtMost (rows_anew self.old.state (text_of text)) tick.old tick.new }
+        ensures each { OnOk result
+            (MakesAsMany (rows_anew self.old.state (text_of text)) tick.old tick.new) }
+    {
         let history = History::replacing(self.alloc, self.history.current(), text)?;
         // A law, for the proof alone.
         rope_search_reports::laws::a_row_a_line();
@@ -177,15 +202,20 @@ impl Buffer {
         Ok(())
     }
 
-    /// Replaces what stands from the first position to the second by a text. The pattern stays, and
-    /// of the report the rows of the lines that are touched are made anew. What could be redone is
-    /// dropped. `O(log n)`, and linear in the inserted text and in the lines that are touched;
-    /// where the number of lines changes, the rows behind them are moved. Inside a line that lies
-    /// in one chunk, before and after, it goes down the tree twice, and four times under a pattern.
+    /// Replaces the text between two positions. The pattern stays, and of the report only the rows
+    /// of the lines that the edit touches are rebuilt. What could be redone is dropped.
     ///
-    /// Errors, which leave the buffer as it was: `Fault::Range` where a position is nowhere in the
-    /// text or the second one is before the first, else `Fault::Size` where the new text would have
-    /// more bytes than the limit; `Fault::Memory`.
+    /// # Errors
+    ///
+    /// They leave the buffer as it was: `Fault::Range` if a position is nowhere in the text, or the
+    /// second is before the first; else `Fault::Size` if the new text would have more bytes than
+    /// the limit; `Fault::Memory`.
+    ///
+    /// # Complexity
+    ///
+    /// `O(log n)`, and linear in the inserted text and in the lines that are touched. If the number
+    /// of lines changes, the rows after them are moved. If the line is in one chunk before and
+    /// after the edit, the tree is descended twice, or four times under a pattern.
     pub fn edit(
         &mut self,
         tick: &mut Lines,
@@ -211,7 +241,7 @@ impl Buffer {
             (fault ≡ Fault.Range) ⊎ ((fault ≡ Fault.Size) ⊎ (fault ≡ Fault.Memory))) }
         ensures err { OnErr result (self.new ≡ self.old) }
 
-        // It makes at most as many rows as what it inserts has lines.
+        // At most one row is made for each line of the inserted text.
         ensures range_unsearched { result ≡ Err Fault.Range → tick.new ≡ tick.old }
         ensures size_unsearched { result ≡ Err Fault.Size → tick.new ≡ tick.old }
         ensures rows { MakesAtMost (rows_anew self.old.state (chars inserted.now))
@@ -230,7 +260,7 @@ impl Buffer {
             keep_before_change(&mut self.pending, &self.history);
             return Ok(());
         };
-        // All that may be refused comes before the first change.
+        // Everything that can be refused comes before the first change.
         let patches = search.patches(tick, self.alloc, old, &new, &[change])?;
         self.history.add(new, Changes::One(change))?;
         self.changed = patches.changed;
@@ -239,19 +269,23 @@ impl Buffer {
         Ok(())
     }
 
-    /// Makes several edits as one, all or none: each replaces what stands from one position to
-    /// another, all in terms of the text before any of them. They come in the order in which they
-    /// lie, and two may touch: texts that are put at one position come in their order. The pattern
-    /// stays, and of the report the rows of the lines that are touched are made anew. What could be
-    /// redone is dropped, also where there is no edit; one `undo` takes all back. `O(log n)` for
-    /// each edit, and linear in what is inserted and in the lines that are touched; where the
-    /// number of lines changes, the rows behind the first of them are moved.
+    /// Applies several edits as one: all of them or none. Each replaces the text between two
+    /// positions, which are those of the text before any of the edits. The edits are in ascending
+    /// order. Two may touch; texts inserted at one position stay in the order given. The pattern
+    /// stays, and of the report only the rows of the lines that the edits touch are rebuilt. What
+    /// could be redone is dropped, even if there are no edits. One `undo` takes all of them back.
     ///
-    /// Errors, which leave the buffer as it was: `Fault::Range` where a position is nowhere in the
-    /// text, the second of an edit is before its first, or an edit starts before the end of the one
-    /// before it; else `Fault::Utf8` where the bytes of one aren't UTF-8; else `Fault::Size` where
-    /// the new text would have more bytes than the limit. `Fault::Memory` may come in place of
-    /// these.
+    /// # Errors
+    ///
+    /// They leave the buffer as it was: `Fault::Range` if a position is nowhere in the text, the
+    /// second position of an edit is before its first, or an edit starts before the end of the
+    /// previous one; else `Fault::Utf8` if the bytes of one aren't UTF-8; else `Fault::Size` if the
+    /// new text would have more bytes than the limit. `Fault::Memory` may replace any of these.
+    ///
+    /// # Complexity
+    ///
+    /// `O(log n)` for each edit, and linear in the inserted texts and in the lines that are
+    /// touched. If the number of lines changes, the rows after the first of them are moved.
     pub fn edit_all(&mut self, tick: &mut Lines, edits: &[Edit<'_>]) -> Result<(), Fault>
         ensures ok { OnOk result
             (AreEdits self.old.state (map in_full edits.now) self.new.state) }
@@ -269,8 +303,8 @@ impl Buffer {
             (map in_full edits.now) fault) }
         ensures err { OnErr result (self.new ≡ self.old) }
 
-        // For each edit it makes at most as many rows as what it inserts has lines; and none where
-        // there is a reason to refuse them.
+        // For each edit, at most one row is made for each line of its inserted text; none if the
+        // edits are refused.
         ensures unsearched { (fault : Fault)
             → RefusesEdits self.old.limit (current_text self.old.state) (map in_full edits.now)
             fault → tick.new ≡ tick.old }
@@ -285,7 +319,7 @@ impl Buffer {
             keep_before_change(&mut self.pending, &self.history);
             return Ok(());
         };
-        // All that may be refused comes before the first change.
+        // Everything that can be refused comes before the first change.
         let patches = search.patches(tick, self.alloc, old, &text, &changes)?;
         self.history.add(text, Changes::Many(changes))?;
         self.changed = patches.changed;
@@ -294,8 +328,8 @@ impl Buffer {
         Ok(())
     }
 
-    /// The part between two positions of the current text that another text can replace. Else it
-    /// is refused as `edit` is.
+    /// Returns the part between two positions of the current text, which another text can replace.
+    /// It is refused as by `edit`.
     fn part_to_replace(&self, from: Position, to: Position, inserted: &str) -> Result<Part, Fault>
         ensures part { IfOk result (λ part.
             IsMarkedBetween (current_text self.now.state) from to part) }
@@ -321,8 +355,8 @@ impl Buffer {
         Ok(part)
     }
 
-    /// `Fault::Range` where no part of the current text lies between the two positions, and else
-    /// the other fault: the one of both that is told.
+    /// Returns `Fault::Range` if there is no part of the current text between the two positions,
+    /// and else the other fault. Of the two, this is the one to report.
     pub(crate) fn range_or(&self, from: Position, to: Position, other: Fault) -> Fault
         ensures { TellsRangeOr (current_text self.now.state) from to other result }
     {
@@ -332,14 +366,19 @@ impl Buffer {
         }
     }
 
-    /// Goes back to the text from before the last edit or replacement. The pattern stays, and of
-    /// the report the rows of the lines that come back are made anew. Without a pattern it
-    /// allocates nothing and takes `O(1)` time; with one, `O(log n)` for each change, and time
-    /// linear in the lines that come back; where the number of lines changes, the rows behind them
-    /// are moved.
+    /// Goes back to the text before the last edit or replacement. The pattern stays, and of the
+    /// report only the rows of the lines that come back are rebuilt.
     ///
-    /// Errors, which leave the buffer as it was: `Fault::Nothing` where there is no such text; with
-    /// a pattern, `Fault::Memory`.
+    /// # Errors
+    ///
+    /// They leave the buffer as it was: `Fault::Nothing` if there is no such text; with a pattern,
+    /// `Fault::Memory`.
+    ///
+    /// # Complexity
+    ///
+    /// Without a pattern `O(1)`, and nothing is allocated. With one, `O(log n)` for each change,
+    /// and linear in the lines that come back. If the number of lines changes, the rows after them
+    /// are moved.
     pub fn undo(&mut self, tick: &mut Lines) -> Result<(), Fault>
         ensures ok { OnOk result (self.new.state ≡ undone self.old.state) }
         ensures changed { OnOk result (Replaces self.old.state self.new.state self.new.changed) }
@@ -357,8 +396,8 @@ impl Buffer {
             (fault ≡ Fault.Nothing) ⊎ (fault ≡ Fault.Memory)) }
         ensures err { OnErr result (self.new ≡ self.old) }
 
-        // It makes at most as many rows as what comes back has lines, and never more than the text
-        // has.
+        // At most one row is made for each line that comes back, and never more than the text has
+        // lines.
         ensures unsearched { result ≡ Err Fault.Nothing → tick.new ≡ tick.old }
         ensures back { tick.new.count ≤ tick.old.count + rows_back self.old }
         ensures rows { MakesAtMost
@@ -383,8 +422,15 @@ impl Buffer {
         Ok(())
     }
 
-    /// Goes forward again to the text that was undone last, as `undo` goes back. Errors: as of
-    /// `undo`.
+    /// Goes forward to the text that was undone last.
+    ///
+    /// # Errors
+    ///
+    /// Those of `undo`.
+    ///
+    /// # Complexity
+    ///
+    /// That of `undo`.
     pub fn redo(&mut self, tick: &mut Lines) -> Result<(), Fault>
         ensures ok { OnOk result (self.new.state ≡ redone self.old.state) }
         ensures changed { OnOk result (Replaces self.old.state self.new.state self.new.changed) }
@@ -403,8 +449,8 @@ impl Buffer {
             (fault ≡ Fault.Nothing) ⊎ (fault ≡ Fault.Memory)) }
         ensures err { OnErr result (self.new ≡ self.old) }
 
-        // It makes at most as many rows as what comes back has lines, and never more than the text
-        // has.
+        // At most one row is made for each line that comes back, and never more than the text has
+        // lines.
         ensures unsearched { result ≡ Err Fault.Nothing → tick.new ≡ tick.old }
         ensures on { tick.new.count ≤ tick.old.count + rows_on self.old }
         ensures rows { MakesAtMost
@@ -427,22 +473,22 @@ impl Buffer {
         Ok(())
     }
 
-    /// Returns whether there is a text for `undo` to go back to. `O(1)`.
+    /// Returns whether `undo` can go back to a text. `O(1)`.
     pub fn can_undo(&self) -> bool
         ensures { IsTrue result ↔ (0 < self.now.state.current) }
     {
         self.history.previous().is_some()
     }
 
-    /// Returns whether there is a text for `redo` to go forward to. `O(1)`.
+    /// Returns whether `redo` can go forward to a text. `O(1)`.
     pub fn can_redo(&self) -> bool
         ensures { IsTrue result ↔ (self.now.state.current + 1 < length self.now.state.texts) }
     {
         self.history.next().is_some()
     }
 
-    /// Drops the history: all texts but the current one, with what changed from each to the next,
-    /// as `keep(0)` does. The current text, the pattern and its report stay.
+    /// Drops the history, as `keep(0)` does: all texts but the current one, and the changes between
+    /// them. The current text, the pattern and its report stay.
     pub fn forget(&mut self)
         ensures state { self.new.state
             ≡ with_text self.old.state (current_text self.old.state) }
@@ -457,10 +503,14 @@ impl Buffer {
         self.keep(0);
     }
 
-    /// Drops all undo steps but the last ones, as many as told, and what could be redone. The
-    /// current text, the pattern, its report and what `text_changes` returns stay. It is never
-    /// refused: the list of texts moves into less room if memory for that is granted, and else
-    /// keeps its room. Linear in the number of texts.
+    /// Drops all but the last `steps` undo steps, and what could be redone. The current text, the
+    /// pattern, its report and the result of `text_changes` stay. It is never refused: the list of
+    /// texts moves to a smaller allocation if memory for it is granted, and otherwise keeps its
+    /// own.
+    ///
+    /// # Complexity
+    ///
+    /// Linear in the number of texts.
     pub fn keep(&mut self, steps: usize)
         ensures state { self.new.state ≡ with_steps self.old.state steps }
         ensures changes { self.new.changes
@@ -473,19 +523,24 @@ impl Buffer {
         self.history.keep(self.alloc, steps);
     }
 
-    /// Makes the last undo steps one, as many as told: the texts directly before the current one,
-    /// one less than the steps, leave the history, and one `undo` goes back to the text before
-    /// them. `join(0)` and `join(1)` change nothing. The current text, what can be redone, the
-    /// pattern, its report and what `text_changes` and `changed` return stay.
+    /// Joins the last `steps` undo steps into one: the `steps - 1` texts directly before the
+    /// current one leave the history, so that one `undo` goes back to the text before all of them.
+    /// `join(0)` and `join(1)` change nothing. The current text, what can be redone, the pattern,
+    /// its report and the results of `text_changes` and `changed` stay.
     ///
-    /// The changes of the steps are put together: a byte that stays through all of them stays in
-    /// the joined step, and changes that touch are one. By these an `undo` or a `redo` of the
-    /// joined step makes the rows of its report, and `text_changes` then returns their ranges.
-    /// Time is linear in the changes of the steps, for each step, and in the texts that can be
+    /// The changes of the steps are composed: a byte that stays through all of them also stays in
+    /// the joined step, and changes that touch become one. An `undo` or `redo` of the joined step
+    /// rebuilds the rows of these changes, and `text_changes` then returns their ranges.
+    ///
+    /// # Errors
+    ///
+    /// They leave the buffer as it was: `Fault::Nothing` if there are fewer undo steps; for two
+    /// steps or more, `Fault::Memory`.
+    ///
+    /// # Complexity
+    ///
+    /// Linear, for each step, in the changes of the steps; and linear in the texts that can be
     /// redone.
-    ///
-    /// Errors, which leave the buffer as it was: `Fault::Nothing` where there are fewer undo steps;
-    /// for two steps or more, `Fault::Memory`.
     pub fn join(&mut self, steps: usize) -> Result<(), Fault>
         ensures state { OnOk result (self.new.state ≡ with_joined self.old.state steps) }
         ensures changes { OnOk result (JoinsChanges self.old.changes self.old.state.current steps
@@ -520,13 +575,16 @@ impl Buffer {
         self.history.redo_steps()
     }
 
-    /// Returns the number of ranges in which the last accepted call of those that replace the text
-    /// did so, and copies the first of them to `out`, as many as fit: of `set_text`, `edit`,
-    /// `edit_all`, `undo`, `redo` and `replace`. The ranges are in bytes, ascending, of the text
-    /// before that call and of the current one; two may touch, and either side may be empty. The
-    /// old text with each range replaced by the new text's is the new text. An edit has one range,
-    /// a replacement one for each match, and a new buffer has none. Time is linear in the ranges
-    /// that are copied.
+    /// Returns the number of ranges that the last accepted call of `set_text`, `edit`, `edit_all`,
+    /// `undo`, `redo` or `replace` replaced in the text, and copies the first ranges to `out`, as
+    /// many as fit. The ranges are ascending, in bytes of the text before that call and of the
+    /// current text; two may touch, and either side may be empty. The old text with each range
+    /// replaced by the new text's range is the new text. An edit has one range, a replacement one
+    /// for each match, and a new buffer none.
+    ///
+    /// # Complexity
+    ///
+    /// Linear in the ranges that are copied.
     pub fn text_changes(&self, out: &mut [TextChange]) -> usize
         ensures count { result ≡ length self.now.text_changes }
         ensures copied { out.new ≡ take (length out.old) self.now.text_changes
@@ -537,9 +595,11 @@ impl Buffer {
         changes.len()
     }
 
-    /// Returns the byte of the current text at which a position is. `O(log n)`.
+    /// Returns the byte offset of a position in the current text. `O(log n)`.
     ///
-    /// Errors: `Fault::Range` where it is nowhere in the text.
+    /// # Errors
+    ///
+    /// `Fault::Range` if the position is nowhere in the text.
     pub fn byte_of(&self, position: Position) -> Result<usize, Fault>
         ensures at { IfOk result (λ place.
             IsAt (current_text self.now.state) (position.line, position.column) place) }
@@ -553,10 +613,12 @@ impl Buffer {
         }
     }
 
-    /// Returns the position of a byte of the current text; between the CR and the LF of a break
-    /// that is one past the end of the line's text. `O(log n)`.
+    /// Returns the position of a byte offset in the current text. Between the CR and the LF of a
+    /// break, it is one past the end of the line's text. `O(log n)`.
     ///
-    /// Errors: `Fault::Range` where no character begins there and the text doesn't end there.
+    /// # Errors
+    ///
+    /// `Fault::Range` if the offset is neither the start of a character nor the text's length.
     pub fn position_of(&self, byte_idx: usize) -> Result<Position, Fault>
         ensures position { IfOk result (λ told.
             (told.line, told.column) ≡ position (current_text self.now.state) byte_idx) }
@@ -567,18 +629,20 @@ impl Buffer {
         ensures fault { IfErr result (λ fault. fault ≡ Fault.Range) }
     {
         let text = self.text();
-        // A boundary is where a range that is empty cuts no character.
+        // An offset is a boundary if an empty range at it cuts no character.
         if text.get_byte_slice(byte_idx..byte_idx).is_none() {
             return Err(Fault::Range);
         }
         Ok(position_of(text, byte_idx))
     }
 
-    /// Replaces the pattern, and makes the report.
+    /// Sets the pattern, in place of any other, and makes its report.
     ///
-    /// Errors, which leave the buffer as it was: `Fault::Limit` for more than 65,536 bytes, else
-    /// `Fault::Pattern` outside the grammar of patterns and `Fault::Limit` for a weight above
-    /// 262,144; `Fault::Memory`, which never hides that a pattern is too long.
+    /// # Errors
+    ///
+    /// They leave the buffer as it was: `Fault::Limit` for more than 65,536 bytes; else
+    /// `Fault::Pattern` if the text is not a pattern, and `Fault::Limit` if the pattern weighs more
+    /// than 262,144; `Fault::Memory`, which never hides that a pattern is too long.
     pub fn set_pattern(&mut self, tick: &mut Lines, pattern: &str) -> Result<(), Fault>
         ensures ok { OnOk result
             (self.new.state ≡ with_pattern self.old.state (Some (chars pattern.now))) }
@@ -597,8 +661,8 @@ impl Buffer {
             (fault ≡ Fault.Limit) ⊎ ((fault ≡ Fault.Pattern) ⊎ (fault ≡ Fault.Memory))) }
         ensures err { OnErr result (self.new ≡ self.old) }
 
-        // The report has a row for each line, which is counted; for what is no pattern nothing is
-        // searched.
+        // The report has a row for each line, and each is counted; nothing is searched if the text
+        // is not a pattern.
         ensures limit_unsearched { result ≡ Err Fault.Limit → tick.new ≡ tick.old }
         ensures unsearched { (IsPattern (chars pattern.now) → ⊥) → tick.new ≡ tick.old }
         ensures rows { MakesAtMost (line_count (current_text self.old.state)) tick.old tick.new }
@@ -633,7 +697,7 @@ impl Buffer {
     }
 
     /// Returns the report of the current text, or `None` without a pattern: a row for each line,
-    /// from the first, with the matches of the pattern in that line alone. `O(1)`.
+    /// from the first one, with the matches of the pattern in that line alone. `O(1)`.
     pub fn report(&self) -> Option<&[Row]>
         ensures rows { IfSome result (λ rows. IsReportIn self.now.state rows.now) }
         ensures none { (result ≡ None) ↔ (self.now.state.pattern ≡ None) }
@@ -645,20 +709,24 @@ impl Buffer {
         }
     }
 
-    /// Replaces all matches of the pattern in the whole current text by what the template stands
-    /// for at each, and returns their number. In a template `$` and a digit stand for the text of
-    /// that group, which is empty where the group is absent or not in the pattern; `$$` stands for
-    /// a dollar, and all else for itself. Matches that start or end between the CR and the LF of a
-    /// break are replaced too. The pattern stays, and of the report the rows of the lines that are
-    /// touched are made anew. What could be redone is dropped, also where there is no match.
+    /// Replaces each match of the pattern in the whole current text by the template's expansion,
+    /// and returns the number of matches. In a template, `$` and a digit are the text of that
+    /// group, which is empty if the group is absent or not in the pattern; `$$` is a dollar, and
+    /// everything else is itself. Matches that start or end between the CR and the LF of a break
+    /// are replaced too. The pattern stays, and of the report only the rows of the lines that are
+    /// touched are rebuilt. What could be redone is dropped, even if there is no match.
     ///
-    /// One search of a whole text is counted at most. Time is that of this search, and linear in
-    /// the matches, in what takes their places, in the lines that this touches, and where the
-    /// number of lines changes also in all lines.
+    /// # Errors
     ///
-    /// Errors, which leave the buffer as it was: `Fault::Nothing` without a pattern, else
-    /// `Fault::Size` where the template has more bytes than the limit, or the new text would;
-    /// `Fault::Memory`, which never hides that a template is too long.
+    /// They leave the buffer as it was: `Fault::Nothing` without a pattern, else `Fault::Size` if
+    /// the template or the new text has more bytes than the limit; `Fault::Memory`, which never
+    /// hides that a template is too long.
+    ///
+    /// # Complexity
+    ///
+    /// At most one search of a whole text is counted. Time is that of this search, and linear in
+    /// the matches, the expansions and the lines that they touch; if the number of lines changes,
+    /// also in all lines.
     pub fn replace(&mut self, tick: &mut Lines, template: &str) -> Result<usize, Fault>
         ensures ok { IfOk result (λ count.
             IsReplacement self.old.state (chars template.now) count self.new.state) }
@@ -680,8 +748,8 @@ impl Buffer {
             (fault ≡ Fault.Nothing) ⊎ ((fault ≡ Fault.Size) ⊎ (fault ≡ Fault.Memory))) }
         ensures err { OnErr result (self.new ≡ self.old) }
 
-        // For each match it makes at most as many rows as what takes its place has lines; and none
-        // where the new text would be too long.
+        // For each match, at most one row is made for each line of its expansion; none if the new
+        // text would be too long.
         ensures nothing_unsearched { result ≡ Err Fault.Nothing → tick.new ≡ tick.old }
         ensures size_unsearched { self.old.limit < length template.now → tick.new ≡ tick.old }
         ensures unmade { GetsTooLongWith self.old.limit self.old.state (chars template.now)
@@ -698,7 +766,7 @@ impl Buffer {
             return Err(Fault::Size);
         }
         let old = self.history.current();
-        // All that may be refused comes before the first change.
+        // Everything that can be refused comes before the first change.
         let replaced = search.replaced(tick, self.alloc, self.limits, old, template)?;
         self.history.add(replaced.text, replaced.changes)?;
         self.changed = replaced.patches.changed;
@@ -707,8 +775,12 @@ impl Buffer {
         Ok(replaced.count)
     }
 
-    /// Returns a buffer with the current text, a history of its own, and no pattern. The text is
-    /// shared. Errors: `Fault::Memory`.
+    /// Returns a buffer with the current text, a history of its own and no pattern. The text is
+    /// shared.
+    ///
+    /// # Errors
+    ///
+    /// `Fault::Memory`.
     pub fn fork(&self) -> Result<Buffer, Fault>
         ensures ok { IfOk result (λ buffer.
             buffer ≡ fresh_buffer self.now.limit (current_text self.now.state)) }

@@ -1,5 +1,5 @@
-//! Laws of what a session is asked and what it answers. Each function here does nothing: its
-//! contract is a law of the definitions by which the other contracts speak, proved.
+//! Laws of a session's commands and replies. Each function here does nothing: its contract is a
+//! proved law of the definitions that the other contracts use.
 
 ghost use Rattle.std.specs.Prelude.{ℕ, List};
 ghost use Rattle.rope_search.specs.Order.{Order, PrintText, ListMatches};
@@ -12,8 +12,8 @@ ghost use Rattle.rope_search.specs.LineColumns.{ReportsHaveColumns};
 ghost use Rattle.rope_search.specs.Pending.{FirstRowsAreOfReport};
 ghost use Rattle.rope_search.specs.Step.{Answer};
 
-/// The columns of a report's rows are columns of their lines' texts, so they have others in bytes and
-/// in characters.
+/// The columns of a report's rows are columns of their lines' texts, so they have equivalents in
+/// bytes and in characters.
 pub fn reports_have_columns()
     ensures { ReportsHaveColumns }
 {
@@ -25,8 +25,8 @@ pub fn one_reading()
     ensures { (input : List ℕ) → HasOneReading input }
 {}
 
-/// Apart from `error memory`, each command in each session of texts has exactly one reply and one
-/// session after it.
+/// Apart from `error memory`, each command in each session that holds texts has exactly one reply
+/// and exactly one session after it.
 pub fn one_step()
     ensures { (limit : ℕ) (session : State) (order : Order) → AllHoldTexts session
         → HasOneStep limit session order }
@@ -34,15 +34,15 @@ pub fn one_step()
     known();
 }
 
-/// The texts and patterns of a session are texts and patterns: so it is at first, and each command
-/// leaves it so.
+/// The texts and patterns of a session are texts and patterns: of a new session, and after each
+/// command.
 pub fn steps_hold_texts()
     ensures { StepsHoldTexts }
 {
     known();
 }
 
-/// Each command in each session of texts has exactly one cost.
+/// Each command in each session that holds texts has exactly one cost.
 pub fn one_cost()
     ensures { (limit : ℕ) (session : State) (order : Order) → AllHoldTexts session
         → HasOneCost limit session order }
@@ -50,12 +50,12 @@ pub fn one_cost()
     known();
 }
 
-/// What follows a line that is no command changes nothing that may be written.
+/// What follows a line that is not a command does not change what may be written.
 pub fn ends_at_bad_line()
     ensures { (limit : ℕ) (input : List ℕ) → EndsAtBadLine limit input }
 {}
 
-/// Each input, whatever its bytes, may be answered.
+/// Each input, whatever its bytes, has an answer.
 pub fn has_answer()
     ensures { (limit : ℕ) (input : List ℕ) → HasAnswer limit input }
 {
@@ -63,7 +63,7 @@ pub fn has_answer()
     rope_search_reports::laws::has_report();
 }
 
-/// Each answer in a session of texts is shown in exactly one way.
+/// Each answer in a session that holds texts is shown in exactly one way.
 pub fn one_show()
     ensures { (session : State) (answer : Answer) → AllHoldTexts session
         → HasOneShow session answer }
@@ -73,29 +73,29 @@ pub fn one_show()
 }
 
 /// Every command stands for some command of the definition, under every limit and whatever was kept
-/// of its payload. So what `Session::apply` promises of the commands that one stands for is said of
-/// each.
+/// of its payload. So the promises of `Session::apply`, which are about the commands that one
+/// stands for, apply to each.
 pub fn stands_for_some()
     ensures { (limit : ℕ) (command : CommandOf Payload) → StandsForSome limit command }
 {}
 
-/// An edit and directly after it an undo give back the text and the pattern, and so the report.
+/// An edit and then an undo restore the text and the pattern, and so the report.
 pub fn undo_undoes_edit()
     ensures { UndoUndoesEdit }
 {}
 
-/// So do a replacement and directly after it an undo.
+/// A replacement and then an undo restore them too.
 pub fn undo_undoes_replace()
     ensures { UndoUndoesReplace }
 {}
 
-/// An undo and directly after it a redo give back the text and the pattern, and so the report.
+/// An undo and then a redo restore the text and the pattern, and so the report.
 pub fn redo_redoes_undo()
     ensures { RedoRedoesUndo }
 {}
 
-/// Where the chosen buffers of two sessions have the same text and the same pattern, `list` and
-/// `print` are answered alike, whatever was edited before and in whichever session.
+/// If the chosen buffers of two sessions have the same text and the same pattern, `list` and
+/// `print` have the same answers, whatever was edited before in either session.
 pub fn replies_alike()
     ensures list { RepliesAlike ListMatches }
     ensures print { RepliesAlike PrintText }
@@ -103,24 +103,24 @@ pub fn replies_alike()
     rope_search_reports::laws::one_report();
 }
 
-/// So is `next` from a position, but for want of memory.
+/// So has `next` from the same position, unless it is refused for memory.
 pub fn finds_alike()
     ensures { FindsAlike }
 {
     known();
 }
 
-/// Each match that `next` tells starts at the place of its position or behind it, and starts and
-/// ends at boundaries of the text. The positions that are told are those of the two places.
+/// Each match that `next` returns starts at or after the position's offset, and starts and ends at
+/// boundaries of the text. The returned positions are those of its two offsets.
 pub fn finds_at_boundaries()
     ensures { FindsBoundaries }
 {
     rope_search_reports::laws::finds_are_in_text();
 }
 
-/// The matches that `replace` replaces are all those of the pattern in the whole text. They follow
-/// each other, and each starts and ends at a boundary of the text. All text outside of them stays,
-/// in order, and their number is told.
+/// The matches that `replace` replaces are all matches of the pattern in the whole text. They
+/// follow each other, and each starts and ends at a boundary of the text. All text outside them
+/// stays, in order. Their number is returned.
 pub fn replace_keeps_the_rest()
     ensures { ReplaceKeepsTheRest }
 {
@@ -128,34 +128,34 @@ pub fn replace_keeps_the_rest()
     rope_search_reports::laws::replacements_are_changes();
 }
 
-/// The positions of an edit that is accepted are at places of the text, the second not before the
-/// first, and the positions of these places are those positions again.
+/// The positions of an accepted edit are those of two offsets in the text, the second not before
+/// the first.
 pub fn edits_have_places()
     ensures { EditsHavePlaces }
 {}
 
-/// The report that a session keeps is the one that setting its pattern anew would give.
+/// The report that a session keeps is the one that setting its pattern again would make.
 pub fn kept_is_anew()
     ensures { KeptIsAnew }
 {
     rope_search_reports::laws::one_report();
 }
 
-/// The pattern that a buffer of texts has is refused for nothing but want of memory where it is set
-/// anew.
+/// If the pattern of a buffer that holds texts is set again, it is refused for no reason but
+/// memory.
 pub fn patterns_are_taken()
     ensures { PatternsAreTaken }
 {
     rope_search_reports::laws::one_of_three();
 }
 
-/// No command, whatever it is answered, changes a buffer that isn't chosen.
+/// No command, whatever its answer, changes a buffer that is not chosen.
 pub fn others_stay()
     ensures { OthersStay }
 {}
 
-/// Whatever commands came before, each match of the report starts and ends at a boundary of the
-/// text, and its columns are those of two positions of its line.
+/// After any commands, each match of the report starts and ends at a boundary of the text, and its
+/// columns are those of two positions of its line.
 pub fn matches_at_boundaries()
     ensures { ListsBoundaries }
 {
@@ -163,16 +163,15 @@ pub fn matches_at_boundaries()
     rope_search_reports::laws::matches_at_boundaries();
 }
 
-/// Nothing stands between two positions, and an edit is refused, exactly where one of them is
-/// nowhere in the text or the second is before the first.
+/// There is no part of the text between two positions, and an edit is refused, exactly if one of
+/// them is nowhere in the text or the second is before the first.
 pub fn none_is_nowhere_or_turned()
     ensures { NoneIsNowhereOrTurned }
 {
     rope_search_reports::laws::one_place();
 }
 
-/// What is known of places in texts, of patterns, of what is found of them and of what replaces
-/// that.
+/// The facts about offsets in texts, patterns, searches and replacements that these laws need.
 pub(crate) fn known()
     ensures { Known }
 {
@@ -192,8 +191,8 @@ pub fn text_changes_make_text()
     ensures { TextChangesMakeText }
 {}
 
-/// The pending rows of a buffer are the first rows of the report of its current text and its pending
-/// pattern.
+/// The pending rows of a buffer are the first rows of the report of its current text and its
+/// pending pattern.
 pub fn pending_rows_are_of_report()
     ensures { FirstRowsAreOfReport }
 {

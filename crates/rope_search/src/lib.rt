@@ -49,6 +49,7 @@ pub use rope_search_reports::{
     CallerInC, Finder, Groups, Lines, Position, Row, byte_of, find_all, find_from, groups_at,
     line_text, position_of, search_line,
 };
+pub use rope_search_texts::ArrivingText;
 pub use ropey::Rope;
 pub use runs::{run, run_limited};
 pub use session::Session;

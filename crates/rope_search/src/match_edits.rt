@@ -1,4 +1,4 @@
-//! Edits that replace one match of a report by what a template stands for.
+//! Edits that replace one match of a report by a template's expansion.
 ghost use Rattle.std.specs.Prelude.{◌≡◌, ℕ, ◌+◌, ◌^◌, ◌<◌, ◌≤◌, ◌↔◌, ◌⊎◌, List, [], ◌∷◌, map, option_map, chars, IsUtf8, None, Some, Err, IfOk, IfErr, OnOk, OnErr, slice_get, slice_index_or, string_bytes};
 ghost use Rattle.str_indices.specs.Text.{byte_len};
 ghost use Rattle.ropey.specs.Chunks.{text_of};
@@ -40,11 +40,11 @@ pub struct MatchEdit {
     pub from: Position,
     /// Where it ends.
     pub to: Position,
-    /// What comes in its place.
+    /// The text that replaces it.
     pub inserted: String,
 }
 
-/// The columns of a match that rows list, or none.
+/// Returns the columns of a match that rows list, or `None`.
 fn columns_at(rows: &[Row], line: usize, number: usize) -> Option<(usize, usize)>
     ensures { result ≡ slice_get (slice_index_or rows.now line []) number }
 {
@@ -58,16 +58,16 @@ fn columns_at(rows: &[Row], line: usize, number: usize) -> Option<(usize, usize)
     Some(row[number])
 }
 
-/// The byte of a line's text at which a column is, in UTF-16 code units; for a column inside a
-/// character that where it starts, and past the text's end that end.
+/// Returns the byte offset in a line's text of a column in UTF-16 code units. For a column inside a
+/// character it is the character's start; past the text's end, it is the end.
 fn byte_at(line: &RopeSlice<'_>, column: usize) -> usize
     ensures { result ≡ column_as Encoding.Utf8 (slice_text line.now) column }
 {
     line.char_to_byte(chars_up_to(line, Encoding::Utf16, column))
 }
 
-/// The span of a group, by two columns of a line, in bytes of the text in which the line starts at
-/// a byte.
+/// Returns the span of a group in bytes of the text, from two columns of a line that starts at byte
+/// `start`.
 fn span_from(
     start: usize,
     line: &RopeSlice<'_>,
@@ -86,7 +86,7 @@ fn span_from(
     }
 }
 
-/// The spans of a match's groups, which are told by columns of its line, in bytes of the text.
+/// Returns the spans of a match's groups in bytes of the text, from columns of the match's line.
 fn groups_in_text(text: &Rope, line: usize, groups: &Groups) -> Groups
     requires { line < line_count (text_of text.now) }
     ensures { result ≡ map (option_map (placed (text_of text.now) line)) groups.now }
@@ -103,9 +103,9 @@ fn groups_in_text(text: &Rope, line: usize, groups: &Groups) -> Groups
     placed
 }
 
-/// What a template stands for at a match of a text. It is refused with `Fault::Size` where the text
-/// with that in the match's place would have more bytes than the limit, and perhaps with
-/// `Fault::Memory`.
+/// Returns a template's expansion at a match of a text. It is refused with `Fault::Size` if the
+/// text, with the expansion in place of the match, would have more bytes than the limit, and
+/// possibly with `Fault::Memory`.
 fn expanded(
     alloc: Global,
     limits: Limits,
@@ -143,9 +143,9 @@ fn expanded(
 }
 
 impl Search {
-    /// The groups of a match of the report that a template needs, by their columns: the whole match
-    /// alone, if it names no other group, and else those that a search of the line finds, for which
-    /// one row is counted. It may be refused with `Fault::Memory` alone. The report is as before.
+    /// Returns the groups of a match of the report that a template needs, by their columns: the
+    /// whole match alone if it names no other group, and otherwise those that a search of the line
+    /// finds, which counts one row. It can be refused with `Fault::Memory` only. The report stays.
     fn groups_for(
         &mut self,
         tick: &mut Lines,
@@ -178,10 +178,10 @@ impl Search {
         Ok(groups)
     }
 
-    /// The edit that replaces the match of a number, from 0, in a line of a text by what a template
-    /// stands for. It is refused with `Fault::Range` where the report lists no such match, else
-    /// with `Fault::Size` where the new text would have more bytes than the limit, and perhaps with
-    /// `Fault::Memory`. The report is as before.
+    /// Returns the edit that replaces a match, by its line and its number in that row, from 0, by a
+    /// template's expansion. It is refused with `Fault::Range` if the report lists no such match,
+    /// else with `Fault::Size` if the new text would have more bytes than the limit, and possibly
+    /// with `Fault::Memory`. The report stays.
     pub fn match_edit(
         &mut self,
         tick: &mut Lines,
@@ -237,8 +237,8 @@ impl Search {
 }
 
 impl Buffer {
-    /// `Fault::Nothing` where there is no pattern, `Fault::Range` where the report lists no match
-    /// of a number in a line, and else the other fault: the one of these that is told.
+    /// Returns `Fault::Nothing` without a pattern, `Fault::Range` if the report lists no such
+    /// match, and else the other fault. Of the three, this is the one to report.
     pub(crate) fn match_or(&self, line: usize, number: usize, other: Fault) -> Fault
         ensures nothing { self.now.state.pattern ≡ None → result ≡ Fault.Nothing }
         ensures range { ListsNoMatch self.now.state line number → result ≡ Fault.Range }
@@ -257,23 +257,23 @@ impl Buffer {
         }
     }
 
-    /// Replaces one match of the report, by its line and its number in that row, from 0, by what
-    /// the template stands for, with the groups that the search of that line finds: as `edit` does
-    /// between the positions where the match starts and ends. In a template `$` and a digit stand
-    /// for the text of that group, as for `replace`. A template that names no group, or `$0` alone,
-    /// searches nothing before; else the line is searched once more, up to the match, and one row
-    /// is counted.
+    /// Replaces one match of the report, by its line and its number in that row, from 0, by the
+    /// template's expansion with the groups that the search of that line finds. It is the `edit`
+    /// between the positions where the match starts and ends. In a template, `$` and a digit are
+    /// the text of that group, as for `replace`. For a template that names no group, or `$0` alone,
+    /// nothing is searched before; otherwise the line is searched once more, up to the match, and
+    /// one row is counted.
     ///
     /// # Errors
     ///
-    /// They leave the buffer as it was. `Fault::Nothing` without a pattern, else `Fault::Range` if
+    /// They leave the buffer as it was: `Fault::Nothing` without a pattern, else `Fault::Range` if
     /// there is no such line, or no such match in it, else `Fault::Size` if the new text would have
     /// more bytes than the limit; `Fault::Memory`.
     ///
     /// # Complexity
     ///
-    /// That of `edit`, and linear in the template and in what it stands for; with groups also that
-    /// of `groups_at`.
+    /// That of `edit`, and linear in the template and its expansion; with groups also that of
+    /// `groups_at`.
     pub fn replace_match(
         &mut self,
         tick: &mut Lines,
@@ -301,7 +301,8 @@ impl Buffer {
             ⊎ ((fault ≡ Fault.Range) ⊎ ((fault ≡ Fault.Size) ⊎ (fault ≡ Fault.Memory)))) }
         ensures err { OnErr result (self.new ≡ self.old) }
 
-        // Beside the row for the groups it makes at most as many as what it inserts has lines.
+        // Besides the row for the groups, at most one row is made for each line of the inserted
+        // text.
         ensures nothing_unsearched { result ≡ Err Fault.Nothing → tick.new ≡ tick.old }
         ensures range_unsearched { result ≡ Err Fault.Range → tick.new ≡ tick.old }
         ensures size_unsearched { result ≡ Err Fault.Size
@@ -318,12 +319,12 @@ impl Buffer {
 }
 
 impl Session {
-    /// Replaces one match of the chosen buffer's report, as `Buffer::replace_match` does, and
-    /// answers as `Command::Edit` between the positions where the match starts and ends.
+    /// Replaces one match of the chosen buffer's report, as `Buffer::replace_match` does. The
+    /// result is that of `Command::Edit` between the positions where the match starts and ends.
     ///
     /// # Errors
     ///
-    /// They leave the session as it was. `Fault::Nothing` without a pattern, else `Fault::Range` if
+    /// They leave the session as it was: `Fault::Nothing` without a pattern, else `Fault::Range` if
     /// there is no such line, or no such match in it, else `Fault::Utf8` if the template is not
     /// UTF-8, else `Fault::Size` if the new text would have more bytes than the limit;
     /// `Fault::Memory`.
@@ -362,7 +363,7 @@ impl Session {
             → ¬ (IsUtf8 template.now) → result ≡ Err Fault.Utf8 }
         ensures err { OnErr result (self.new ≡ self.old) }
 
-        // Beside the row for the groups it makes at most as many as the edit costs.
+        // Besides the row for the groups, at most as many rows are made as the edit costs.
         ensures unsearched { ((chosen_buffer self.old.state).pattern ≡ None)
             ⊎ (ListsNoMatch (chosen_buffer self.old.state) line number
             ⊎ (¬ (IsUtf8 template.now))) → tick.new ≡ tick.old }

@@ -1,11 +1,23 @@
 //! Reads a command's payload.
 ghost use Rattle.std.specs.Prelude.{◌≡◌, ◌<◌, ◌≤◌, ◌++◌, [], List, ℕ, OnOk, length, take};
 ghost use Rattle.rope_search.specs.Stands.{StandsFor};
-ghost use Rattle.rope_search.specs.Requests.{Collects, CollectsMore, TakesPayload, TakesCollected};
+ghost use Rattle.rope_search.specs.Requests.{Collects, GathersMore, KeptSoFar, TakesGathered, TakesPayload};
+ghost use Rattle.rope_search_texts.specs.Arriving.{Arrives};
 
 use crate::commands::Payload;
 use rope_search_io::{Broken, ReadBuffer, Source, Utf8Judge};
+use rope_search_texts::ArrivingText;
 use std::alloc::{AllocError, Global};
+
+/// What gathers the bytes of a payload while it is read.
+pub trait Gather {
+    // What is kept of the bytes before, given a limit on the payload's bytes and their number.
+    ghost keeps: { KeptSoFar Self };
+
+    /// Adds the payload's next bytes; `left` is the number of bytes still to come, with these.
+    fn gather(&mut self, bytes: &[u8], left: u64)
+        ensures { GathersMore keeps self.old self.new bytes.now };
+}
 
 /// What is kept of a payload while it is read. It takes memory for at most twice the bytes that
 /// were read, and never for more than the line's number of bytes.
@@ -33,21 +45,6 @@ impl Collected {
         }
     }
 
-    /// Adds the payload's next bytes; `left` is the number of bytes still to come.
-    pub fn add(&mut self, bytes: &[u8], left: u64)
-        ensures { CollectsMore self.old self.new bytes.now }
-    {
-        match self {
-            Collected::Kept(kept) => {
-                if add_to(kept, bytes, left).is_err() {
-                    *self = Collected::Lost;
-                }
-            }
-            Collected::Judged(judge) => judge.feed(bytes),
-            Collected::Lost => {}
-        }
-    }
-
     /// Returns the payload, after all of it was read.
     pub fn payload(&self) -> Payload<'_>
         ensures stands { (limit : ℕ) (bytes : List ℕ) → Collects limit (length bytes) self.now bytes
@@ -61,6 +58,30 @@ impl Collected {
             },
             Collected::Lost => Payload::Lost,
         }
+    }
+}
+
+impl Gather for Collected {
+    ghost keeps = { Collects };
+
+    fn gather(&mut self, bytes: &[u8], left: u64) {
+        match self {
+            Collected::Kept(kept) => {
+                if add_to(kept, bytes, left).is_err() {
+                    *self = Collected::Lost;
+                }
+            }
+            Collected::Judged(judge) => judge.feed(bytes),
+            Collected::Lost => {}
+        }
+    }
+}
+
+impl Gather for ArrivingText {
+    ghost keeps = { Arrives };
+
+    fn gather(&mut self, bytes: &[u8], _left: u64) {
+        self.append(bytes);
     }
 }
 
@@ -90,14 +111,14 @@ fn front(bytes: &[u8], most: u64) -> &[u8]
 }
 
 /// Reads a payload of `len` bytes. Returns `false` if the input ended before that.
-pub fn read_payload<R: Source>(
+fn read_payload<R: Source, G: Gather>(
     read_buffer: &mut ReadBuffer,
     source: &mut R,
-    collected: &mut Collected,
+    gathered: &mut G,
     len: u64,
 ) -> Result<bool, Broken>
-    ensures { TakesPayload result len collected.old collected.new read_buffer.old read_buffer.new
-        (R.state source.old) (R.state source.new) }
+    ensures { TakesPayload G.keeps result len gathered.old gathered.new
+        read_buffer.old read_buffer.new (R.state source.old) (R.state source.new) }
 {
     let mut left = len;
     while left > 0 {
@@ -105,7 +126,7 @@ pub fn read_payload<R: Source>(
             return Ok(false);
         }
         let bytes = front(read_buffer.as_slice(), left);
-        collected.add(bytes, left);
+        gathered.gather(bytes, left);
         let count = bytes.len();
         read_buffer.consume(count);
         left -= count as u64;
@@ -122,12 +143,32 @@ pub fn collect<R: Source>(
     len: u64,
     most: usize,
 ) -> Result<Option<Collected>, Broken>
-    ensures { TakesCollected result most len read_buffer.old read_buffer.new (R.state source.old)
-        (R.state source.new) }
+    ensures { TakesGathered Collects result most len read_buffer.old read_buffer.new
+        (R.state source.old) (R.state source.new) }
 {
     let mut collected = Collected::new(alloc, len, most);
     if read_payload(read_buffer, source, &mut collected, len)? {
         Ok(Some(collected))
+    } else {
+        Ok(None)
+    }
+}
+
+/// Reads a text of `len` bytes, which is kept if they are at most `limit`. Returns `None` if the
+/// input ended before that.
+pub fn arrived<R: Source>(
+    read_buffer: &mut ReadBuffer,
+    source: &mut R,
+    alloc: Global,
+    len: u64,
+    limit: usize,
+) -> Result<Option<ArrivingText>, Broken>
+    ensures { TakesGathered Arrives result limit len read_buffer.old read_buffer.new
+        (R.state source.old) (R.state source.new) }
+{
+    let mut text = ArrivingText::new(alloc, len, limit);
+    if read_payload(read_buffer, source, &mut text, len)? {
+        Ok(Some(text))
     } else {
         Ok(None)
     }

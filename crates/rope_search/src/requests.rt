@@ -6,14 +6,17 @@ use crate::commands::Header;
 use crate::endings::Ended;
 use crate::headers::header_of;
 use crate::limits::Limits;
-use crate::payloads::{Collected, collect};
+use crate::payloads::{Collected, arrived, collect};
 use rope_search_io::{Broken, ReadBuffer, Source};
+use rope_search_texts::ArrivingText;
 use std::alloc::Global;
 
 /// The result of reading a command.
 #[derive(Drop)]
 pub enum Request {
-    /// A whole command, with what was kept of its payload.
+    /// The text of a command that sets it.
+    Text(ArrivingText),
+    /// Another whole command, with what was kept of its payload.
     Given(Header, Collected),
     /// How the input ended.
     End(Ended),
@@ -52,6 +55,12 @@ fn read_rest<R: Source>(
     ensures { TakesRest limits.text header result read_buffer.old read_buffer.new
         (R.state source.old) (R.state source.new) }
 {
+    if let Header::Text(len) = header {
+        return match arrived(read_buffer, source, alloc, len, limits.text)? {
+            Some(text) => Ok(Request::Text(text)),
+            None => Ok(Request::End(Ended::Cut)),
+        };
+    }
     let most = header.payload_limit(limits);
     match collect(read_buffer, source, alloc, header.payload_len(), most)? {
         Some(collected) => Ok(Request::Given(header, collected)),

@@ -144,6 +144,11 @@ fn turn<R: Source, W: Sink>(
     let limits = session.limits();
     match read_request(read_buffer, reader, alloc, limits)? {
         Request::End(ending) => Ok(Some(ending)),
+        Request::Text(text) => {
+            let answer = session.set_arrived(tick, text);
+            write_answer(session, answer, write_buffer, writer)?;
+            Ok(None)
+        }
         Request::Given(header, collected) => {
             let answer = session.apply(tick, header.with(collected.payload()));
             write_answer(session, answer, write_buffer, writer)?;

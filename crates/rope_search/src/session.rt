@@ -1,10 +1,11 @@
-//! A session: buffers, of which one is chosen.
+//! A session: numbered buffers, one of which is chosen.
 ghost use Rattle.std.specs.Prelude.{◌≡◌, ◌+◌, ◌<◌, ◌≤◌, ◌↔◌, [], ◌∷◌, ◌++◌, List, ℕ, length, take, drop, map, slice_index_or, Bool, chars, Err, OnOk, OnErr, IfOk, IfErr, IsOk, None, Some, ◌⊎◌};
 ghost use Rattle.rope_search.specs.Order.{SetText, EditText, UndoEdit, RedoEdit, SetPattern, DropPattern, ListMatches, FindNext, ReplaceAll};
 ghost use Rattle.rope_search.specs.Session.{opened_session, chosen_in, fresh, fresh_buffer, current_text, chosen_buffer, with_text, with_pattern, with_chosen};
 ghost use Rattle.rope_search_reports.specs.Pattern.{pattern_limit};
 ghost use Rattle.rope_search.specs.Laws.{HasCurrent, AllHoldTexts};
 ghost use Rattle.rope_search.specs.Step.{Step};
+ghost use Rattle.rope_search_texts.specs.Arriving.{Arrives};
 ghost use Rattle.rope_search.specs.Stands.{ForOrders, StandsFor, kept_of};
 ghost use Rattle.rope_search.specs.Cost.{Costs, SearchesFor};
 ghost use Rattle.rope_search_reports.specs.Ticks.{MakesAtMost, NeverFall, SearchesOneWhole};
@@ -31,17 +32,18 @@ use crate::stretches::Stretch;
 use crate::text_changes::TextChange;
 use rope_search_io::Fault;
 use rope_search_reports::{Groups, Lines, Position};
+use rope_search_texts::ArrivingText;
 use simdutf8::compat::from_utf8;
 use std::alloc::Global;
 use std::marker::Model;
 
-/// Buffers by number, from 0, and the chosen one. All have the same limits.
+/// Buffers, numbered from 0, and the chosen one. All have the same limits.
 pub struct Session {
     buffers: Vec<Buffer>,
     chosen: usize,
 }
 
-// Written out, so that no crate above proves anew how what it holds is let go.
+// Written out, so that no crate above has to prove again how the fields are dropped.
 impl Drop for Session {
     fn drop(self) {
         let Session {
@@ -78,7 +80,9 @@ impl Session {
     /// Returns a session with one buffer, which is chosen and has an empty text and no pattern. All
     /// buffers allocate from `alloc` and keep within `limits`. `O(1)`.
     ///
-    /// Errors: `Fault::Memory`.
+    /// # Errors
+    ///
+    /// `Fault::Memory`.
     pub fn new(alloc: Global, limits: Limits) -> Result<Session, Fault>
         ensures ok { IfOk result (λ session. session ≡ opened_session limits.text) }
         ensures err { IfErr result (λ fault. fault ≡ Fault.Memory) }
@@ -98,7 +102,7 @@ impl Session {
         ensures texts { AllHoldTexts self.now.state }
     {
         let buffer = &self.buffers[self.chosen];
-        // For its facts alone.
+        // For its contract alone.
         let _ = buffer.text();
         buffer
     }
@@ -118,10 +122,11 @@ impl Session {
         self.chosen
     }
 
-    /// Returns which rows of the chosen buffer's report the last accepted command on that buffer
-    /// replaced, or `edit_all` did; `fork`, `next`, `list` and `print` replace none, and don't count
-    /// here. All rows before them and behind them are those of the report from before it. A window
-    /// that is painted is right again once these rows are, and those behind them moved. `O(1)`.
+    /// Returns which rows of the chosen buffer's report were replaced by the last accepted command
+    /// on that buffer, or by `edit_all`. `fork`, `next`, `list` and `print` replace none and don't
+    /// count here. All rows before and after them are rows of the report before that call, so a
+    /// painted window is correct again when these rows are repainted and those after them are
+    /// moved. `O(1)`.
     pub fn changed(&self) -> Stretch
         ensures { result ≡
             slice_index_or self.now.changed self.now.state.chosen stretches.none }
@@ -129,8 +134,8 @@ impl Session {
         self.buffers[self.chosen].changed()
     }
 
-    /// Drops the chosen buffer's history, as `keep(0)` does: its current text stays, and so do its
-    /// pattern and its report. No other buffer changes.
+    /// Drops the chosen buffer's history, as `keep(0)` does. Its current text, its pattern and its
+    /// report stay. No other buffer changes.
     pub fn forget(&mut self)
         ensures state { self.new.state ≡ with_chosen self.old.state
             (with_text (chosen_buffer self.old.state)
@@ -142,10 +147,14 @@ impl Session {
         self.buffers[self.chosen].forget();
     }
 
-    /// Drops all undo steps of the chosen buffer but the last ones, as many as told, and what could
-    /// be redone. Its current text, its pattern, its report and what `text_changes` returns stay.
-    /// No other buffer changes. It is never refused: the list of texts moves into less room if
-    /// memory for that is granted, and else keeps its room. Linear in the number of texts.
+    /// Drops all but the last `steps` undo steps of the chosen buffer, and what could be redone.
+    /// Its current text, its pattern, its report and the result of `text_changes` stay. No other
+    /// buffer changes. It is never refused: the list of texts moves to a smaller allocation if
+    /// memory for it is granted, and otherwise keeps its own.
+    ///
+    /// # Complexity
+    ///
+    /// Linear in the number of texts.
     pub fn keep(&mut self, steps: usize)
         ensures state { self.new.state ≡ with_chosen self.old.state
             (with_steps (chosen_buffer self.old.state) steps) }
@@ -156,12 +165,14 @@ impl Session {
         self.buffers[self.chosen].keep(steps);
     }
 
-    /// Makes the last undo steps of the chosen buffer one, as many as told, as `Buffer::join` does:
-    /// the texts directly before the current one, one less than the steps, leave its history. All
-    /// else of it stays, and all other buffers. `join(0)` and `join(1)` change nothing.
+    /// Joins the last `steps` undo steps of the chosen buffer into one, as `Buffer::join` does: the
+    /// `steps - 1` texts directly before the current one leave its history. Everything else in it
+    /// stays, as do all other buffers. `join(0)` and `join(1)` change nothing.
     ///
-    /// Errors, which leave the session as it was: `Fault::Nothing` where there are fewer undo
-    /// steps; for two steps or more, `Fault::Memory`.
+    /// # Errors
+    ///
+    /// They leave the session as it was: `Fault::Nothing` if there are fewer undo steps; for two
+    /// steps or more, `Fault::Memory`.
     pub fn join(&mut self, steps: usize) -> Result<(), Fault>
         ensures state { OnOk result (self.new.state ≡ with_chosen self.old.state
             (with_joined (chosen_buffer self.old.state) steps)) }
@@ -178,9 +189,13 @@ impl Session {
         self.buffers[self.chosen].join(steps)
     }
 
-    /// Returns the number of ranges in which the last accepted call on the chosen buffer of those
-    /// that replace the text did so, and copies the first of them to `out`, as many as fit, as
-    /// `Buffer::text_changes` does. Time is linear in the ranges that are copied.
+    /// Returns the number of ranges that the last accepted call which replaces the text replaced in
+    /// the chosen buffer's text, and copies the first ranges to `out`, as many as fit, as
+    /// `Buffer::text_changes` does.
+    ///
+    /// # Complexity
+    ///
+    /// Linear in the ranges that are copied.
     pub fn text_changes(&self, out: &mut [TextChange]) -> usize
         ensures state { (chosen_in self.now).state ≡ chosen_buffer self.now.state }
         ensures count { result ≡ length (chosen_in self.now).text_changes }
@@ -190,12 +205,12 @@ impl Session {
         self.buffer().text_changes(out)
     }
 
-    /// The allocator that the session was made with.
+    /// Returns the allocator that the session was created with.
     pub(crate) fn alloc(&self) -> Global {
         self.buffer().alloc()
     }
 
-    /// The limits that the session was made with.
+    /// Returns the limits that the session was created with.
     pub(crate) fn limits(&self) -> Limits
         ensures { result.text ≡ self.now.limit }
     {
@@ -204,7 +219,9 @@ impl Session {
 
     /// Chooses a buffer by its number, from 0. `O(1)`.
     ///
-    /// Errors: `Fault::Nothing` where there is no such buffer; the session is then as it was.
+    /// # Errors
+    ///
+    /// They leave the session as it was: `Fault::Nothing` if there is no such buffer.
     pub fn choose(&mut self, number: u64) -> Result<(), Fault>
         ensures found { IsOk result ↔ (number < length self.old.state.buffers) }
         ensures ok { OnOk result (self.new ≡ record self.old {
@@ -222,10 +239,12 @@ impl Session {
     }
 
     /// Adds a buffer with the chosen one's text and no pattern, and returns its number, which is
-    /// how many buffers there were. The chosen one stays chosen. The text is shared: `O(1)`, but
-    /// that the list of buffers may be moved as it grows.
+    /// the number of buffers before. The chosen buffer stays chosen. The text is shared: `O(1)`,
+    /// except that the list of buffers may be moved when it grows.
     ///
-    /// Errors: `Fault::Memory`; the session is then as it was.
+    /// # Errors
+    ///
+    /// They leave the session as it was: `Fault::Memory`.
     pub fn fork(&mut self) -> Result<usize, Fault>
         ensures number { IfOk result (λ number. number ≡ length self.old.state.buffers) }
         ensures ok { OnOk result (self.new ≡ record {
@@ -247,32 +266,37 @@ impl Session {
         Ok(number)
     }
 
-    /// Carries out a command on the chosen buffer and returns the reply.
+    /// Executes a command on the chosen buffer and returns the reply.
     ///
-    /// Errors: of all faults that apply, the first in the order of `Fault::rank`, unless
-    /// `Fault::Memory` comes before it is found; the session is then as it was.
+    /// # Errors
     ///
-    /// Time, for a text of n bytes:
+    /// They leave the session as it was: of all faults that apply, the first in the order of
+    /// `Fault::rank`, unless `Fault::Memory` occurs before it is found.
+    ///
+    /// # Complexity
+    ///
+    /// For a text of n bytes:
     ///
     /// - `Text`, `Pattern`: linear in the payload; with a pattern, the whole text is searched, line
     ///   by line.
     /// - `Edit`: linear in the payload, and `O(log n)`; with a pattern, the lines that it touches
     ///   are searched, at most as many as the payload has.
-    /// - `Replace`: one search of the whole text, and linear in the matches and what takes their
-    ///   places, of which the lines are searched.
-    /// - `Undo`, `Redo`: `O(1)`; with a pattern, as the edit or replacement, of what comes back.
+    /// - `Replace`: one search of the whole text; linear in the matches and their expansions, whose
+    ///   lines are searched.
+    /// - `Undo`, `Redo`: `O(1)`; with a pattern, as for the edit or replacement, of what comes
+    ///   back.
     /// - `Next`: a search of the text up to the match.
     /// - `Off`: linear in the report, which it drops.
-    /// - All others: `O(1)`, but for what `fork` says.
+    /// - All others: `O(1)`, but see `fork`.
     ///
-    /// Where the number of lines changes under a pattern, the rows behind them are moved. `tick`
-    /// counts each line and each whole text that is searched.
+    /// If the number of lines changes under a pattern, the rows after them are moved. `tick` counts
+    /// each line and each whole text that is searched.
     pub fn apply(&mut self, tick: &mut Lines, command: Command<'_>) -> Result<Reply, Fault>
-        // What it answers and leaves is a step, for each command that this one stands for.
+        // The reply and the new state are a step, for each command that this one stands for.
         ensures step { ForOrders self.old.limit command.entry (λ order.
             Step self.old.limit self.old.state order result self.new.state) }
 
-        // Want of memory is told where the payload was lost, and not where it is too long.
+        // `Fault::Memory` is returned if the payload was lost, and never because it is too long.
         ensures lost { kept_of command.entry ≡ Some Payload.Lost → result ≡ Err Fault.Memory }
         ensures long { (utf8 : Bool) → kept_of command.entry ≡ Some (Payload.Long utf8)
             → result ≡ Err Fault.Memory → ⊥ }
@@ -283,16 +307,16 @@ impl Session {
         ensures searches { ForOrders self.old.limit command.entry (λ order.
             SearchesFor self.old.limit self.old.state order tick.old tick.new) }
 
-        // The chosen buffer tells which rows of its report were replaced.
+        // The chosen buffer returns which rows of its report were replaced.
         ensures changed { ForOrders self.old.limit command.entry (λ order.
             TellsAfter self.old.state order result self.new.state
             self.old.changed self.new.changed) }
 
-        // It keeps what led to its text, and tells in which ranges that was replaced.
+        // It keeps the changes that led to its text, and returns the ranges that were replaced.
         ensures kept { ForOrders self.old.limit command.entry (λ order.
             KeepsAfter self.old order result self.new) }
 
-        // Going back and forward searches no more lines than come back.
+        // Undo and redo search no more lines than come back.
         ensures few { ForOrders self.old.limit command.entry (λ order.
             MakesFew (chosen_in self.old) order tick.old tick.new) }
     {
@@ -318,11 +342,51 @@ impl Session {
         }
     }
 
-    /// Makes several edits of the chosen buffer as one, as `Buffer::edit_all` does: all in terms of
-    /// the text before any of them, all or none, and one `Command::Undo` takes them back.
+    /// Sets the chosen buffer's text to one that arrived whole, as `Command::Text` does to one that
+    /// was kept as bytes. The limit on its bytes is the one that it was created with.
     ///
-    /// Errors: of `Fault::Range`, `Fault::Utf8` and `Fault::Size` the first that applies, unless
-    /// `Fault::Memory` comes before it is found; the session is then as it was.
+    /// # Errors
+    ///
+    /// They leave the session as it was: those of `ArrivingText::finish`; `Fault::Memory`.
+    pub fn set_arrived(&mut self, tick: &mut Lines, text: ArrivingText) -> Result<Reply, Fault>
+        // The reply and the new state are a step, for the bytes that arrived.
+        ensures step { (bytes : List ℕ) → Arrives self.old.limit (length bytes) text bytes
+            → Step self.old.limit self.old.state (SetText bytes) result self.new.state }
+
+        // `Fault::Memory` is returned if the text was lost, and never because it is too long.
+        ensures lost { text ≡ ArrivingText.Lost → result ≡ Err Fault.Memory }
+        ensures long { (bytes : List ℕ) → Arrives self.old.limit (length bytes) text bytes
+            → self.old.limit < length bytes → result ≡ Err Fault.Memory → ⊥ }
+
+        ensures limit { self.new.limit ≡ self.old.limit }
+
+        // It searches no more than the command costs.
+        ensures searches { (bytes : List ℕ) → Arrives self.old.limit (length bytes) text bytes
+            → SearchesFor self.old.limit self.old.state (SetText bytes) tick.old tick.new }
+
+        // The chosen buffer returns which rows of its report were replaced.
+        ensures changed { (bytes : List ℕ) → Arrives self.old.limit (length bytes) text bytes
+            → TellsAfter self.old.state (SetText bytes) result self.new.state
+            self.old.changed self.new.changed }
+
+        // It keeps no changes, and returns the range that was replaced.
+        ensures kept { (bytes : List ℕ) → Arrives self.old.limit (length bytes) text bytes
+            → KeepsAfter self.old (SetText bytes) result self.new }
+    {
+        let rope = text.finish()?;
+        // For the proof: the text's facts.
+        let _ = rope.len_bytes();
+        self.buffers[self.chosen].set_rope(tick, rope)?;
+        Ok(Reply::Done)
+    }
+
+    /// Applies several edits to the chosen buffer as one, as `Buffer::edit_all` does: all of them
+    /// or none, all in terms of the text before any of them. One `Command::Undo` takes them back.
+    ///
+    /// # Errors
+    ///
+    /// They leave the session as it was: of `Fault::Range`, `Fault::Utf8` and `Fault::Size` the
+    /// first that applies, unless `Fault::Memory` occurs before it is found.
     pub fn edit_all(&mut self, tick: &mut Lines, edits: &[Edit<'_>]) -> Result<(), Fault>
         ensures step { StepByEdits self.old.limit self.old.state (map in_full edits.now) result
             self.new.state }
@@ -334,7 +398,7 @@ impl Session {
             (ChangesChosen (KeepsEditsOf (map in_full edits.now)) self.old self.new) }
         ensures still { OnErr result (self.new.buffers ≡ self.old.buffers) }
 
-        // It searches no more lines than the edits have, and none where they are refused.
+        // It searches no more lines than the edits have, and none if they are refused.
         ensures unsearched { (fault : Fault) → RefusesEdits self.old.limit
             (current_text (chosen_buffer self.old.state)) (map in_full edits.now) fault
             → tick.new ≡ tick.old }
@@ -348,11 +412,13 @@ impl Session {
     }
 
     /// Returns the groups 0 to 9 of a match of the chosen buffer's report, by its line and its
-    /// number in that row, from 0, as `Buffer::groups_at` does: that line alone is searched, and one
-    /// row counted whatever is answered, where the report has that row.
+    /// number in that row, from 0, as `Buffer::groups_at` does. That line alone is searched. One
+    /// row is counted whatever the result, if the report has that row.
     ///
-    /// Errors: `Fault::Nothing` without a pattern, else `Fault::Range` where there is no such line,
-    /// or no such match in it; `Fault::Memory`. The session is as it was, whatever is answered.
+    /// # Errors
+    ///
+    /// They leave the session as it was: `Fault::Nothing` without a pattern, else `Fault::Range` if
+    /// there is no such line, or no such match in it; `Fault::Memory`.
     pub fn groups_at(
         &mut self,
         tick: &mut Lines,
@@ -366,8 +432,8 @@ impl Session {
         self.buffers[self.chosen].groups_at(tick, line, number)
     }
 
-    /// The edit that replaces a match of the chosen buffer's report by what a template stands for,
-    /// as `Buffer::match_edit` has it. The session is as it was, whatever is answered.
+    /// Returns the edit that replaces a match of the chosen buffer's report by a template's
+    /// expansion, as `Buffer::match_edit` does. The session is as it was, whatever the result.
     pub(crate) fn match_edit(
         &mut self,
         tick: &mut Lines,
@@ -384,7 +450,7 @@ impl Session {
         self.buffers[self.chosen].match_edit(tick, line, number, template)
     }
 
-    // Makes the payload the chosen buffer's text.
+    // Sets the chosen buffer's text to the payload.
     fn set_text(&mut self, tick: &mut Lines, payload: Payload<'_>) -> Result<Reply, Fault>
         ensures step { (bytes : List ℕ) → StandsFor self.old.limit payload.entry bytes
             → Step self.old.limit self.old.state (SetText bytes) result self.new.state }
@@ -421,8 +487,7 @@ impl Session {
         }
     }
 
-    // Puts the payload in the place of what stands between two positions of the chosen buffer's
-    // text.
+    // Replaces the chosen buffer's text between two positions by the payload.
     fn edit(
         &mut self,
         tick: &mut Lines,
@@ -503,7 +568,7 @@ impl Session {
         Ok(Reply::Done)
     }
 
-    // Makes the payload the chosen buffer's pattern.
+    // Sets the chosen buffer's pattern to the payload.
     fn set_pattern(&mut self, tick: &mut Lines, payload: Payload<'_>) -> Result<Reply, Fault>
         ensures step { (bytes : List ℕ) → StandsFor pattern_limit payload.entry bytes
             → Step self.old.limit self.old.state (SetPattern bytes) result self.new.state }
@@ -556,7 +621,7 @@ impl Session {
         Reply::Done
     }
 
-    // Tells that the chosen buffer's report is to be shown, where it has one.
+    // Returns that the chosen buffer's report is to be shown, if it has one.
     fn list(&self) -> Result<Reply, Fault>
         ensures { Step self.now.limit self.now.state ListMatches result self.now.state }
     {
@@ -566,7 +631,7 @@ impl Session {
         }
     }
 
-    // Tells the first match in the chosen buffer's text at a position or behind it.
+    // Returns the first match in the chosen buffer's text at or after a position.
     fn find_next(&mut self, tick: &mut Lines, from: Position) -> Result<Reply, Fault>
         ensures step { Step self.old.limit self.old.state (FindNext from) result self.new.state }
         ensures limit { self.new.limit ≡ self.old.limit }
@@ -578,7 +643,7 @@ impl Session {
         Ok(reply_for(found))
     }
 
-    // Replaces all matches in the chosen buffer's text by what the payload stands for at each.
+    // Replaces each match in the chosen buffer's text by the expansion of the payload.
     fn replace(&mut self, tick: &mut Lines, payload: Payload<'_>) -> Result<Reply, Fault>
         ensures step { (bytes : List ℕ) → StandsFor self.old.limit payload.entry bytes
             → Step self.old.limit self.old.state (ReplaceAll bytes) result self.new.state }
@@ -618,7 +683,7 @@ impl Session {
     }
 }
 
-/// The reply that tells the positions of a match, or that there is none.
+/// Returns the reply with the positions of a match, or that there is none.
 fn reply_for(found: Option<(Position, Position)>) -> Reply
     ensures { result ≡ finding.reply_for found }
 {

@@ -1,7 +1,7 @@
 //! An example for each public type of `rope_search`. Its README shows the first two.
 use rope_search::{
-    Buffer, Command, Edit, Ended, Fault, Groups, Limits, Lines, MemorySink, MemorySource, Mistake,
-    Payload, Position, Reason, Refusal, Reply, Session, pattern_error, run,
+    ArrivingText, Buffer, Command, Edit, Ended, Fault, Groups, Limits, Lines, MemorySink,
+    MemorySource, Mistake, Payload, Position, Reason, Refusal, Reply, Session, pattern_error, run,
 };
 use std::test::Fail;
 
@@ -31,6 +31,28 @@ fn a_pattern_in_a_text(rt: HostRuntime) -> Result<(), Fail> {
     for (row, matches) in report.iter().zip(expected) {
         assert!(rt; row.matches() == matches);
     }
+    Ok(())
+}
+
+// The same for a text that arrived.
+fn set_arrived(
+    session: &mut Session,
+    tick: &mut Lines,
+    text: ArrivingText,
+) -> Result<Reply, Fault> {
+    session.set_arrived(tick, text)
+}
+
+/// `ArrivingText` and `Session::set_arrived`: a text that is read in parts, and held once.
+#[test]
+fn a_text_that_arrives(rt: HostRuntime) -> Result<(), Fail> {
+    let mut tick = Lines::new(&rt);
+    let mut session = session_of(&rt, &mut tick, b"a frog", b"o")?;
+    let mut text = ArrivingText::new(rt.alloc(), 6, 100);
+    text.append(b"a to");
+    text.append(b"ad");
+    assert!(rt; set_arrived(&mut session, &mut tick, text)? == Reply::Done);
+    assert!(rt; session.buffer().text().eq_str("a toad"));
     Ok(())
 }
 

@@ -1,5 +1,7 @@
 //! Examples of sources and sinks of bytes, one for each type.
-use rope_search::{Broken, Device, Failed, Fault, MemorySink, MemorySource, Sink, Source};
+use rope_search::{
+    ArrivingText, Broken, Device, Failed, Fault, MemorySink, MemorySource, Sink, Source,
+};
 use rope_search_io::{ReadBuffer, Utf8Judge, WriteBuffer, write_all};
 use std::test::Fail;
 
@@ -84,6 +86,29 @@ fn a_utf8_judge(rt: HostRuntime) {
     assert!(rt; judge.is_utf8());
     judge.feed(b"\xff");
     assert!(rt; !judge.is_utf8());
+}
+
+/// A text arrives in parts, which may split characters. It is a rope in the end, or refused.
+#[test]
+fn an_arriving_text(rt: HostRuntime) -> Result<(), Fail> {
+    let mut text = ArrivingText::new(rt.alloc(), 6, 100);
+    // A part may end inside a character.
+    text.append(b"a \xF0\x9F");
+    text.append(b"\x90\xB8");
+    assert!(rt; text.finish()?.eq_str("a 🐸"));
+    let mut text = ArrivingText::new(rt.alloc(), 2, 100);
+    text.append(b"a\xC3");
+    assert!(rt;
+        text.finish().is_err_and(|fault| fault == Fault::Utf8),
+        "a part of a character"
+    );
+    let mut text = ArrivingText::new(rt.alloc(), 2, 1);
+    text.append(b"ab");
+    assert!(rt;
+        text.finish().is_err_and(|fault| fault == Fault::Size),
+        "over the limit"
+    );
+    Ok(())
 }
 
 /// A fault is shown by its word. Of the faults that apply to a command, the one with the least rank

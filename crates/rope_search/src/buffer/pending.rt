@@ -20,7 +20,7 @@ use rope_search_reports::{Finder, Lines, Row, rows_of_lines};
 use ropey::Rope;
 use std::alloc::Global;
 
-/// How many of the lines that are done are before the last change of a history's text.
+/// Returns how many of the lines that are done are before the last change of a history's text.
 fn lines_kept(history: &History, done: usize) -> usize
     requires { (old : List ℕ) × AreTextChanges old
         (text_at history.now.texts history.now.current)
@@ -62,8 +62,8 @@ pub(super) fn keep_before_change(pending: &mut Option<Search>, history: &History
 }
 
 impl Search {
-    /// Makes the rows of up to `max_lines` further lines, after those of the first lines. It may be
-    /// refused with `Fault::Memory` alone; the rows are then as before.
+    /// Searches up to `max_lines` further lines, after the first lines, and adds their rows. It can
+    /// be refused with `Fault::Memory` only; the rows are then as before.
     fn search_further(
         &mut self,
         tick: &mut Lines,
@@ -87,7 +87,7 @@ impl Search {
     {
         let done = self.rows.len();
         let left = text.len_lines() - done;
-        // There is room before the first line is searched.
+        // Room is reserved before the first line is searched.
         self.rows.reserve(left)?;
         let end = done + left.min(max_lines);
         let mut made = rows_of_lines(tick, alloc, &mut self.finder, text, done, end)?;
@@ -95,8 +95,8 @@ impl Search {
         Ok(())
     }
 
-    /// The rows of those of the lines `from` up to `to` that have none yet, as far as there are such.
-    /// It may be refused with `Fault::Memory` alone. The rows that there are stay.
+    /// Returns the rows of those of the lines `from` up to `to` that exist and have no row yet. It
+    /// can be refused with `Fault::Memory` only. The existing rows stay.
     fn rows_in_window(
         &mut self,
         tick: &mut Lines,
@@ -182,7 +182,7 @@ impl Buffer {
             (fault ≡ Fault.Nothing) ⊎ (fault ≡ Fault.Memory)) }
         ensures err { OnErr result (self.new ≡ self.old) }
 
-        // A row is made for each line that is searched.
+        // One row is made for each line that is searched.
         ensures unsearched { result ≡ Err Fault.Nothing → tick.new ≡ tick.old }
         ensures rows { MakesAtMost max_lines tick.old tick.new }
         ensures each { OnOk result
@@ -246,7 +246,7 @@ impl Buffer {
             (fault ≡ Fault.Nothing) ⊎ (fault ≡ Fault.Memory)) }
         ensures same { self.new ≡ self.old }
 
-        // A row is made for each line that is not done.
+        // One row is made for each line that is not done.
         ensures unsearched { result ≡ Err Fault.Nothing → tick.new ≡ tick.old }
         ensures count { MakesAtMost (min (to - from) (lines_left self.old)) tick.old tick.new }
         ensures each { IfOk result (λ made.

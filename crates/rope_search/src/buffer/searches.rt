@@ -15,14 +15,19 @@ use rope_search_io::Fault;
 use rope_search_reports::{Groups, Lines, Position};
 
 impl Buffer {
-    /// Returns the first match of the pattern in the whole current text that starts at a position
-    /// or behind it, as the positions of its start and end, or `None`. Looks see what stands before
-    /// the position. A place between the CR and the LF of a break has the position one past its
-    /// line's text. One search of a whole text is counted at most; time is that of a search up to
-    /// the match.
+    /// Returns the positions of the start and end of the first match of the pattern in the whole
+    /// current text that starts at or after a position, or `None`. Look-around assertions see the
+    /// text before the position. An offset between the CR and the LF of a break has the position
+    /// one past its line's text.
     ///
-    /// Errors, which leave the buffer as it was: `Fault::Nothing` without a pattern, else
-    /// `Fault::Range` where the position is nowhere in the text; `Fault::Memory`.
+    /// # Errors
+    ///
+    /// They leave the buffer as it was: `Fault::Nothing` without a pattern, else `Fault::Range` if
+    /// the position is nowhere in the text; `Fault::Memory`.
+    ///
+    /// # Complexity
+    ///
+    /// At most one search of a whole text is counted. Time is that of a search up to the match.
     pub fn next_from(
         &mut self,
         tick: &mut Lines,
@@ -82,15 +87,20 @@ impl Buffer {
     }
 
     /// Returns the groups 0 to 9 of a match of the report, by its line and its number in that row,
-    /// from 0: of each the columns where it starts and where it ends, in UTF-16 code units from the
-    /// line's start. Group 0 is the match; one that the pattern doesn't have, or that takes no part
-    /// in the match, is `None`. A row keeps no groups, so its line is searched once more, by itself
-    /// and up to the match: one row is counted whatever is answered, where the report has that row.
-    /// Time is linear in the line, times the pattern's weight, and `O(log n)` for each group.
+    /// from 0: for each group the columns where it starts and ends, in UTF-16 code units from the
+    /// line's start. Group 0 is the match. A group that the pattern doesn't have, or that takes no
+    /// part in the match, is `None`.
     ///
-    /// Errors, which leave the buffer as it was: `Fault::Nothing` without a pattern, else
-    /// `Fault::Range` where there is no such line, which is told without a search, or no such match
-    /// in it; `Fault::Memory`.
+    /// # Errors
+    ///
+    /// They leave the buffer as it was: `Fault::Nothing` without a pattern, else `Fault::Range` if
+    /// there is no such line, which needs no search, or no such match in it; `Fault::Memory`.
+    ///
+    /// # Complexity
+    ///
+    /// A row keeps no groups, so its line is searched once more, up to the match: linear in the
+    /// line, times the pattern's weight, and `O(log n)` for each group. One row is counted whatever
+    /// the result, if the report has that row.
     pub fn groups_at(
         &mut self,
         tick: &mut Lines,
@@ -108,11 +118,11 @@ impl Buffer {
         Ok(groups)
     }
 
-    /// The edit that replaces a match of the report, by its line and its number in that row, by
-    /// what a template stands for. It is refused with `Fault::Nothing` without a pattern, else with
-    /// `Fault::Range` where no such match is listed, else with `Fault::Size` where the new text
-    /// would have more bytes than the limit, and perhaps with `Fault::Memory`. The buffer is as it
-    /// was, whatever is answered.
+    /// Returns the edit that replaces a match of the report, by its line and its number in that
+    /// row, by a template's expansion. It is refused with `Fault::Nothing` without a pattern, else
+    /// with `Fault::Range` if no such match is listed, else with `Fault::Size` if the new text
+    /// would have more bytes than the limit, and possibly with `Fault::Memory`. The buffer is as it
+    /// was, whatever the result.
     pub(crate) fn match_edit(
         &mut self,
         tick: &mut Lines,
@@ -135,8 +145,8 @@ impl Buffer {
         Ok(edit)
     }
 
-    /// `Fault::Nothing` where there is no pattern, and else the other fault: the one of both that
-    /// is told.
+    /// Returns `Fault::Nothing` without a pattern, and else the other fault. Of the two, this is
+    /// the one to report.
     pub(crate) fn nothing_or(&self, other: Fault) -> Fault
         ensures { MatchOption self.now.state.pattern (result ≡ Fault.Nothing)
             (λ pattern. result ≡ other) }

@@ -1,8 +1,11 @@
 use Rattle.std.proofs.Common.{◌≡◌, [], ◌++◌, ◌+◌, ◌-◌, ◌≤◌, List, ℕ, length, take, sym, ap, ◌∙◌, subst, arith, length-append}
 use Rattle.rope_search_io.specs.ReadBuffer.{Takes}
-use Rattle.rope_search.proofs.PayloadLemmas.{CollectsMore-trans}
-use Rattle.rope_search.proofs.TakesLemmas.{Takes-trans, Takes-front}
+use Rattle.rope_search.proofs.PayloadLemmas.{GathersMore-none, GathersMore-trans}
+use Rattle.rope_search.proofs.TakesLemmas.{Takes-nil, Takes-trans, Takes-front}
 use Rattle.rope_search.proofs.payloads.read_payload.Goals as goal
+
+pub loop-left-init : goal.loop-left-init
+loop-left-init g c = ([], omega arith, GathersMore-none g.G.Gather.keeps _, Takes-nil _ _)
 
 pub loop-left-preserved : goal.loop-left-preserved
 loop-left-preserved g c =
@@ -19,6 +22,6 @@ loop-left-preserved g c =
     omega (arith, before.1, length-append before.0 part, c.front-bytes.ensures.most) in (
       before.0 ++ part,
       left,
-      CollectsMore-trans _ _ _ before.0 part before.2 c.add.ensures,
+      GathersMore-trans g.G.Gather.keeps _ _ _ before.0 part before.2 c.gather.ensures,
       Takes-trans _ _ _ _ _ _ before.0 part before.3 (Takes-trans _ _ _ _ _ _ [] part filled front),
     )

@@ -1,0 +1,8 @@
+//! Texts whose bytes arrive in parts, for `rope_search`.
+#![tactic(auto)]
+
+mod arriving;
+mod growing;
+
+pub use arriving::ArrivingText;
+pub use growing::GrowingText;
