@@ -77,8 +77,8 @@ pub record PutsRows (from : ℕ) (rows : List (List (ℕ × ℕ))) (count : ℕ)
   pub counted : count ≡ match_count rows
   pub copied : new ≡ with_front (spans_from from rows) old
 
--- pending rows `from` up to `to` have so many matches, with status 0; or nothing is pending, with
--- status 1
+-- this is the number of matches in pending rows `from` up to `to`, with status 0; or nothing is
+-- pending, with status 1
 abbrev pub CountsPending : CountingSession → ℕ → ℕ → ℕ → ℕ → Type 0
 CountsPending session from to status count = MatchOption (pending_in session)
     ((status ≡ 1) × (count ≡ 0))

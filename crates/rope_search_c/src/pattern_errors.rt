@@ -1,5 +1,6 @@
 //! Why bytes aren't a pattern, as C gets it.
-ghost use Rattle.std.specs.Prelude.{◌≡◌};
+ghost use Rattle.std.specs.Prelude.{◌≡◌, ◌↔◌};
+ghost use Rattle.std.specs.Str.{IsUtf8};
 ghost use Rattle.rope_search_c.specs.PatternErrors.{TellsError};
 ghost use Rattle.rope_search_c.specs.PatternErrors as errors;
 
@@ -51,15 +52,16 @@ fn reason_number(reason: Reason) -> u32
 }
 
 /// Writes where and why `rope_search_set_pattern` refuses bytes with 4, and returns 0; the reason
-/// is 0 if it doesn't. Returns 3 if they aren't UTF-8, or 7 if out of memory; `error` is then
-/// unchanged. Needs no session.
+/// is 0 if it doesn't. Returns 3 exactly if they aren't UTF-8, or 7 if out of memory; `error` is
+/// then unchanged. Needs no session.
 #[unsafe(no_mangle)]
 pub extern "C" fn rope_search_pattern_error(
     alloc: Global,
     pattern: &[u8],
     error: &mut PatternReason,
 ) -> u32
-    ensures { TellsError pattern.now result error.old error.new }
+    ensures told { TellsError pattern.now result error.old error.new }
+    ensures utf8 { (result ≡ 3) ↔ ¬ (IsUtf8 pattern.now) }
 {
     match pattern_error(alloc, pattern) {
         Ok(None) => {

@@ -22,8 +22,8 @@ fn is_done(answer: Result<bool, Fault>) -> bool
     }
 }
 
-/// Puts the matches of rows at a buffer's front, and those of further rows behind them, as many as
-/// fit, and returns how many they are. The first row is that of line `from`.
+/// Copies the matches of rows to a buffer's front, and those of further rows after them, as many as
+/// fit, and returns the number of the matches. The first row is that of line `from`.
 fn put_window(done: &[Row], made: &[Row], from: usize, out: &mut [Span]) -> usize
     requires few { match_count (done.now ++ made.now) < 2 ^ 64 }
     requires lines { from + length (done.now ++ made.now) < 2 ^ 64 }

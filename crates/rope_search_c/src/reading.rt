@@ -49,8 +49,8 @@ pub(crate) fn count_matches(rows: &[Row]) -> usize
     count
 }
 
-/// Puts the matches of a row behind those that stand at a buffer's front, as many as fit. So many
-/// as `at` is stood there, or would with more room.
+/// Copies the matches of a row to a buffer, after the `at` matches that are at its front, as many as
+/// fit. If there were more matches than fit, `at` is still their number.
 fn put_row(line: usize, row: &[(usize, usize)], at: usize, out: &mut [Span])
     requires { at + length row.now < 2 ^ 64 }
     ensures { (done first : List Span) → out.old ≡ with_front done first → at ≡ length done
@@ -69,8 +69,8 @@ fn put_row(line: usize, row: &[(usize, usize)], at: usize, out: &mut [Span])
     }
 }
 
-/// Puts the matches of rows at a buffer's front, as many as fit, and tells how many they are. The
-/// first row is that of line `from`.
+/// Copies the matches of rows to a buffer's front, as many as fit, and returns the number of the
+/// matches. The first row is that of line `from`.
 pub(crate) fn put_rows(rows: &[Row], from: usize, out: &mut [Span]) -> usize
     requires few { match_count rows.now < 2 ^ 64 }
     requires lines { from + length rows.now < 2 ^ 64 }
@@ -109,7 +109,7 @@ impl CountingSession {
         self.session.buffer().text()
     }
 
-    /// The rows of the chosen buffer's report, of which there are none without a pattern.
+    /// Returns the rows of the chosen buffer's report: none without a pattern.
     pub(crate) fn rows(&self) -> &[Row]
         ensures rows { AreRowsOf self.now result.now }
         ensures few { match_count result.now < 2 ^ 64 }
@@ -127,16 +127,16 @@ impl CountingSession {
         count_matches(rows_between(self.rows(), from, to))
     }
 
-    /// Puts the matches of the report's rows `from` up to `to` at a buffer's front, as many as fit,
-    /// and tells how many they are.
+    /// Copies the matches of the report's rows `from` up to `to` to a buffer's front, as many as fit,
+    /// and returns the number of the matches.
     pub(crate) fn copy_matches(&self, from: usize, to: usize, out: &mut [Span]) -> usize
         ensures { CopiesMatches self.now from to result out.old out.new }
     {
         put_rows(rows_between(self.rows(), from, to), from, out)
     }
 
-    /// Puts bytes `from` up to `to` of the text at a buffer's front, and tells whether they are
-    /// bytes of the text, cut no character and fit; else the buffer is as it was.
+    /// Copies bytes `from` up to `to` of the text to a buffer's front, and returns whether they are
+    /// bytes of the text, cut no character and fit; otherwise the buffer is as it was.
     pub(crate) fn copy_text(&self, from: usize, to: usize, out: &mut [u8]) -> bool
         ensures { CopiesText self.now from to result out.old out.new }
     {

@@ -5,13 +5,13 @@ use Rattle.rope_search_reports.specs.Explaining.{Refusal, IsRefusedAs, default_s
 use Rattle.rope_search_c.proofs.PatternErrorLemmas.{IsToldAlike, nothing-told, why-told}
 use Rattle.rope_search_c.proofs.pattern_errors.rope_search_pattern_error.Goals as goal
 
-pub returns-in-Ok-None : goal.returns-in-Ok-None
-returns-in-Ok-None c =
+pub returns-in-Ok-None-clause-told : goal.returns-in-Ok-None-clause-told
+returns-in-Ok-None-clause-told c =
     nothing-told c.args.pattern.now 0 c.args.error.now (record { reason = 0; place = 0 })
     (subst (IsToldAlike c.args.pattern.now) c.in-Ok-None.field-0-is c.in-Ok-None.ensures.refused) refl refl
 
-pub returns-in-Ok-Some : goal.returns-in-Ok-Some
-returns-in-Ok-Some c =
+pub returns-in-Ok-Some-clause-told : goal.returns-in-Ok-Some-clause-told
+returns-in-Ok-Some-clause-told c =
     let bytes = c.args.pattern.now in
     let told = c.in-Ok-Some.ensures in
     let is = c.in-Ok-Some.field-0-is in
