@@ -66,13 +66,13 @@ $(program): $(sources)
 	@mkdir -p $(@D) crates/rope_search_cli/out
 	@cd crates/rope_search_cli && { $(RT) run < /dev/null 2>&1; echo $$? > out/rt.status; } | tee out/rt.log | $(news)
 	@cd crates/rope_search_cli && [ "$$(cat out/rt.status)" = 0 ] || { tail -n 40 out/rt.log; false; }
-	@RT='$(RT)' tests/check --stamp
+	@RT='$(RT)' tools/check --stamp
 	@cp crates/rope_search_cli/out/rope_search_cli $@.new && mv $@.new $@
 
 # A minute or two each, seconds if no source changed.
-$(drivers): bin/%: $(sources) tests/compile tests/compiled/list.txt $(shell find tests/compiled -name '*.rt.txt')
+$(drivers): bin/%: $(sources) tools/compile tests/compiled/list.txt $(shell find tests/compiled -name '*.rt.txt')
 	@:$(need_rt)
-	@RT='$(RT)' tests/compile $(subst -,_,$*) $@
+	@RT='$(RT)' tools/compile $(subst -,_,$*) $@
 
 lib: bin/librope_search.a bin/librope_search.so bin/rope_search.pc
 
@@ -106,11 +106,11 @@ bin/rope_search.pc: bin/librope_search.a VERSION
 
 web: bin/rope_search.wasm
 
-# The bitcode that the kit's clang compiled for the library. The proof that rt lib left is reused. If tests/static built
+# The bitcode that the kit's clang compiled for the library. The proof that rt lib left is reused. If tools/static built
 # the library, this file is there already.
 bin/librope_search_c.bc: bin/librope_search_c.a
 	@:$(need_rt)
-	@RT='$(RT)' tests/static --bitcode rope_search_c '$(CURDIR)' $@ crates/rope_search_c/out/incremental
+	@RT='$(RT)' tools/static --bitcode rope_search_c '$(CURDIR)' $@ crates/rope_search_c/out/incremental
 
 bin/rope_search.wasm: bin/librope_search_c.bc $(addprefix bindings/web/,build retarget.py heap.c)
 	@:$(need_rt)
@@ -167,19 +167,19 @@ demo:
 
 check:
 	@:$(need_rt)
-	@RT='$(RT)' JOBS='$(JOBS)' MAKE='$(MAKE)' tests/check $(CRATES)
+	@RT='$(RT)' JOBS='$(JOBS)' MAKE='$(MAKE)' tools/check $(CRATES)
 
 test:
 	@:$(need_rt)
-	@RT='$(RT)' JOBS='$(JOBS)' MAKE='$(MAKE)' tests/all
+	@RT='$(RT)' JOBS='$(JOBS)' MAKE='$(MAKE)' tools/test
 
 gate:
 	@:$(need_rt)
-	@RT='$(RT)' JOBS='$(JOBS)' tests/gate
+	@RT='$(RT)' JOBS='$(JOBS)' tools/gate
 
 edits:
 	@:$(need_rt)
-	@RT='$(RT)' JOBS='$(or $(JOBS),1)' tests/edits $(CRATES)
+	@RT='$(RT)' JOBS='$(or $(JOBS),1)' tools/edits $(CRATES)
 
 bin/bench: $(program) bench/build $(shell find bench/program -type f)
 	@:$(need_rt)

@@ -14,7 +14,7 @@
  * instructions, whatever is free. Memory is refused only if no free block is large enough and the
  * memory can't grow.
  *
- * tests/web_heap.c compiles this file natively, with a memory of its own.
+ * tests/web/web_heap.c compiles this file natively, with a memory of its own.
  */
 typedef __SIZE_TYPE__ usize;
 typedef unsigned char byte;

@@ -16,7 +16,7 @@ the attributes of functions, and the functions themselves in two ways, as rattle
 One instruction of x86-64 may be in it, the byte shuffle by which UTF-8 is checked: WebAssembly has one that differs for
 indices from 16 to 127, so these are cut to their last four bits.
 
-Nothing proves this step. tests/test_web.py tests what comes of it.
+Nothing proves this step. tests/web/test_web.py tests what comes of it.
 """
 import re
 import sys

@@ -304,7 +304,7 @@ fn in_a_row(numbers: &[u64]) -> String {
     numbers.iter().map(u64::to_string).collect::<Vec<String>>().join(" ")
 }
 
-/// A call and its answer as a line for tests/plain_sessions.py: the name, the numbers and the bytes
+/// A call and its answer as a line for tests/sessions/plain_sessions.py: the name, the numbers and the bytes
 /// in hexadecimal of the call, then the status, the numbers and the bytes of the answer.
 pub fn told(call: &Call, answer: &Answer) -> String {
     format!(

@@ -7,7 +7,7 @@
 //!                                                with a bar, as if the library failed there
 //!     sessions UNICODE bytes FILE..              compares the sessions that the bytes of files choose
 //!
-//! tests/sessions_by_calls.py writes the file UNICODE. `check` prints each session that fails as
+//! tests/sessions/sessions_by_calls.py writes the file UNICODE. `check` prints each session that fails as
 //! its least calls, with what is wrong then; its last line has the number of sessions, of those
 //! that failed, and of those that were compared in part, since the model would take too long.
 mod calls;

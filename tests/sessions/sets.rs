@@ -70,7 +70,7 @@ impl Set {
 }
 
 /// What Unicode says: the letter classes, and the characters that have one simple case folding.
-/// They are Python's, from a file that tests/sessions_by_calls.py writes.
+/// They are Python's, from a file that tests/sessions/sessions_by_calls.py writes.
 pub struct Unicode {
     digit: Rc<Set>,
     space: Rc<Set>,
