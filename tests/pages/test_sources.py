@@ -228,7 +228,7 @@ def test_length():
     written = {os.path.join(TOP, "docs", name) for name in ("meaning.md", "definitions.md")}
     pages = {results, *(os.path.join(TOP, name) for name in ("README.md", "CONTRIBUTING.md")), *glob.glob(os.path.join(TOP, "docs", "*.md"))}
     readmes = glob.glob(os.path.join(TOP, "crates", "*", "README.md"))
-    for what, count, most in (("bench/RESULTS.md has", words(results), 3_000), ("the pages have", words(*pages - written), 22_000),
+    for what, count, most in (("bench/RESULTS.md has", words(results), 3_200), ("the pages have", words(*pages - written), 22_000),
                               ("the READMEs of crates have", words(*readmes), 6_000)):
         test(f"{what} {most:,} words at most", [] if count <= most else [f"it is {count:,}"])
 
