@@ -38,8 +38,8 @@ abbrev pub TellsBack : LimitedBuffer → LimitedBuffer → Type 0
 TellsBack old new =
     new.text_changes ≡ map turned_range (ranges_of (changes_at old.changes old.state.current))
 
--- at most as many rows are added as there are lines from the start of the first change of what comes
--- back to the end of the last one
+-- at most as many rows are added as there are lines from the start of the first change of what
+-- comes back to the end of the last one
 abbrev pub AddsBack : LimitedBuffer → LimitedBuffer → Type 0
 AddsBack old new = new.changed.added ≤ lines_spanned (bytes_of (current_text (undone old.state)))
     (turned_changes 0 0 (changes_at old.changes old.state.current))

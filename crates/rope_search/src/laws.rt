@@ -72,9 +72,9 @@ pub fn one_show()
     rope_search_reports::laws::one_report();
 }
 
-/// Every command stands for some command of the definition, under every limit and whatever was kept
+/// Every command represents some command of the definition, under every limit and whatever was kept
 /// of its payload. So the promises of `Session::apply`, which are about the commands that one
-/// stands for, apply to each.
+/// represents, apply to each.
 pub fn stands_for_some()
     ensures { (limit : ℕ) (command : CommandOf Payload) → StandsForSome limit command }
 {}

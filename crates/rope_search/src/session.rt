@@ -292,7 +292,7 @@ impl Session {
     /// If the number of lines changes under a pattern, the rows after them are moved. `tick` counts
     /// each line and each whole text that is searched.
     pub fn apply(&mut self, tick: &mut Lines, command: Command<'_>) -> Result<Reply, Fault>
-        // The reply and the new state are a step, for each command that this one stands for.
+        // The reply and the new state are a step, for each command that this one represents.
         ensures step { ForOrders self.old.limit command.entry (λ order.
             Step self.old.limit self.old.state order result self.new.state) }
 

@@ -1,7 +1,7 @@
 //! Sessions for callers in C: `include/rope_search.h` of the repository declares these calls.
 //!
-//! A call takes a handle, which holds a session or is closed. No call ends the program: it returns a
-//! status, which says whether and why it is refused. Calls require of what C passes only what
+//! A call takes a handle, which holds a session or is closed. No call ends the program: it returns
+//! a status, which says whether and why it is refused. Calls require of what C passes only what
 //! `include/rope_search.h` says of pointers and of copies of a handle.
 #![tactic(auto)]
 

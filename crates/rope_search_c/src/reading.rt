@@ -49,8 +49,8 @@ pub(crate) fn count_matches(rows: &[Row]) -> usize
     count
 }
 
-/// Copies the matches of a row to a buffer, after the `at` matches that are at its front, as many as
-/// fit. If there were more matches than fit, `at` is still their number.
+/// Copies the matches of a row to a buffer, after the `at` matches that are at its front, as many
+/// as fit. If there were more matches than fit, `at` is still their number.
 fn put_row(line: usize, row: &[(usize, usize)], at: usize, out: &mut [Span])
     requires { at + length row.now < 2 ^ 64 }
     ensures { (done first : List Span) → out.old ≡ with_front done first → at ≡ length done
@@ -127,8 +127,8 @@ impl CountingSession {
         count_matches(rows_between(self.rows(), from, to))
     }
 
-    /// Copies the matches of the report's rows `from` up to `to` to a buffer's front, as many as fit,
-    /// and returns the number of the matches.
+    /// Copies the matches of the report's rows `from` up to `to` to a buffer's front, as many as
+    /// fit, and returns the number of the matches.
     pub(crate) fn copy_matches(&self, from: usize, to: usize, out: &mut [Span]) -> usize
         ensures { CopiesMatches self.now from to result out.old out.new }
     {

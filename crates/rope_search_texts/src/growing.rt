@@ -125,8 +125,8 @@ impl GrowingText {
     ///
     /// # Errors
     ///
-    /// `Fault::Utf8` if no text begins with the bytes so far and these; `Fault::Memory`. Which bytes
-    /// the text has after that isn't specified.
+    /// `Fault::Utf8` if no text begins with the bytes so far and these; `Fault::Memory`. Which
+    /// bytes the text has after that isn't specified.
     pub fn append(&mut self, bytes: &[u8]) -> Result<(), Fault>
         ensures bytes { OnOk result (self.new ≡ self.old ++ bytes.now) }
         ensures stops { IfErr result (λ fault. StopsText fault (self.old ++ bytes.now)) }

@@ -34,7 +34,7 @@ const CLEARS: usize = 3;
 const BYTES_A_CLEAR: usize = 50_000;
 
 /// In how many bytes for each state of the program searches forward may have looked for the starts
-/// of matches whose ends are known before the program is turned round, which takes about as long.
+/// of matches whose ends are known before the program is reversed, which takes about as long.
 const BYTES_A_STATE: usize = 35;
 
 /// The PikeVM takes as long for a byte as those searches for this number of bytes.
@@ -82,7 +82,7 @@ pub(super) struct Kept {
     automaton: rx_dfa::Cache,
     // By how many bytes the automaton came on.
     passed: usize,
-    // The program turned round, once that pays.
+    // The reversed program, once that pays.
     back: Option<Back>,
     // In how many bytes searches forward looked for the starts of matches whose ends were known.
     walked: usize,
@@ -170,29 +170,29 @@ impl Kept {
     }
 
     /// Whether a match's start may be looked for forward, from one place after the other: the
-    /// program isn't turned round, and that wouldn't have paid yet.
+    /// program isn't reversed, and that wouldn't have paid yet.
     pub(super) fn may_step(&self) -> bool {
         self.back.is_none() && !self.pays_to_turn()
     }
 
-    /// Whether searches forward for starts took about as long as to turn the program round.
+    /// Whether searches forward for starts took about as long as to reverse the program.
     fn pays_to_turn(&self) -> bool {
         self.walked >= self.bytes_before_turning()
     }
 
-    /// In how many bytes searches forward look for starts before the program is turned round.
+    /// In how many bytes searches forward look for starts before the program is reversed.
     fn bytes_before_turning(&self) -> usize {
         self.core.states().saturating_mul(BYTES_A_STATE)
     }
 
     /// Returns in how many bytes searches forward may have looked for starts once they have read
-    /// this number of bytes more. That is less if the program is turned round before.
+    /// this number of bytes more. That is less if the program is reversed before.
     pub(super) fn step_limit(&self, bytes: usize) -> usize {
         let limit = self.walked.saturating_add(bytes);
         limit.min(self.bytes_before_turning())
     }
 
-    /// Returns whether a match's start may be looked for forward: the program isn't turned round,
+    /// Returns whether a match's start may be looked for forward: the program isn't reversed,
     /// and the limit isn't reached.
     pub(super) fn may_step_below(&self, limit: usize) -> bool {
         self.back.is_none() && self.walked < limit
@@ -234,7 +234,7 @@ impl Kept {
         try_search_fwd(core.program(), core.dfa(), &mut self.automaton, input)
     }
 
-    /// Turns the program round once that pays, where a match is to be looked for in so many bytes
+    /// Reverses the program once that pays, where a match is to be looked for in so many bytes
     /// more. The one refusal is `Memory`.
     fn turn(&mut self, bytes: usize) -> Result<(), MatchError>
         requires serve { AreCachesOf self.old.core.value self.old.vm self.old.automaton
@@ -294,7 +294,7 @@ impl Kept {
         ensures refused { IfErr result (λ error. error ≡ MatchError.Memory) }
     {
         let bytes = input.end() - input.start();
-        // Until the program is turned round, the PikeVM reads them.
+        // Until the program is reversed, the PikeVM reads them.
         self.turn(bytes.saturating_mul(BYTES_A_WALKED))?;
         let utf8_empty = self.core.vm().utf8_empty();
         match &mut self.back {
@@ -434,7 +434,7 @@ impl Cache {
         self.kept.places_read()
     }
 
-    /// Returns about how many bytes its lists take, without the program turned round: a count that
+    /// Returns about how many bytes its lists take, without the reversed program: a count that
     /// no contract fixes.
     pub fn memory_usage(&self) -> usize {
         let kept = &self.kept;

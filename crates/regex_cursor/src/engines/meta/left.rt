@@ -285,7 +285,7 @@ fn put_first(slots: &mut [Option<NonMaxUsize>], span: Span)
     slots[1] = NonMaxUsize::new(span.end);
 }
 
-/// Clears slots, as `clear_slots` does, but two of them, as those of one whole match, without a loop.
+/// Clears slots, as `clear_slots` does, but without a loop if there are two, as for whole matches.
 pub(super) fn clear_few(slots: &mut [Option<NonMaxUsize>])
     ensures all { slots.new ≡ no_slots (length slots.old) }
     ensures none { slots.new ≡ no_slots (length slots.new) }
