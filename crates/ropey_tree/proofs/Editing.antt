@@ -17,11 +17,9 @@ use Rattle.ropey_tree.specs.declared.counts.Counts.{Counts}
 use Rattle.ropey_tree.specs.Nodes.{all_pieces, count_of, AreNodes, IsNodeOf, IsInner, inner_view, leaf_view}
 use Rattle.std.specs.List.{concat}
 use Rattle.ropey_tree.specs.Edits.{IsReplaced, AreOneOrTwo, MayStandFor, IsPieceAt, AreEdited, IsEdited}
-use Rattle.ropey_tree.specs.LeafRow.{IsReplacedBy, leaves_of, edited_nodes}
+use Rattle.ropey_tree.specs.LeafRow.{IsReplacedBy, leaves_of}
 use Rattle.ropey_tree.specs.declared.edits.Leaves.{Leaves}
 use Rattle.ropey_tree.specs.declared.edits.Leaves.TheVariants.{One as OneLeaf, Two as TwoLeaves}
-use Rattle.ropey_tree.specs.declared.edits.Edited.{Edited}
-use Rattle.ropey_tree.specs.declared.edits.Edited.TheVariants.{One as OneNode, Two as TwoNodes}
 use Rattle.ropey_tree.specs.Siblings.{AreSiblings, Packed}
 use Rattle.ropey_tree.proofs.Texts.{byte_len-append}
 use Rattle.ropey_tree.proofs.Totals.{units-le-bytes, breaks-le-bytes}
@@ -347,11 +345,7 @@ two_replace v w u old front back from to text made v_is w_is u_is h stands two =
 pub leaves_replace : (v : NodeView) (old : List ℕ) (leaves : Leaves) (nodes : List NodeView) (from to : ℕ) (text : List ℕ) (made : ℕ) → v ≡ leaf_view old → nodes ≡ map leaf_view (leaves_of leaves)
     → IsReplaced old from to text (concat (leaves_of leaves)) → MayStandFor old (leaves_of leaves) → made ≡ length (leaves_of leaves) → IsReplacedBy v from to text made nodes
 leaves_replace v old (OneLeaf leaf counts) nodes from to text made v_is is h may number = rw is (one_replaces v (leaf_view leaf) old leaf from to text made v_is refl h may number)
-leaves_replace v old (TwoLeaves front back) nodes from to text made v_is is h may number = rw is (two_replace v (leaf_view front) (leaf_view back) old front back from to text made v_is refl refl h may number)
-
-pub edited_len : (edited : Edited) → (1 ≤ length (edited_nodes edited)) × (length (edited_nodes edited) ≤ 2)
-edited_len (OneNode node counts) = (omega arith, omega arith)
-edited_len (TwoNodes first second) = (omega arith, omega arith)
+leaves_replace v old (TwoLeaves front counts back more) nodes from to text made v_is is h may number = rw is (two_replace v (leaf_view front) (leaf_view back) old front back from to text made v_is refl refl h may number)
 
 -- an edit of a leaf is one of its text
 pub record IsOfPiece (old : List ℕ) (from to : ℕ) (text : List ℕ) (leaves : List (List ℕ)) : Type 0 where

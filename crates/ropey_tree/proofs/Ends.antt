@@ -9,7 +9,15 @@ use Rattle.std.proofs.Math.Seq.{get_or-append_seam, drop-cons}
 use Rattle.std.proofs.Math.ListN.{drop_of_length-le}
 use Rattle.std.proofs.Common.{length-take-le, ◌==◌}
 use Rattle.std.proofs.lemmas.Bool.Decides.{nat_tests}
-use Rattle.str_indices.specs.Text.{starts_with_lf, ends_with_cr}
+use Rattle.std.proofs.Common.{cond, ◌||◌}
+use Rattle.std.specs.Prelude.{nat_le}
+use Rattle.std.proofs.lemmas.Str.{length-le-encodes}
+use Rattle.std.proofs.lemmas.List.Sums.{sum_by-cons}
+use Rattle.std.proofs.lemmas.Bool.{cond_both}
+use Rattle.str_indices.specs.Text.{breaks, units, units_of, byte_len, starts_with_lf, ends_with_cr}
+use Rattle.ropey_tree.specs.Breaks.{is_break}
+use Rattle.ropey_tree.specs.Counts.{counts_of, zero_counts}
+use Rattle.ropey_tree.proofs.Totals.{units-le-bytes}
 
 pub is_code : (c d : ℕ) → (c == d) ≡ true → c ≡ d
 is_code c d h = grind (arith, nat_tests)
@@ -136,3 +144,30 @@ no_cr bytes at u boundary some within other =
     let here : get_or (take at bytes) (at - 1) 0 ≡ get_or bytes (at - 1) 0 = get_or-take at bytes (at - 1) 0 (omega (arith, some)) in
     not_true (ends_with_cr (chars (take at bytes)))
     (λ cr. other (sym here ∙ ap (λ bs. get_or bs (at - 1) 0) (sym front) ∙ last_byte (chars (take at bytes)) (at - 1) len cr))
+
+-- ---- a text of at most one byte
+pub counts-none : (bytes : List ℕ) → length bytes ≡ 0 → counts_of (chars bytes) ≡ zero_counts
+counts-none [] e = ap counts_of chars-nil
+counts-none (b ∷ bytes) e = absurd (omega (arith, e))
+
+-- one character, which is one unit, and a break if it is LF or CR
+pub record IsOneByte (t : List ℕ) : Type 0 where
+  pub chars : length t ≡ 1
+  pub units : units t ≡ 1
+  pub breaks : breaks is_break t ≡ cond (starts_with_lf t || ends_with_cr t) 1 0
+
+pub one_byte_text : (t : List ℕ) → byte_len t ≡ 1 → IsOneByte t
+one_byte_text [] e = absurd (omega (arith, e))
+one_byte_text (c ∷ []) e =
+    let few = units-le-bytes (c ∷ []) in
+    let sum = sum_by-cons units_of c [] in
+    let some : 1 ≤ units_of c = cond_both (nat_le 0x1_0000 c) 2 1 (λ n. 1 ≤ n) (λ _. omega arith) (λ _. omega arith) in
+    record {
+      chars = refl;
+      units = omega (arith, few, sum, some, e);
+      breaks = one_break c;
+    }
+  where
+    one_break : (c : ℕ) → breaks is_break (c ∷ []) ≡ cond ((c == 10) || (c == 13)) 1 0
+    one_break c = grind (arith, nat_tests)
+one_byte_text (c ∷ d ∷ cs) e = absurd (omega (arith, e, length-le-encodes (c ∷ d ∷ cs)))

@@ -1,5 +1,5 @@
 -- Nodes in a row, and their leaf texts.
-use Rattle.std.proofs.Common.{◌≡◌, ℕ, ◌+◌, ◌^◌, ◌<◌, ◌≤◌, List, [], ◌∷◌, ◌++◌, length, get_or, take, drop, refl, ap, arith, sym, ◌∙◌, append_assoc}
+use Rattle.std.proofs.Common.{◌≡◌, ℕ, ◌+◌, ◌<◌, ◌≤◌, List, [], ◌∷◌, ◌++◌, length, get_or, take, drop, refl, ap, arith, sym, ◌∙◌}
 use Rattle.std.proofs.lemmas.Grind.{flat_map-append}
 use Rattle.std.proofs.lemmas.List.Concat.{flat_map-cons}
 use Rattle.std.proofs.lemmas.List.{take_more, take-append-drop, append-nil}
@@ -35,12 +35,17 @@ bytes-take-le vs k =
     let bytes : (total (all_pieces vs)).bytes ≡ (total (all_pieces (take k vs))).bytes + (total (all_pieces (drop k vs))).bytes = ap (λ c. c.bytes) sums in
     omega arith
 
--- a part with the child at k fits if the whole does
-pub part_fits : (vs part : List NodeView) (from k : ℕ) (v : NodeView) → take from vs ++ part ≡ take k vs → k < length vs → v ≡ get_or vs k v → (total (all_pieces vs)).bytes < 2 ^ 63
-    → (total (all_pieces (part ++ v ∷ []))).bytes < 2 ^ 63
-part_fits vs part from k v is within at fits =
-    let one_more : take k vs ++ v ∷ [] ≡ take (k + 1) vs = ap (λ w. take k vs ++ w ∷ []) at ∙ sym (take_more vs k v within) in
-    let more : take (k + 1) vs ≡ take from vs ++ (part ++ v ∷ []) = sym (sym (append_assoc (take from vs) part (v ∷ [])) ∙ ap (λ ws. ws ++ v ∷ []) is ∙ one_more) in
-    let sums = ap (λ ws. total (all_pieces ws)) more ∙ ap total (all_pieces-append (take from vs) (part ++ v ∷ [])) ∙ total-append (all_pieces (take from vs)) (all_pieces (part ++ v ∷ [])) in
-    let bytes : (total (all_pieces (take (k + 1) vs))).bytes ≡ (total (all_pieces (take from vs))).bytes + (total (all_pieces (part ++ v ∷ []))).bytes = ap (λ c. c.bytes) sums in
-    omega (arith, bytes, bytes-take-le vs (k + 1), fits)
+pub bytes-left-le : (vs ws : List NodeView) → (total (all_pieces vs)).bytes ≤ (total (all_pieces (vs ++ ws))).bytes
+bytes-left-le vs ws =
+    let bytes : (total (all_pieces (vs ++ ws))).bytes ≡ (total (all_pieces vs)).bytes + (total (all_pieces ws)).bytes = ap (λ c. c.bytes) (ap total (all_pieces-append vs ws) ∙ total-append (all_pieces vs) (all_pieces ws)) in
+    omega arith
+
+pub bytes-right-le : (vs ws : List NodeView) → (total (all_pieces ws)).bytes ≤ (total (all_pieces (vs ++ ws))).bytes
+bytes-right-le vs ws =
+    let bytes : (total (all_pieces (vs ++ ws))).bytes ≡ (total (all_pieces vs)).bytes + (total (all_pieces ws)).bytes = ap (λ c. c.bytes) (ap total (all_pieces-append vs ws) ∙ total-append (all_pieces vs) (all_pieces ws)) in
+    omega arith
+
+pub bytes-part-le : (vs : List NodeView) (from n : ℕ) → (total (all_pieces (take n (drop from vs)))).bytes ≤ (total (all_pieces vs)).bytes
+bytes-part-le vs from n =
+    let whole = ap (λ us. (total (all_pieces us)).bytes) (take-append-drop from vs) in
+    omega (arith, bytes-take-le (drop from vs) n, bytes-right-le (take from vs) (drop from vs), whole)

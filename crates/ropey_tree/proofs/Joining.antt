@@ -1,9 +1,10 @@
 -- Rows with a joined child on one side.
-use Rattle.std.proofs.Common.{◌≡◌, ℕ, ◌+◌, ◌-◌, ◌<◌, ◌≤◌, min, max, inl, inr, List, [], ◌∷◌, ◌++◌, length, take, drop, get_or, refl, ap, arith, sym, ◌∙◌, subst, append_assoc, length-append, length-take-le}
-use Rattle.std.proofs.lemmas.List.{take_more}
+use Rattle.std.proofs.Common.{◌≡◌, ℕ, suc, ◌+◌, ◌-◌, ◌<◌, ◌≤◌, min, max, inl, inr, List, [], ◌∷◌, ◌++◌, length, take, drop, get_or, refl, ap, arith, sym, ◌∙◌, subst, append_assoc, length-append, length-take-le}
+use Rattle.std.proofs.lemmas.List.{take_more, drop_all, append-nil}
 use Rattle.std.proofs.Math.Seq.{take-length}
 use Rattle.std.proofs.lemmas.List.Elements.{All-head, All-tail, All-cons, All-nil, All-append}
 use Rattle.ropey_tree.specs.Cutting.{IsRopeText}
+use Rattle.ropey_tree.specs.LeafRow.{row_with}
 use Rattle.ropey_tree.specs.NodeView.{NodeView}
 use Rattle.ropey_tree.specs.Nodes.{all_pieces, AreNodes, IsNodeOf, IsInner, leaf_view, inner_view, AreJoined}
 use Rattle.ropey_tree.specs.Siblings.{AreSiblings, Packed, nodes_of}
@@ -14,8 +15,8 @@ use Rattle.ropey_tree.proofs.Pieces.{text-left, text-right}
 use Rattle.ropey_tree.proofs.Packing.{nodes-left, nodes-right}
 
 pub joined_len : (joined : Joined) → (1 ≤ length (nodes_of joined)) × (length (nodes_of joined) ≤ 2)
-joined_len (One node) = (omega arith, omega arith)
-joined_len (Two first second) = (omega arith, omega arith)
+joined_len (One node counts) = (omega arith, omega arith)
+joined_len (Two first counts second more) = (omega arith, omega arith)
 
 pub nodes-weaker : (h a b : ℕ) (vs : List NodeView) → b ≤ a → AreNodes h a vs → AreNodes h b vs
 nodes-weaker h a b [] le all = All-nil (IsNodeOf h b)
@@ -30,6 +31,11 @@ last_child vs v some is =
     let more = take_more vs n v (omega arith) in
     let count : n + 1 ≡ length vs = omega arith in
     ap (λ w. take n vs ++ w ∷ []) is ∙ sym more ∙ ap (λ k. take k vs) count ∙ take-length vs
+
+-- others in place of the last child
+pub row-last : (vs others : List NodeView) (end : ℕ) → 0 < length vs → end ≡ length vs - 1 → row_with end others vs ≡ take (length vs - 1) vs ++ others
+row-last vs others end some is =
+    ap (λ k. row_with k others vs) is ∙ ap (λ us. take (length vs - 1) vs ++ others ++ us) (drop_all (suc (length vs - 1)) vs (omega (arith, some))) ∙ append-nil (take (length vs - 1) vs ++ others)
 
 -- the first child, and those after it
 pub first_child : (vs : List NodeView) (v : NodeView) → 0 < length vs → v ≡ get_or vs 0 v → v ∷ drop 1 vs ≡ vs

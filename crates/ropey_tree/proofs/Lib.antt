@@ -3,13 +3,13 @@ pub mod Totals
 pub mod InRow
 pub mod Running
 pub mod Halving
-pub mod Within
 pub mod Heights
 pub mod Descents
 pub mod Texts
 pub mod CuttingLaws
 pub mod Pieces
 pub mod Packing
+pub mod Rows
 pub mod Joining
 pub mod Splitting
 pub mod Levels

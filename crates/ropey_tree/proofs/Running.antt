@@ -1,11 +1,11 @@
 -- Running totals of nodes in a row.
-use Rattle.std.proofs.Common.{◌≡◌, ℕ, zero, suc, ◌+◌, ◌-◌, ◌^◌, ◌<◌, ◌≤◌, List, [], ◌∷◌, ◌++◌, length, get_or, take, drop, map, All, inl, inr, refl, ap, arith, sym, ◌∙◌, length-append, length-take-le, length-drop, take-append-drop}
+use Rattle.std.proofs.Common.{◌≡◌, ℕ, zero, suc, ◌+◌, ◌-◌, ◌^◌, ◌<◌, ◌≤◌, List, [], ◌∷◌, ◌++◌, length, get_or, take, drop, map, All, inl, inr, refl, ap, arith, sym, ◌∙◌, length-append, length-take-le, length-drop}
 use Rattle.std.proofs.lemmas.Bool.{cases_lt}
-use Rattle.std.proofs.lemmas.List.{take-append-le, take-take, take_more, get_or_append_left, get_or-append_right, get_or-take, get_or-drop, get_or-map, length-map}
-use Rattle.std.proofs.Math.Seq.{take-length, take-append-add}
+use Rattle.std.proofs.lemmas.List.{take-append-le, take-take, get_or_append_left, get_or-append_right, get_or-take, get_or-drop, get_or-map, length-map, take-map, drop-map}
+use Rattle.std.proofs.Math.Seq.{take-length, take-add, take-append-add}
 use Rattle.ropey_tree.specs.declared.counts.Counts.{Counts}
 use Rattle.ropey_tree.specs.declared.counts.By.{By}
-use Rattle.ropey_tree.specs.Counts.{total, plus, minus, amount, zero_counts, FitsWith}
+use Rattle.ropey_tree.specs.Counts.{total, plus, minus, amount, zero_counts, FitsWith, NoneExceeds}
 use Rattle.ropey_tree.specs.NodeView.{NodeView}
 use Rattle.ropey_tree.specs.Nodes.{all_pieces, count_of}
 use Rattle.ropey_tree.specs.Shown.{AreTotals, AreInStep}
@@ -13,9 +13,8 @@ use Rattle.std.specs.declared.rc.Rc.{Rc}
 use Rattle.std.specs.declared.alloc.Global.{Global}
 use Rattle.ropey_tree.specs.declared.node.Node.{Node}
 use Rattle.ropey_tree.specs.Children.{views}
-use Rattle.ropey_tree.proofs.Totals.{total-append, total-below, AreBelow, amount-zero}
+use Rattle.ropey_tree.proofs.Totals.{total-append, total-below, amount-zero, less}
 use Rattle.ropey_tree.proofs.InRow.{all_pieces-append, all_pieces-one, bytes-take-le}
-use Rattle.ropey_tree.proofs.Within.{row_len}
 
 -- one more node, with the counts of all
 pub totals-more : (vs : List NodeView) (totals : List Counts) (v : NodeView) (sum : Counts) → AreTotals vs totals → sum ≡ total (all_pieces (vs ++ v ∷ [])) → AreTotals (vs ++ v ∷ []) (totals ++ sum ∷ [])
@@ -85,100 +84,101 @@ adds vs v before count fits stands_before counted =
 pub in_step-more : (vs : List NodeView) (totals : List Counts) (v : NodeView) (sum : Counts) → AreInStep vs totals → length vs < 24 → sum ≡ total (all_pieces (vs ++ v ∷ [])) → AreInStep (vs ++ v ∷ []) (totals ++ sum ∷ [])
 in_step-more vs totals v sum h room is = record { few = omega (arith, room, length-append vs (v ∷ [])); counted = totals-more vs totals v sum h.counted is }
 
--- the views of the nodes after one
-pub views-drop : (k : ℕ) (nodes : List (Rc Node Global)) → views (drop (k + 1) nodes) ≡ drop (suc k) (views nodes)
-views-drop k nodes = let next : k + 1 ≡ suc k = omega arith in ap (λ n. views (drop n nodes)) next ∙ by_suc k nodes
-  where
-    by_suc : (k : ℕ) (nodes : List (Rc Node Global)) → views (drop (suc k) nodes) ≡ drop (suc k) (views nodes)
-    by_suc k [] = refl
-    by_suc zero (node ∷ nodes) = refl
-    by_suc (suc k) (node ∷ nodes) = by_suc k nodes
+-- the views of a part of a row
+pub views-part : (n from : ℕ) (nodes : List (Rc Node Global)) → views (take n (drop from nodes)) ≡ take n (drop from (views nodes))
+views-part n from nodes = sym (take-map (λ node. node.value) n (drop from nodes)) ∙ ap (take n) (sym (drop-map (λ node. node.value) from nodes))
 
--- ---- another node in place of one
--- the totals of a row, and of one with another node at k
-abbrev pub shifted : List Counts → ℕ → Counts → Counts → List Counts
-shifted totals k new old = take k totals ++ map (λ t. minus (plus t new) old) (drop k totals)
+-- ---- some nodes of another row after those of a row
+-- the counts of a part of a row are those up to its end, less those before it
+part-total : (ws : List NodeView) (from j : ℕ) → minus (total (all_pieces (take (from + j) ws))) (total (all_pieces (take from ws))) ≡ total (all_pieces (take j (drop from ws)))
+part-total ws from j =
+    let before = total (all_pieces (take from ws)) in
+    let parts = ap all_pieces (take-add from j ws) ∙ all_pieces-append (take from ws) (take j (drop from ws)) in
+    ap (λ c. minus c before) (ap total parts ∙ total-append (all_pieces (take from ws)) (all_pieces (take j (drop from ws)))) ∙ less before (all_pieces (take j (drop from ws)))
 
--- the first ones of a row with one node after a start
-take-behind : (front rest : List NodeView) (v : NodeView) (k j : ℕ) → length front ≡ k → k ≤ j → take (j + 1) (front ++ (v ∷ []) ++ rest) ≡ front ++ (v ∷ []) ++ take (j - k) rest
-take-behind front rest v k j len high =
-    let n : j + 1 ≡ length (front ++ v ∷ []) + (j - k) = omega (arith, len, high, length-append front (v ∷ [])) in
-    ap (λ m. take m (front ++ (v ∷ []) ++ rest)) n ∙ take-append-add (front ++ v ∷ []) rest (j - k)
-
-total-behind : (front rest : List NodeView) (v : NodeView) (k j : ℕ) → length front ≡ k → k ≤ j
-    → total (all_pieces (take (j + 1) (front ++ (v ∷ []) ++ rest))) ≡ plus (plus (total (all_pieces front)) (count_of v)) (total (all_pieces (take (j - k) rest)))
-total-behind front rest v k j len high =
-    let parts = ap all_pieces (take-behind front rest v k j len high) ∙ all_pieces-append (front ++ v ∷ []) (take (j - k) rest) in
-    let first = all_pieces-append front (v ∷ []) ∙ ap (λ ps. all_pieces front ++ ps) (all_pieces-one v) in
-    ap total parts ∙ total-append (all_pieces (front ++ v ∷ [])) (all_pieces (take (j - k) rest)) ∙ ap (λ ps. plus (total ps) (total (all_pieces (take (j - k) rest)))) first
-    ∙ ap (λ c. plus c (total (all_pieces (take (j - k) rest)))) (total-append (all_pieces front) v.pieces)
-
-swapped : (a v b w : Counts) → minus (plus (plus (plus a v) b) w) v ≡ plus (plus a w) b
-swapped a v b w =
-    let n : a.bytes + v.bytes + b.bytes + w.bytes - v.bytes ≡ a.bytes + w.bytes + b.bytes = omega arith in
-    let h : a.chars + v.chars + b.chars + w.chars - v.chars ≡ a.chars + w.chars + b.chars = omega arith in
-    let u : a.units + v.units + b.units + w.units - v.units ≡ a.units + w.units + b.units = omega arith in
-    let l : a.breaks + v.breaks + b.breaks + w.breaks - v.breaks ≡ a.breaks + w.breaks + b.breaks = omega arith in
-    rw (n, h, u, l) refl
-
--- a row is what precedes the node at k, that node, and what follows it
-pub row-at : (vs : List NodeView) (k : ℕ) (d : NodeView) → k < length vs → vs ≡ take k vs ++ (get_or vs k d ∷ []) ++ drop (suc k) vs
-row-at vs k d within =
-    let next : suc k ≡ k + 1 = omega arith in
-    sym (ap (λ us. us ++ drop (suc k) vs) (sym (take_more vs k d within)) ∙ ap (λ n. take n vs ++ drop (suc k) vs) (sym next) ∙ take-append-drop (suc k) vs)
-
-pub totals-replaced : (vs : List NodeView) (totals : List Counts) (k : ℕ) (w v : NodeView) → AreTotals vs totals → k < length vs → v ≡ get_or vs k v
-    → AreTotals (take k vs ++ (w ∷ []) ++ drop (suc k) vs) (shifted totals k (count_of w) (count_of v))
-totals-replaced vs totals k w v h within is =
-    let front = length-take-le k vs (omega (arith, within)) in
-    let row : vs ≡ take k vs ++ (v ∷ []) ++ drop (suc k) vs = row-at vs k v within ∙ ap (λ u. take k vs ++ (u ∷ []) ++ drop (suc k) vs) (sym is) in
-    let f : Counts → Counts = λ t. minus (plus t (count_of w)) (count_of v) in
-    let kept = length-take-le k totals (omega (arith, within, h.number)) in
-    let len = row_len vs (w ∷ []) k within in
+sums-fit : (ps qs : List (List ℕ)) → (total ps).bytes + (total qs).bytes < 2 ^ 64 → FitsWith (total ps) (total qs)
+sums-fit ps qs fits =
+    let p = total-below ps in
+    let q = total-below qs in
     record {
-      number = omega (
-        arith,
-        within,
-        h.number,
-        kept,
-        len,
-        length-append (take k totals) (map f (drop k totals)),
-        length-map (drop k totals) f,
-        length-drop k totals,
-      );
-      running = λ j d p.
-          elim (cases_lt j k) [
-            | inl low ↦
-                let at = get_or_append_left (take k totals) (map f (drop k totals)) d j (omega (arith, kept, low)) ∙ get_or-take k totals j d low ∙ h.running j d (omega (arith, low, within)) in
-                let same : take (j + 1) (take k vs ++ (w ∷ []) ++ drop (suc k) vs) ≡ take (j + 1) vs =
-                take-append-le (j + 1) (take k vs ++ w ∷ []) (drop (suc k) vs) (omega (arith, low, front, length-append (take k vs) (w ∷ []))) ∙ take-append-le (j + 1) (take k vs) (w ∷ []) (omega (arith, low, front)) ∙ take-take (j + 1) k vs (omega (arith, low)) in
-                at ∙ ap (λ us. total (all_pieces us)) (sym same)
-            | inr high ↦
-                let in_row : j < length vs = omega (arith, p, len) in
-                let index : k + (j - k) ≡ j = omega (arith, high) in
-                let right : j - k < length (drop k totals) = omega (arith, in_row, high, h.number, length-drop k totals) in
-                let at = get_or-append_right (take k totals) (map f (drop k totals)) k j d kept high ∙ get_or-map f (drop k totals) (j - k) zero_counts d right
-                ∙ ap f (get_or-drop k totals (j - k) zero_counts ∙ ap (λ i. get_or totals i zero_counts) index ∙ h.running j zero_counts in_row) in
-                let old = ap (λ us. total (all_pieces (take (j + 1) us))) row ∙ total-behind (take k vs) (drop (suc k) vs) v k j front high in
-                at ∙ ap f old ∙ swapped (total (all_pieces (take k vs))) (count_of v) (total (all_pieces (take (j - k) (drop (suc k) vs)))) (count_of w) ∙ sym (total-behind (take k vs) (drop (suc k) vs) w k j front high)
-          ];
+      bytes = fits;
+      chars = omega (arith, fits, p.chars, q.chars);
+      units = omega (arith, fits, p.units, q.units);
+      breaks = omega (arith, fits, p.breaks, q.breaks);
     }
 
-pub in_step-replaced : (vs : List NodeView) (totals : List Counts) (k : ℕ) (w v : NodeView) → AreInStep vs totals → k < length vs → v ≡ get_or vs k v
-    → AreInStep (take k vs ++ (w ∷ []) ++ drop (suc k) vs) (shifted totals k (count_of w) (count_of v))
-in_step-replaced vs totals k w v h within is = record { few = omega (arith, h.few, row_len vs (w ∷ []) k within); counted = totals-replaced vs totals k w v h.counted within is }
+-- the totals of a row after which some nodes of another row come
+abbrev pub extended : List Counts → Counts → List Counts → ℕ → ℕ → Counts → List Counts
+extended totals sum others from n before = totals ++ map (λ t. plus sum (minus t before)) (take n (drop from others))
 
--- no total is greater than the last
-pub total-fits : (vs : List NodeView) (k : ℕ) (new : Counts) → (total (all_pieces vs)).bytes + new.bytes < 2 ^ 64 → AreBelow new → FitsWith (total (all_pieces (take k vs))) new
-total-fits vs k new fits below =
-    let few = bytes-take-le vs k in
-    let own = total-below (all_pieces (take k vs)) in
-    record {
-      bytes = omega (arith, fits, few);
-      chars = omega (arith, fits, few, own.chars, below.chars);
-      units = omega (arith, fits, few, own.units, below.units);
-      breaks = omega (arith, fits, few, own.breaks, below.breaks);
-    }
+module _ (vs ws : List NodeView) (others : List Counts) (from n : ℕ) (g : AreTotals ws others) (within : from + n ≤ length ws) where
+  part_len : length (take n (drop from ws)) ≡ n
+  part_len = length-take-le n (drop from ws) (omega (arith, within, length-drop from ws))
 
-pub totals-fit : (vs : List NodeView) (totals : List Counts) (w : NodeView) → AreTotals vs totals → (total (all_pieces vs)).bytes + (count_of w).bytes < 2 ^ 64 → All (λ t. FitsWith t (count_of w)) totals
-totals-fit vs totals w h fits = λ k d p. rw (h.running k d (omega (arith, p, h.number))) (total-fits vs (k + 1) (count_of w) fits (total-below w.pieces))
+  some_len : length (take n (drop from others)) ≡ n
+  some_len = length-take-le n (drop from others) (omega (arith, within, g.number, length-drop from others))
+
+  -- the first ones of both rows
+  firsts : (j : ℕ) → j < n → take (length vs + (j + 1)) (vs ++ take n (drop from ws)) ≡ vs ++ take (j + 1) (drop from ws)
+  firsts j low = take-append-add vs (take n (drop from ws)) (j + 1) ∙ ap (λ us. vs ++ us) (take-take (j + 1) n (drop from ws) (omega (arith, low)))
+
+  -- the total of a node of the part
+  at_end : (j : ℕ) (d : Counts) → j < n → get_or (take n (drop from others)) j d ≡ total (all_pieces (take (from + (j + 1)) ws))
+  at_end j d low =
+      let next : from + j + 1 ≡ from + (j + 1) = omega arith in
+      get_or-take n (drop from others) j d low ∙ get_or-drop from others j d ∙ g.running (from + j) d (omega (arith, low, within)) ∙ ap (λ i. total (all_pieces (take i ws))) next
+
+  -- the counts of the part up to and including one node
+  part_counts : (j : ℕ) (d : Counts) → j < n → minus (get_or (take n (drop from others)) j d) (total (all_pieces (take from ws))) ≡ total (all_pieces (take (j + 1) (drop from ws)))
+  part_counts j d low =
+      ap (λ c. minus c (total (all_pieces (take from ws)))) (at_end j d low) ∙ part-total ws from (j + 1)
+
+  pub part-later : All (λ t. NoneExceeds (total (all_pieces (take from ws))) t) (take n (drop from others))
+  part-later = λ j d p.
+      let low : j < n = omega (arith, p, some_len) in
+      let more = take (j + 1) (drop from ws) in
+      let sums = ap all_pieces (take-add from (j + 1) ws) ∙ all_pieces-append (take from ws) more in
+      let is = at_end j d low ∙ ap total sums ∙ total-append (all_pieces (take from ws)) (all_pieces more) in
+      rw is (record { bytes = omega arith; chars = omega arith; units = omega arith; breaks = omega arith })
+
+  pub part-fits : (total (all_pieces (vs ++ take n (drop from ws)))).bytes < 2 ^ 63 → All (λ t. FitsWith (total (all_pieces vs)) (minus t (total (all_pieces (take from ws))))) (take n (drop from others))
+  part-fits fits = λ j d p.
+      let low : j < n = omega (arith, p, some_len) in
+      let more = take (j + 1) (drop from ws) in
+      let few = bytes-take-le (vs ++ take n (drop from ws)) (length vs + (j + 1)) in
+      let is = ap (λ us. (total (all_pieces us)).bytes) (firsts j low) in
+      let sums = ap total (all_pieces-append vs more) ∙ total-append (all_pieces vs) (all_pieces more) in
+      let bytes : (total (all_pieces (vs ++ more))).bytes ≡ (total (all_pieces vs)).bytes + (total (all_pieces more)).bytes = ap (λ c. c.bytes) sums in
+      rw (part_counts j d low) (sums-fit (all_pieces vs) (all_pieces more) (omega (arith, few, is, bytes, fits)))
+
+  pub totals-extended : (totals : List Counts) → AreTotals vs totals
+      → AreTotals (vs ++ take n (drop from ws)) (extended totals (total (all_pieces vs)) others from n (total (all_pieces (take from ws))))
+  totals-extended totals h =
+      let sum = total (all_pieces vs) in
+      let before = total (all_pieces (take from ws)) in
+      let f : Counts → Counts = λ t. plus sum (minus t before) in
+      let some = take n (drop from others) in
+      let len = length-append vs (take n (drop from ws)) in
+      record {
+        number = omega (arith, h.number, part_len, some_len, len, length-append totals (map f some), length-map some f);
+        running = λ k d p.
+            elim (cases_lt k (length vs)) [
+              | inl q ↦
+                  let low : k < length totals = omega (arith, q, h.number) in
+                  let front : take (k + 1) (vs ++ take n (drop from ws)) ≡ take (k + 1) vs = take-append-le (k + 1) vs (take n (drop from ws)) (omega (arith, q)) in
+                  get_or_append_left totals (map f some) d k low ∙ h.running k d q ∙ ap (λ us. total (all_pieces us)) (sym front)
+              | inr q ↦
+                  let j = k - length vs in
+                  let low : j < n = omega (arith, p, q, len, part_len) in
+                  let next : k + 1 ≡ length vs + (j + 1) = omega (arith, q) in
+                  let more = take (j + 1) (drop from ws) in
+                  let at = get_or-append_right totals (map f some) (length vs) k d h.number q ∙ get_or-map f some j zero_counts d (omega (arith, low, some_len)) ∙ ap (plus sum) (part_counts j zero_counts low) in
+                  let row = ap (λ i. take i (vs ++ take n (drop from ws))) next ∙ firsts j low in
+                  let sums = ap (λ us. total (all_pieces us)) row ∙ ap total (all_pieces-append vs more) ∙ total-append (all_pieces vs) (all_pieces more) in
+                  at ∙ sym sums
+            ];
+      }
+
+  pub in_step-extended : (totals : List Counts) → AreInStep vs totals → length vs + n ≤ 24
+      → AreInStep (vs ++ take n (drop from ws)) (extended totals (total (all_pieces vs)) others from n (total (all_pieces (take from ws))))
+  in_step-extended totals h room = record { few = omega (arith, room, part_len, length-append vs (take n (drop from ws))); counted = totals-extended totals h.counted }

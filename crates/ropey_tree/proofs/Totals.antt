@@ -1,5 +1,5 @@
 -- The counts of leaf texts together.
-use Rattle.std.proofs.Common.{◌≡◌, ℕ, ◌+◌, ◌≤◌, cond, List, [], ◌∷◌, ◌++◌, length, refl, arith, replicate, length-append}
+use Rattle.std.proofs.Common.{◌≡◌, ℕ, ◌+◌, ◌-◌, ◌≤◌, cond, List, [], ◌∷◌, ◌++◌, length, refl, arith, replicate, length-append}
 use Rattle.std.proofs.lemmas.List.{length-replicate}
 use Rattle.std.proofs.lemmas.List.Sums.{sum_by-append, sum_by-le-sum_by}
 use Rattle.std.proofs.lemmas.Str.{length-le-encodes, length-encode}
@@ -13,7 +13,7 @@ use Rattle.ropey_tree.specs.Breaks.{is_break}
 use Rattle.ropey_tree.specs.declared.counts.Counts.{Counts}
 use Rattle.ropey_tree.specs.declared.counts.By.{By}
 use Rattle.ropey_tree.specs.declared.counts.By.TheVariants.{Bytes, Chars, Units, Breaks}
-use Rattle.ropey_tree.specs.Counts.{total, plus, amount, zero_counts}
+use Rattle.ropey_tree.specs.Counts.{total, plus, minus, amount, zero_counts}
 
 pub total-append : (ps qs : List (List ℕ)) → total (ps ++ qs) ≡ plus (total ps) (total qs)
 total-append ps qs =
@@ -70,3 +70,13 @@ total-below ps = record {
   units = sum_by-le-sum_by units byte_len ps units-le-bytes;
   breaks = sum_by-le-sum_by (breaks is_break) byte_len ps breaks-le-bytes;
 }
+
+-- the counts of the second of two parts are those of both, less those of the first
+pub less : (a : Counts) (ps : List (List ℕ)) → minus (plus a (total ps)) a ≡ total ps
+less a ps =
+    let own = total ps in
+    let n : a.bytes + own.bytes - a.bytes ≡ own.bytes = omega arith in
+    let h : a.chars + own.chars - a.chars ≡ own.chars = omega arith in
+    let u : a.units + own.units - a.units ≡ own.units = omega arith in
+    let l : a.breaks + own.breaks - a.breaks ≡ own.breaks = omega arith in
+    rw (n, h, u, l) refl

@@ -1,6 +1,6 @@
 -- The counts of texts in the four measures: bytes of UTF-8, characters, UTF-16 code units and line
 -- breaks.
-use Rattle.std.specs.Prelude.{ℕ, ◌+◌, ◌-◌, ◌^◌, ◌<◌, List, length, sum_by}
+use Rattle.std.specs.Prelude.{ℕ, ◌+◌, ◌-◌, ◌^◌, ◌<◌, ◌≤◌, List, length, sum_by}
 use Rattle.str_indices.specs.Text.{breaks, units, byte_len}
 use Rattle.ropey_tree.specs.Breaks.{is_break}
 use Rattle.ropey_tree.specs.declared.counts.Counts.{Counts}
@@ -28,6 +28,13 @@ pub record FitsWith (c d : Counts) : Type 0 where
   pub chars : c.chars + d.chars < 2 ^ 64
   pub units : c.units + d.units < 2 ^ 64
   pub breaks : c.breaks + d.breaks < 2 ^ 64
+
+-- no count of the first is greater
+pub record NoneExceeds (c d : Counts) : Type 0 where
+  pub bytes : c.bytes ≤ d.bytes
+  pub chars : c.chars ≤ d.chars
+  pub units : c.units ≤ d.units
+  pub breaks : c.breaks ≤ d.breaks
 
 -- the count in one measure
 abbrev pub amount : By → Counts → ℕ

@@ -4,31 +4,19 @@ use Rattle.str_indices.specs.Text.{byte_len}
 use Rattle.ropey_tree.specs.Counts.{counts_of}
 use Rattle.ropey_tree.specs.declared.edits.Leaves.{Leaves}
 use Rattle.ropey_tree.specs.declared.edits.Leaves.TheVariants.{One, Two}
-use Rattle.ropey_tree.specs.declared.edits.Edited.{Edited}
-use Rattle.ropey_tree.specs.declared.edits.Edited.TheVariants.{One as OneNode, Two as TwoNodes}
 use Rattle.ropey_tree.specs.NodeView.{NodeView}
-use Rattle.ropey_tree.specs.Nodes.{all_pieces, count_of}
+use Rattle.ropey_tree.specs.Nodes.{all_pieces}
 use Rattle.ropey_tree.specs.Edits.{AreEdited, AreInPlaceOf, MadeFor}
 
 -- the texts of one leaf or two
 abbrev pub leaves_of : Leaves → List (List ℕ)
 leaves_of (One leaf counts) = leaf ∷ []
-leaves_of (Two front back) = front ∷ back ∷ []
+leaves_of (Two front counts back more) = front ∷ back ∷ []
 
--- one leaf of fewer than 984 bytes and its counts, or two leaves
+-- one leaf of fewer than 984 bytes and its counts, or two leaves and theirs
 abbrev pub AreLeavesCounted : Leaves → Type 0
 AreLeavesCounted (One leaf counts) = (counts ≡ counts_of leaf) × (byte_len leaf < 984)
-AreLeavesCounted (Two front back) = Unit {0}
-
--- the views of one node or two
-abbrev pub edited_nodes : Edited → List NodeView
-edited_nodes (OneNode node counts) = node.value ∷ []
-edited_nodes (TwoNodes first second) = first.value ∷ second.value ∷ []
-
--- one node and its counts, or two nodes
-abbrev pub AreNodesCounted : Edited → Type 0
-AreNodesCounted (OneNode node counts) = counts ≡ count_of node.value
-AreNodesCounted (TwoNodes first second) = Unit {0}
+AreLeavesCounted (Two front counts back more) = (counts ≡ counts_of front) × (more ≡ counts_of back)
 
 -- a row with others in place of the node at an index
 abbrev pub row_with : ℕ → List NodeView → List NodeView → List NodeView

@@ -1,37 +1,37 @@
 -- Nodes in a row, and what they are packed into.
-use Rattle.std.specs.Prelude.{◌≡◌, ℕ, suc, ◌+◌, ◌-◌, ◌<◌, ◌≤◌, ◌⊎◌, min, List, [], ◌∷◌, ◌++◌, length, take, drop}
+use Rattle.std.specs.Prelude.{◌≡◌, ℕ, ◌+◌, ◌/◌, ◌<◌, ◌≤◌, ◌⊎◌, min, List, [], ◌∷◌, length}
 use Rattle.ropey_tree.specs.declared.siblings.Joined.{Joined}
 use Rattle.ropey_tree.specs.declared.siblings.Joined.TheVariants.{One, Two}
-use Rattle.ropey_tree.specs.declared.siblings.Siblings.{Siblings}
-use Rattle.ropey_tree.specs.declared.siblings.Siblings.TheVariants.{One as OneNode, Nodes, Both, Front, Back, Within}
 pub use Rattle.ropey_tree.specs.Children.{views}
 use Rattle.ropey_tree.specs.Cutting.{IsRopeText}
 use Rattle.ropey_tree.specs.NodeView.{NodeView}
-use Rattle.ropey_tree.specs.Nodes.{all_pieces, AreNodes}
+use Rattle.ropey_tree.specs.Nodes.{count_of, all_pieces, AreNodes}
 
 -- the views of one node or two
 abbrev pub nodes_of : Joined → List NodeView
-nodes_of (One node) = node.value ∷ []
-nodes_of (Two first second) = first.value ∷ second.value ∷ []
+nodes_of (One node counts) = node.value ∷ []
+nodes_of (Two first counts second more) = first.value ∷ second.value ∷ []
 
--- the nodes of a row
-abbrev pub siblings_of : Siblings → List NodeView
-siblings_of (OneNode children) = children.now
-siblings_of (Nodes nodes) = views nodes.now
-siblings_of (Both front back) = front.now ++ back.now
-siblings_of (Front front joined) = take (length front.now - 1) front.now ++ nodes_of joined.now
-siblings_of (Back joined back) = nodes_of joined.now ++ drop 1 back.now
-siblings_of (Within children k joined) =
-    take k children.now ++ nodes_of joined.now ++ drop (suc k) children.now
+-- one node and its counts, or two nodes and theirs
+abbrev pub AreJoinedCounted : Joined → Type 0
+AreJoinedCounted (One node counts) = counts ≡ count_of node.value
+AreJoinedCounted (Two first counts second more) = (counts ≡ count_of first.value) × (more ≡ count_of second.value)
 
--- a child that is replaced is there
-abbrev pub IsFilled : Siblings → Type 0
-IsFilled (OneNode children) = Unit {0}
-IsFilled (Nodes nodes) = Unit {0}
-IsFilled (Both front back) = Unit {0}
-IsFilled (Front front joined) = 0 < length front.now
-IsFilled (Back joined back) = 0 < length back.now
-IsFilled (Within children k joined) = k < length children.now
+-- a row that is built: its nodes so far, and the number of those under the first parent
+pub record Row : Type 0 where
+  pub nodes : List NodeView
+  pub cut : ℕ
+
+-- under the first parent are all of at most 24 nodes, or the first half of more
+pub record IsRowCut (number cut : ℕ) : Type 0 where
+  pub one : number ≤ 24 → cut ≡ number
+  pub two : 24 < number → cut ≡ number / 2
+
+-- the nodes under two parents: those under the first are at most `cut`, and all if there are others
+pub record AreHalves (cut : ℕ) (first second : List NodeView) : Type 0 where
+  pub few : cut ≤ 24
+  pub room : length first ≤ cut
+  pub order : (length first ≡ cut) ⊎ (second ≡ [])
 
 -- nodes for one parent or two: 2 to 48, each full, and their leaf texts are those of a rope
 pub record AreSiblings (height : ℕ) (siblings : List NodeView) : Type 0 where

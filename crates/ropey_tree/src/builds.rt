@@ -7,7 +7,7 @@ ghost use Rattle.ropey_tree.specs.Siblings.{views, IsLevelOver};
 
 use crate::made::Made;
 use crate::node::Node;
-use crate::siblings::{Siblings, over};
+use crate::siblings::{gather, over};
 use crate::{MAX_CHILDREN, MIN_CHILDREN};
 use std::alloc::{AllocError, Global};
 use std::rc::Rc;
@@ -43,7 +43,7 @@ fn level(alloc: Global, height: usize, nodes: &[Rc<Node>]) -> Result<Vec<Rc<Node
     let mut from = 0;
     while from < nodes.len() {
         let to = from + share(nodes.len() - from);
-        let children = Siblings::Nodes(nodes).gather(alloc, from, to)?;
+        let children = gather(alloc, &nodes[from..to])?;
         let node = over(alloc, height, children, &mut Made::new())?;
         above.push(node)?;
         from = to;

@@ -1,6 +1,6 @@
 //! The children of a node, with running totals of their counts.
 
-ghost use Rattle.std.specs.Prelude.{◌≡◌, suc, ◌+◌, ◌<◌, ◌≤◌, ◌^◌, ◌⊎◌, [], ◌∷◌, ◌++◌, length, slice_index_or, take, drop, IfOk, OnOk};
+ghost use Rattle.std.specs.Prelude.{◌≡◌, suc, ◌+◌, ◌-◌, ◌<◌, ◌≤◌, ◌^◌, ◌⊎◌, [], ◌∷◌, ◌++◌, length, slice_index_or, take, drop, IfOk, OnOk};
 ghost use Rattle.ropey_tree.specs.Children.{views};
 ghost use Rattle.ropey_tree.specs.Counts.{total, amount};
 ghost use Rattle.ropey_tree.specs.NodeView.{NodeView};
@@ -45,7 +45,7 @@ impl Model for Children {
 }
 
 /// Appends copies of nodes to a list of nodes.
-fn copy_behind(nodes: &mut Vec<Rc<Node>>, more: &[Rc<Node>]) -> Result<(), AllocError>
+fn append_copies(nodes: &mut Vec<Rc<Node>>, more: &[Rc<Node>]) -> Result<(), AllocError>
     ensures { OnOk result (views nodes.new.items ≡ views nodes.old.items ++ views more.now) }
 {
     for node in more {
@@ -129,6 +129,32 @@ impl Children {
         Ok(Children { nodes, totals })
     }
 
+    /// Appends copies of the nodes in a range of indices of other children. The texts of all must
+    /// fit together.
+    pub(crate) fn with_some(
+        self,
+        other: &Children,
+        from: usize,
+        to: usize,
+    ) -> Result<Self, AllocError>
+        requires range { from ≤ to }
+        requires within { to ≤ length other.now }
+        requires room { length self + (to - from) ≤ 24 }
+        requires fits { (total (all_pieces (self ++ take (to - from) (drop from other.now)))).bytes
+            < 2 ^ 63 }
+        ensures { IfOk result (λ children.
+            children ≡ self ++ take (to - from) (drop from other.now)) }
+    {
+        let (before, sum) = (other.before(from), self.sum());
+        let Children {
+            mut nodes,
+            mut totals,
+        } = self;
+        append_copies(&mut nodes, &other.nodes[from..to])?;
+        totals.extend_from(&other.totals, from, to, before, sum)?;
+        Ok(Children { nodes, totals })
+    }
+
     /// Returns a copy with another node and its counts at an index.
     pub(crate) fn with_replaced(
         &self,
@@ -139,16 +165,14 @@ impl Children {
     ) -> Result<Self, AllocError>
         requires within { k < length self.now }
         requires counted { counts ≡ count_of node.value }
-        requires fits { (total (all_pieces self.now)).bytes + counts.bytes < 2 ^ 64 }
+        requires fits { (total (all_pieces (take k self.now ++ (node.value ∷ []) ++
+            drop (suc k) self.now))).bytes < 2 ^ 63 }
         ensures { IfOk result (λ children. children ≡
             take k self.now ++ (node.value ∷ []) ++ drop (suc k) self.now) }
     {
-        let totals = self.totals.with_replaced(alloc, k, self.count(k), counts)?;
-        let mut nodes = Vec::with_capacity(alloc, self.nodes.len())?;
-        copy_behind(&mut nodes, &self.nodes[..k])?;
-        nodes.push(node)?;
-        copy_behind(&mut nodes, &self.nodes[k + 1..])?;
-        Ok(Children { nodes, totals })
+        let len = self.len();
+        let front = Children::with_capacity(alloc, len)?.with_some(self, 0, k)?;
+        front.with(node, counts)?.with_some(self, k + 1, len)
     }
 
     /// Returns the counts of all nodes.

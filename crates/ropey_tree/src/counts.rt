@@ -34,7 +34,7 @@ pub struct Counts {
 }
 
 impl Counts {
-    ghost use Rattle.ropey_tree.specs.Counts.{counts_of, zero_counts, plus, minus, amount};
+    ghost use Rattle.ropey_tree.specs.Counts.{counts_of, zero_counts, plus, minus, NoneExceeds, amount};
 
     /// Returns the counts of the empty text.
     pub const fn zero() -> Self
@@ -52,6 +52,18 @@ impl Counts {
     pub fn of(text: &str) -> Self
         ensures { result ≡ counts_of (chars text.now) }
     {
+        // A letter that is typed, and what it replaces, are the shortest texts.
+        if text.is_empty() {
+            return Counts::zero();
+        }
+        if text.len() == 1 {
+            return Counts {
+                bytes: 1,
+                chars: 1,
+                units: 1,
+                breaks: if breaks::is_break(text) { 1 } else { 0 },
+            };
+        }
         Counts {
             bytes: text.len(),
             chars: chars::count(text),
@@ -91,6 +103,24 @@ impl Counts {
             chars: self.chars.saturating_sub(other.chars),
             units: self.units.saturating_sub(other.units),
             breaks: self.breaks.saturating_sub(other.breaks),
+        }
+    }
+
+    /// Returns the differences, measure by measure.
+    ///
+    /// # Requires
+    ///
+    /// No count of the other is greater.
+    #[inline]
+    pub(crate) fn less(self, other: Self) -> Self
+        requires { NoneExceeds other self }
+        ensures { result ≡ minus self other }
+    {
+        Counts {
+            bytes: self.bytes - other.bytes,
+            chars: self.chars - other.chars,
+            units: self.units - other.units,
+            breaks: self.breaks - other.breaks,
         }
     }
 

@@ -8,18 +8,17 @@ ghost use Rattle.ropey_tree.specs.Breaks.{is_break};
 ghost use Rattle.ropey_tree.specs.Counts.{counts_of, total};
 ghost use Rattle.ropey_tree.specs.Cutting.{IsCutting, cuts_cr_lf};
 ghost use Rattle.ropey_tree.specs.Edits.{IsReplaced, MayStandFor, AreEdited, IsEdited};
-ghost use Rattle.ropey_tree.specs.LeafRow.{leaves_of, AreLeavesCounted, edited_nodes, AreNodesCounted, row_with, IsReplacedBy};
+ghost use Rattle.ropey_tree.specs.LeafRow.{leaves_of, AreLeavesCounted, IsReplacedBy};
 ghost use Rattle.ropey_tree.specs.NodeView.{NodeView};
-ghost use Rattle.ropey_tree.specs.Nodes.{all_pieces, inner_view, leaf_view};
-ghost use Rattle.ropey_tree.specs.Siblings.{AreSiblings, Packed};
+ghost use Rattle.ropey_tree.specs.Nodes.{leaf_view};
+ghost use Rattle.ropey_tree.specs.Siblings.{nodes_of, AreJoinedCounted};
 
 use crate::MAX_BYTES;
-use crate::children::Children;
 use crate::counts::{By, Counts};
 use crate::leaf::{Leaf, fill_end, is_cr_last, is_lf_first};
 use crate::made::Made;
 use crate::node::{Node, Parts};
-use crate::siblings::{Joined, Siblings, over, over_two, pack};
+use crate::siblings::{Joined, over_two, pack_with};
 use crate::visits::Visits;
 use std::alloc::{AllocError, Global};
 use std::rc::Rc;
@@ -29,17 +28,8 @@ use std::rc::Rc;
 enum Leaves {
     /// One leaf, and its counts.
     One(Leaf, Counts),
-    /// Two, in order.
-    Two(Leaf, Leaf),
-}
-
-/// The nodes that an edit makes of one.
-#[derive(Drop)]
-enum Edited {
-    /// One node, and its counts.
-    One(Rc<Node>, Counts),
-    /// Two, in order.
-    Two(Rc<Node>, Rc<Node>),
+    /// Two in order, each with its counts.
+    Two(Leaf, Counts, Leaf, Counts),
 }
 
 /// The greatest number of bytes that fit into two leaves, wherever the text is cut between
@@ -216,19 +206,21 @@ fn with_text_replaced(
     if !has_ends_of(new, leaf) {
         return Ok(None);
     }
+    let counts = counts_replaced(counts, front, gone, text, back);
     if new.len() < MAX_BYTES {
-        let counts = counts_replaced(counts, front, gone, text, back);
         return Ok(Some(Leaves::One(Leaf::of(whole), counts)));
     }
     let two = two_leaves(alloc, new)?;
-    Ok(Some(Leaves::Two(two.0, two.1)))
+    let less = two.0.counts();
+    let more = counts.saturating_sub(less);
+    Ok(Some(Leaves::Two(two.0, less, two.1, more)))
 }
 
 /// Puts leaves into nodes.
-fn nodes_over(alloc: Global, leaves: Leaves, made: &mut Made) -> Result<Edited, AllocError>
+fn nodes_over(alloc: Global, leaves: Leaves, made: &mut Made) -> Result<Joined, AllocError>
     requires { AreLeavesCounted leaves }
-    ensures nodes { IfOk result (λ nodes. edited_nodes nodes ≡ map leaf_view (leaves_of leaves)) }
-    ensures counted { IfOk result AreNodesCounted }
+    ensures nodes { IfOk result (λ nodes. nodes_of nodes ≡ map leaf_view (leaves_of leaves)) }
+    ensures counted { IfOk result AreJoinedCounted }
     ensures made { IfOk result (λ _. made.new.nodes ≡
         made.old.nodes + length (leaves_of leaves)) }
     ensures least { made.old.nodes ≤ made.new.nodes }
@@ -237,57 +229,12 @@ fn nodes_over(alloc: Global, leaves: Leaves, made: &mut Made) -> Result<Edited, 
     match leaves {
         Leaves::One(leaf, counts) => {
             let only = made.share(alloc, Node::from_leaf(leaf))?;
-            Ok(Edited::One(only, counts))
+            Ok(Joined::One(only, counts))
         }
-        Leaves::Two(front, back) => {
+        Leaves::Two(front, counts, back, more) => {
             let first = made.share(alloc, Node::from_leaf(front))?;
             let second = made.share(alloc, Node::from_leaf(back))?;
-            Ok(Edited::Two(first, second))
-        }
-    }
-}
-
-/// Returns the nodes over children, with the edited nodes in place of the child at an index.
-fn with_child_edited(
-    alloc: Global,
-    height: usize,
-    children: &Children,
-    index: usize,
-    edited: Edited,
-    made: &mut Made,
-) -> Result<Edited, AllocError>
-    requires within { index < length children.now }
-    requires counted { AreNodesCounted edited }
-    requires nodes { AreSiblings height (row_with index (edited_nodes edited) children.now) }
-    requires fits { (total (all_pieces children.now)).bytes +
-        (total (all_pieces (edited_nodes edited))).bytes < 2 ^ 64 }
-    ensures packed { IfOk result (λ nodes.
-        Packed height (row_with index (edited_nodes edited) children.now) (edited_nodes nodes)) }
-    ensures one { IfOk result (λ nodes.
-        length (row_with index (edited_nodes edited) children.now) ≤ 24 → edited_nodes nodes ≡
-        inner_view height (row_with index (edited_nodes edited) children.now) ∷ []) }
-    ensures counted { IfOk result AreNodesCounted }
-    ensures made { IfOk result (λ nodes. made.new.nodes ≡
-        made.old.nodes + length (edited_nodes nodes)) }
-    ensures least { made.old.nodes ≤ made.new.nodes }
-    ensures most { made.new.nodes ≤ made.old.nodes + 2 }
-{
-    match edited {
-        Edited::One(node, counts) => {
-            let children = children.with_replaced(alloc, index, node, counts)?;
-            let sum = children.sum();
-            let only = over(alloc, height, children, made)?;
-            Ok(Edited::One(only, sum))
-        }
-        Edited::Two(first, second) => {
-            let two = Joined::Two(first, second);
-            match pack(alloc, height, Siblings::Within(children, index, &two), made)? {
-                Joined::One(node) => {
-                    let sum = node.counts();
-                    Ok(Edited::One(node, sum))
-                }
-                Joined::Two(first, second) => Ok(Edited::Two(first, second)),
-            }
+            Ok(Joined::Two(first, counts, second, more))
         }
     }
 }
@@ -316,15 +263,15 @@ fn replaced(
     is_end: bool,
     made: &mut Made,
     visits: &mut Visits,
-) -> Result<Option<Edited>, AllocError>
+) -> Result<Option<Joined>, AllocError>
     requires range { from ≤ to }
     requires counted { counts ≡ total node.now.value.pieces }
     requires fits { (total node.now.value.pieces).bytes + byte_len (chars text.now) < 2 ^ 63 }
     requires some { 1 ≤ least }
     ensures edited { IfOk result (λ nodes. IfSome nodes (λ nodes.
         IsReplacedBy node.now.value from to (chars text.now) (made.new.nodes - made.old.nodes)
-        (edited_nodes nodes))) }
-    ensures counted { IfOk result (λ nodes. IfSome nodes AreNodesCounted) }
+        (nodes_of nodes))) }
+    ensures counted { IfOk result (λ nodes. IfSome nodes AreJoinedCounted) }
     ensures none { IfOk result (λ nodes. IfNone nodes ((pieces : List (List ℕ)) →
         (h : AreEdited node.now.value from to (chars text.now) pieces) →
         least ≤ byte_len (concat h.leaves) → 1_960 < byte_len (concat h.leaves))) }
@@ -360,7 +307,7 @@ fn replaced(
                 Some(edited) => {
                     let height = node.height();
                     let index = choice.index;
-                    let nodes = with_child_edited(alloc, height, children, index, edited, made)?;
+                    let nodes = pack_with(alloc, height, children, index, edited, made)?;
                     Ok(Some(nodes))
                 }
             }
@@ -429,9 +376,9 @@ pub fn replace_in_leaf(
         alloc, node, counts, from, to, text, least, true, made, visits,
     )? {
         None => Ok(None),
-        Some(Edited::One(only, _)) => Ok(Some(only)),
-        Some(Edited::Two(first, second)) => {
-            let root = over_two(alloc, height + 1, first, second, made)?;
+        Some(Joined::One(only, _)) => Ok(Some(only)),
+        Some(Joined::Two(first, counts, second, more)) => {
+            let root = over_two(alloc, height + 1, first, counts, second, more, made)?;
             Ok(Some(root))
         }
     }

@@ -3,11 +3,11 @@
 ghost use Rattle.std.specs.Prelude.{◌≡◌, ◌++◌, IfOk};
 ghost use Rattle.ropey_tree.specs.Cutting.{IsRopeText};
 ghost use Rattle.ropey_tree.specs.Nodes.{AreJoined};
-ghost use Rattle.ropey_tree.specs.Siblings.{nodes_of};
+ghost use Rattle.ropey_tree.specs.Siblings.{nodes_of, AreJoinedCounted};
 
 use crate::made::Made;
 use crate::node::{Node, Parts};
-use crate::siblings::{Joined, Siblings, over_two, pack};
+use crate::siblings::{Joined, over_two, pack_both, pack_with};
 use std::alloc::{AllocError, Global};
 use std::rc::Rc;
 
@@ -15,14 +15,17 @@ use std::rc::Rc;
 fn beside(alloc: Global, left: &Rc<Node>, right: &Rc<Node>) -> Result<Joined, AllocError>
     requires level { left.now.value.height ≡ right.now.value.height }
     requires text { IsRopeText (left.now.value.pieces ++ right.now.value.pieces) }
-    ensures { IfOk result (λ joined. AreJoined left.now.value right.now.value (nodes_of joined)) }
+    ensures joined { IfOk result (λ joined.
+        AreJoined left.now.value right.now.value (nodes_of joined)) }
+    ensures counted { IfOk result AreJoinedCounted }
 {
     match left.parts() {
         Parts::Leaf(_) => match right.parts() {
             Parts::Leaf(_) => {
+                let (counts, more) = (left.counts(), right.counts());
                 let first = left.clone()?;
                 let second = right.clone()?;
-                Ok(Joined::Two(first, second))
+                Ok(Joined::Two(first, counts, second, more))
             }
             Parts::Inner(_) => unreachable!(),
         },
@@ -32,12 +35,7 @@ fn beside(alloc: Global, left: &Rc<Node>, right: &Rc<Node>) -> Result<Joined, Al
             };
             // For the proof only.
             let _ = (front.len(), back.len());
-            let joined = pack(
-                alloc,
-                left.height(),
-                Siblings::Both(front, back),
-                &mut Made::new(),
-            )?;
+            let joined = pack_both(alloc, left.height(), front, back)?;
             Ok(joined)
         }
     }
@@ -55,7 +53,9 @@ fn beside(alloc: Global, left: &Rc<Node>, right: &Rc<Node>) -> Result<Joined, Al
 /// Out of memory.
 pub fn join(alloc: Global, left: &Rc<Node>, right: &Rc<Node>) -> Result<Joined, AllocError>
     requires { IsRopeText (left.now.value.pieces ++ right.now.value.pieces) }
-    ensures { IfOk result (λ joined. AreJoined left.now.value right.now.value (nodes_of joined)) }
+    ensures joined { IfOk result (λ joined.
+        AreJoined left.now.value right.now.value (nodes_of joined)) }
+    ensures counted { IfOk result AreJoinedCounted }
 {
     let (l, r) = (left.height(), right.height());
     if l == r {
@@ -65,8 +65,9 @@ pub fn join(alloc: Global, left: &Rc<Node>, right: &Rc<Node>) -> Result<Joined, 
         let Parts::Inner(front) = left.parts() else {
             unreachable!()
         };
-        let last = join(alloc, front.get(front.len() - 1), right)?;
-        let joined = pack(alloc, l, Siblings::Front(front, &last), &mut Made::new())?;
+        let end = front.len() - 1;
+        let last = join(alloc, front.get(end), right)?;
+        let joined = pack_with(alloc, l, front, end, last, &mut Made::new())?;
         Ok(joined)
     } else {
         let Parts::Inner(back) = right.parts() else {
@@ -75,7 +76,7 @@ pub fn join(alloc: Global, left: &Rc<Node>, right: &Rc<Node>) -> Result<Joined, 
         // For the proof only.
         let _ = back.len();
         let first = join(alloc, left, back.get(0))?;
-        let joined = pack(alloc, r, Siblings::Back(&first, back), &mut Made::new())?;
+        let joined = pack_with(alloc, r, back, 0, first, &mut Made::new())?;
         Ok(joined)
     }
 }
@@ -95,10 +96,10 @@ pub fn concat(alloc: Global, left: &Rc<Node>, right: &Rc<Node>) -> Result<Rc<Nod
         right.now.value.pieces) }
 {
     match join(alloc, left, right)? {
-        Joined::One(node) => Ok(node),
-        Joined::Two(first, second) => {
-            let height = left.height().max(right.height());
-            let node = over_two(alloc, height + 1, first, second, &mut Made::new())?;
+        Joined::One(node, _) => Ok(node),
+        Joined::Two(first, counts, second, more) => {
+            let height = left.height().max(right.height()) + 1;
+            let node = over_two(alloc, height, first, counts, second, more, &mut Made::new())?;
             Ok(node)
         }
     }

@@ -1,12 +1,30 @@
 //! Running totals, and the binary search for a position among them.
 
 ghost use Rattle.std.specs.Prelude.{◌≡◌, ◌+◌, ◌-◌, ◌<◌, ◌≤◌, ◌⊎◌, ◌↔◌, IsTrue, [], ◌∷◌, ◌++◌, length, slice_index_or, take, drop, map, All, IfOk, OnOk};
-ghost use Rattle.ropey_tree.specs.Counts.{amount, zero_counts, plus, minus, FitsWith};
+ghost use Rattle.ropey_tree.specs.Counts.{amount, zero_counts, plus, minus, FitsWith, NoneExceeds};
 
 use crate::counts::{By, Counts};
 use crate::visits::Visits;
 use std::alloc::{AllocError, Global};
 use std::marker::Model;
+
+/// Appends totals less `before` and more `sum`.
+fn append_moved(
+    ends: &mut Vec<Counts>,
+    others: &[Counts],
+    before: Counts,
+    sum: Counts,
+) -> Result<(), AllocError>
+    requires later { All (λ total. NoneExceeds before total) others.now }
+    requires fits { All (λ total. FitsWith sum (minus total before)) others.now }
+    ensures { OnOk result (ends.new.items ≡ ends.old.items ++
+        map (λ total. plus sum (minus total before)) others.now) }
+{
+    for end in others {
+        ends.push(sum.plus(end.less(before)))?;
+    }
+    Ok(())
+}
 
 /// The counts of the first of some texts in a row: entry `k` is that of all up to and including the
 /// one at `k`. So a position is found by binary search, and the counts of one text are a
@@ -65,26 +83,26 @@ impl RunningTotals {
         Ok(())
     }
 
-    /// Returns the totals with another text at an index: those before it are unchanged, and all
-    /// others differ by the difference of the two texts' counts.
-    pub(crate) fn with_replaced(
-        &self,
-        alloc: Global,
-        k: usize,
-        old: Counts,
-        new: Counts,
-    ) -> Result<Self, AllocError>
-        requires within { k < length self.now }
-        requires fits { All (λ total. FitsWith total new) self.now }
-        ensures { IfOk result (λ totals. totals ≡
-            take k self.now ++ map (λ total. minus (plus total new) old) (drop k self.now)) }
+    /// Appends the totals of other texts in a range of indices: `before` are the counts before that
+    /// range, `sum` those of all texts here.
+    pub(crate) fn extend_from(
+        &mut self,
+        other: &RunningTotals,
+        from: usize,
+        to: usize,
+        before: Counts,
+        sum: Counts,
+    ) -> Result<(), AllocError>
+        requires range { from ≤ to }
+        requires within { to ≤ length other.now }
+        requires later { All (λ total. NoneExceeds before total)
+            (take (to - from) (drop from other.now)) }
+        requires fits { All (λ total. FitsWith sum (minus total before))
+            (take (to - from) (drop from other.now)) }
+        ensures { OnOk result (self.new ≡ self.old ++
+            map (λ total. plus sum (minus total before)) (take (to - from) (drop from other.now))) }
     {
-        let mut ends = Vec::with_capacity(alloc, self.ends.len())?;
-        ends.extend_from_slice(&self.ends[..k])?;
-        for end in &self.ends[k..] {
-            ends.push(end.plus(new).saturating_sub(old))?;
-        }
-        Ok(RunningTotals { ends })
+        append_moved(&mut self.ends, &other.ends[from..to], before, sum)
     }
 
     /// Returns whether the end of the text at an index is past `i` in a measure, which counts as a

@@ -12,7 +12,7 @@ use crate::joins;
 use crate::leaf::Leaf;
 use crate::made::Made;
 use crate::node::{Node, Parts};
-use crate::siblings::{Siblings, over};
+use crate::siblings::over;
 use crate::visits::Visits;
 use std::alloc::{AllocError, Global};
 use std::rc::Rc;
@@ -81,7 +81,7 @@ pub(crate) fn tree_over(
         let child = children.get(from).clone()?;
         return Ok(Some(child));
     }
-    let some = Siblings::One(children).gather(alloc, from, to)?;
+    let some = Children::with_capacity(alloc, to - from)?.with_some(children, from, to)?;
     let node = over(alloc, height, some, &mut Made::new())?;
     Ok(Some(node))
 }

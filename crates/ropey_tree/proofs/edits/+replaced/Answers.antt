@@ -1,12 +1,12 @@
-use Rattle.std.proofs.Common.{◌≡◌, ◌+◌, ◌-◌, ◌≤◌, length, take, ap, ◌∙◌, arith}
+use Rattle.std.proofs.Common.{◌≡◌, ◌+◌, ◌-◌, ◌≤◌, length, ap, ◌∙◌, arith}
 use Rattle.std.specs.Str.{chars}
 use Rattle.std.specs.List.{concat}
 use Rattle.str_indices.specs.Text.{byte_len}
 use Rattle.ropey_tree.specs.Counts.{total}
-use Rattle.ropey_tree.specs.Nodes.{all_pieces}
-use Rattle.ropey_tree.specs.LeafRow.{edited_nodes}
+use Rattle.ropey_tree.specs.Siblings.{nodes_of}
+use Rattle.ropey_tree.proofs.Joining.{joined_len}
 use Rattle.ropey_tree.proofs.Texts.{total-one}
-use Rattle.ropey_tree.proofs.Editing.{leaves_replace, edited_len, of_piece, child_lower, child_fits, child_counted, of_child, row_siblings, row_replaces, edited_bytes}
+use Rattle.ropey_tree.proofs.Editing.{leaves_replace, of_piece, child_lower, child_fits, child_counted, of_child, row_siblings, row_replaces}
 use Rattle.ropey_tree.proofs.edits.+replaced.Goals as goal
 
 pub replaced-requires : goal.replaced-requires
@@ -25,8 +25,8 @@ replaced-requires t c =
     let fits = child_fits v vs k child c.args.from c.args.to v_is inner within c.get-child.ensures low c.requires.1.1.0 c.choose-choice.ensures.passed (byte_len (chars c.args.text.now)) c.requires.1.1.1.1.0 in
     (omega (arith, c.requires.1.0, lower), (omega (arith, c.requires.1.1.0), (counted, (fits, c.requires.1.1.1.1.1))))
 
-pub with_child_edited-requires-clause-nodes : goal.with_child_edited-requires-clause-nodes
-with_child_edited-requires-clause-nodes t c =
+pub pack_with-requires-clause-nodes : goal.pack_with-requires-clause-nodes
+pack_with-requires-clause-nodes t c =
     let v = c.args.node.now.value in
     let vs = c.in-Inner.children.now in
     let k = c.choose-choice.result.index in
@@ -37,29 +37,12 @@ with_child_edited-requires-clause-nodes t c =
     let low = rw before at c.choose-choice.ensures.not_past in
     let h = rw (before, c.in-Some-2.is) at c.in_ok-replaced-in-Inner.ensures in
     let made = c.replaced.new.made.nodes - c.args.made.now.nodes in
-    let len = edited_len c.in-Some-2.edited in
+    let len = joined_len c.in-Some-2.edited in
     let few : length vs ≤ 24 = omega (arith, ap (λ u. u.degree) v_is, c.height-height.ensures.few, ap (λ u. u.degree) c.deref-in-Some-2.ensures) in
     let is_text = rw c.deref-in-Some-2.ensures at c.height-height.ensures.tree.text in
     rw (c.height-height.ensures.value, c.deref-in-Some-2.ensures)
     (row_siblings v vs k child c.args.from c.args.to v_is inner c.choose-choice.ensures.within c.get-child.ensures low c.requires.1.1.0 c.choose-choice.ensures.passed
-    (chars c.args.text.now) made (edited_nodes c.in-Some-2.edited) len.0 len.1 h.edited few is_text c.requires.1.1.1.1.0)
-
-pub with_child_edited-requires-clause-fits : goal.with_child_edited-requires-clause-fits
-with_child_edited-requires-clause-fits t c =
-    let v = c.args.node.now.value in
-    let vs = c.in-Inner.children.now in
-    let k = c.choose-choice.result.index in
-    let child = c.get-child.result.now.value in
-    let v_is = rw c.deref.ensures at c.in-Inner.ensures.0 in
-    let inner = rw c.deref.ensures at c.in-Inner.ensures.1 in
-    let before = ap (λ b. b.bytes) c.choose-choice.ensures.stands_before in
-    let low = rw before at c.choose-choice.ensures.not_past in
-    let h = rw (before, c.in-Some-2.is) at c.in_ok-replaced-in-Inner.ensures in
-    let text = chars c.args.text.now in
-    let whole = ap (λ u. (total u.pieces).bytes) v_is in
-    let fits = child_fits v vs k child c.args.from c.args.to v_is inner c.choose-choice.ensures.within c.get-child.ensures low c.requires.1.1.0 c.choose-choice.ensures.passed (byte_len text) c.requires.1.1.1.1.0 in
-    let few = edited_bytes child (c.args.from - (total (all_pieces (take k vs))).bytes) (c.args.to - (total (all_pieces (take k vs))).bytes) text (all_pieces (edited_nodes c.in-Some-2.edited)) h.edited.edited in
-    omega (arith, whole, fits, few, c.requires.1.1.1.1.0)
+    (chars c.args.text.now) made (nodes_of c.in-Some-2.edited) len.0 len.1 h.edited few is_text c.requires.1.1.1.1.0)
 
 pub returns-in_ok-nodes-in-Some-2-clause-edited : goal.returns-in_ok-nodes-in-Some-2-clause-edited
 returns-in_ok-nodes-in-Some-2-clause-edited t c =
@@ -73,20 +56,20 @@ returns-in_ok-nodes-in-Some-2-clause-edited t c =
     let low = rw before at c.choose-choice.ensures.not_past in
     let h = rw (before, c.in-Some-2.is) at c.in_ok-replaced-in-Inner.ensures in
     let made = c.replaced.new.made.nodes - c.args.made.now.nodes in
-    let nodes = edited_nodes c.in-Some-2.edited in
-    let len = edited_len c.in-Some-2.edited in
+    let nodes = nodes_of c.in-Some-2.edited in
+    let len = joined_len c.in-Some-2.edited in
     let few : length vs ≤ 24 = omega (arith, ap (λ u. u.degree) v_is, c.height-height.ensures.few, ap (λ u. u.degree) c.deref-in-Some-2.ensures) in
     let e = rw (c.height-height.ensures.value, c.deref-in-Some-2.ensures) at c.in_ok-nodes-in-Some-2.ensures in
-    let count : c.with_child_edited.new.made.nodes - c.args.made.now.nodes ≡ made + length (edited_nodes c.in_ok-nodes-in-Some-2.nodes) = omega (arith, c.in_ok-nodes-in-Some-2.ensures.made, c.replaced.ensures.least) in
+    let count : c.pack_with.new.made.nodes - c.args.made.now.nodes ≡ made + length (nodes_of c.in_ok-nodes-in-Some-2.nodes) = omega (arith, c.in_ok-nodes-in-Some-2.ensures.made, c.replaced.ensures.least) in
     row_replaces v vs k child c.args.from c.args.to v_is inner c.choose-choice.ensures.within c.get-child.ensures low c.requires.1.1.0 c.choose-choice.ensures.passed
-    (chars c.args.text.now) made nodes len.0 len.1 h.edited (edited_nodes c.in_ok-nodes-in-Some-2.nodes) (c.with_child_edited.new.made.nodes - c.args.made.now.nodes) few e.packed e.one count (edited_len c.in_ok-nodes-in-Some-2.nodes).1
+    (chars c.args.text.now) made nodes len.0 len.1 h.edited (nodes_of c.in_ok-nodes-in-Some-2.nodes) (c.pack_with.new.made.nodes - c.args.made.now.nodes) few e.packed e.one count (joined_len c.in_ok-nodes-in-Some-2.nodes).1
 
 pub returns-in_ok-nodes-in-Some-clause-edited : goal.returns-in_ok-nodes-in-Some-clause-edited
 returns-in_ok-nodes-in-Some-clause-edited t c =
     let v_is = rw c.deref.ensures at c.in-Leaf.ensures.0 in
     let e = rw c.in-Some.is at c.in_ok-with_text_replaced-in-Leaf.ensures in
     let made = c.in_ok-nodes-in-Some.ensures in
-    leaves_replace c.args.node.now.value c.in-Leaf.leaf.now c.in-Some.leaves (edited_nodes c.in_ok-nodes-in-Some.nodes) c.args.from c.args.to (chars c.args.text.now) (c.nodes_over.new.made.nodes - c.args.made.now.nodes) v_is
+    leaves_replace c.args.node.now.value c.in-Leaf.leaf.now c.in-Some.leaves (nodes_of c.in_ok-nodes-in-Some.nodes) c.args.from c.args.to (chars c.args.text.now) (c.nodes_over.new.made.nodes - c.args.made.now.nodes) v_is
     made.nodes e.replaced e.may_stand (omega (arith, made.made))
 
 pub returns-in-None-2-clause-none : goal.returns-in-None-2-clause-none

@@ -11,8 +11,8 @@ returns-in-Some-One-clause-edited c =
     let by = rw (c.in-Some-One.is, c.in-Some-One.field-0-is) at c.in_ok-replaced.ensures in
     one_tree c.args.node.now.value c.in-Some-One.only.value c.args.from c.args.to (chars c.args.text.now) (c.replaced.new.made.nodes - c.args.made.now.nodes) by.edited
 
-pub over_two-requires : goal.over_two-requires
-over_two-requires c =
+pub over_two-requires-clause-inner : goal.over_two-requires-clause-inner
+over_two-requires-clause-inner c =
     let v = c.args.node.now.value in
     let first = c.in-Some-Two.first.value in
     let second = c.in-Some-Two.second.value in

@@ -4,7 +4,8 @@ use Rattle.std.specs.Str.{chars}
 use Rattle.std.proofs.lemmas.List.{append-nil}
 use Rattle.std.proofs.lemmas.Str.{encodes-chars}
 use Rattle.str_indices.specs.Text.{byte_len, starts_with_lf, ends_with_cr}
-use Rattle.ropey_tree.specs.Counts.{counts_of}
+use Rattle.ropey_tree.specs.Counts.{counts_of, minus}
+use Rattle.ropey_tree.proofs.CuttingLaws.{counts-second}
 use Rattle.ropey_tree.proofs.Editing.{not_both, one_replaced, replaced_in, piece_of, two_may}
 use Rattle.ropey_tree.proofs.edits.with_text_replaced.Goals as goal
 
@@ -59,3 +60,12 @@ returns-clause-may_stand c =
       ends = ap ends_with_cr both ∙ c.has_ends_of.ensures.ends c.if-not-has_ends_of.false;
       number = two_may a b (chars new) e.text (omega (arith, ap length (encodes-chars new c.as_str-new.utf8), c.if-new-lt-MAX_BYTES.false)) e.front e.back;
     }
+
+pub returns-clause-counted : goal.returns-clause-counted
+returns-clause-counted c =
+    let a = c.in_ok-two.two.0 in
+    let b = c.in_ok-two.two.1 in
+    let new = c.as_str-new.result.now in
+    let text : chars new ≡ chars c.in-Some.front.now ++ chars c.args.text.now ++ chars c.in-Some.back.now = ap chars c.as_str-new.ensures.value ∙ c.in_ok-whole.ensures.text in
+    let whole = c.counts_replaced-counts.ensures ∙ ap counts_of (sym text) in
+    (c.counts-less.ensures, c.saturating_sub-more.ensures ∙ ap (λ k. minus k c.counts-less.result) whole ∙ ap (minus (counts_of (chars new))) c.counts-less.ensures ∙ counts-second a b (chars new) c.in_ok-two.ensures.cut c.in_ok-two.ensures.text)
