@@ -1,5 +1,5 @@
 -- Rows of ranges of bytes.
-use Rattle.std.proofs.Common.{◌≡◌, ℕ, zero, suc, ◌+◌, length, drop, get_or, ◌<◌, ◌≤◌, ◌⊎◌, Bool, true, false, ◌&&◌, cond, nat_le, nat_eq, List, [], ◌∷◌, ◌++◌, Option, Some, None, refl, sym, ap, subst, ◌∙◌, arith, inl, inr}
+use Rattle.std.proofs.Common.{◌≡◌, ℕ, zero, suc, ◌+◌, length, drop, take, get_or, slice_set, ◌<◌, ◌≤◌, ◌⊎◌, Bool, true, false, ◌&&◌, cond, nat_le, nat_eq, List, [], ◌∷◌, ◌++◌, Option, Some, None, refl, sym, ap, subst, ◌∙◌, arith, inl, inr}
 use Rattle.std.proofs.lemmas.Bool.Decides.{nat_tests}
 use Rattle.rx_utf8.specs.declared.byte_ranges.ByteRange.{ByteRange}
 use Rattle.rx_utf8.specs.Automata.{look_up, RiseWithin}
@@ -12,7 +12,7 @@ low_high : (low high : ℕ) (row : List ByteRange) → RiseWithin low high row �
 low_high low high [] rise = rise
 low_high low high (x ∷ row) rise = omega (arith, rise.0, rise.1, low_high (x.last + 1) high row rise.2)
 
-not_in : (x : ByteRange) (b : ℕ) → (b < x.first) ⊎ (x.last < b) → (nat_le x.first b && nat_le b x.last) ≡ false
+pub not_in : (x : ByteRange) (b : ℕ) → (b < x.first) ⊎ (x.last < b) → (nat_le x.first b && nat_le b x.last) ≡ false
 not_in x b out = grind (arith, nat_tests)
 
 skips : (is : Bool) (t : Option ℕ) (o : Option (Option ℕ)) → is ≡ false → o ≡ None → cond is (Some t) o ≡ None
@@ -80,11 +80,11 @@ eq_true b to e = grind (arith, nat_tests)
 eq_false : (b to : ℕ) → (b < to) ⊎ (to < b) → nat_eq b to ≡ false
 eq_false b to other = grind (arith, nat_tests)
 
-or_here : (o : Option (Option ℕ)) (is : Bool) (t : Option ℕ) → o ≡ None → is ≡ true → or_else o (cond is (Some t) None) ≡ Some t
+pub or_here : (o : Option (Option ℕ)) (is : Bool) (t : Option ℕ) → o ≡ None → is ≡ true → or_else o (cond is (Some t) None) ≡ Some t
 or_here o true t none e = ap (λ x. or_else x (Some t)) none
 or_here o false t none e = absurd (cc e)
 
-or_none : (o : Option (Option ℕ)) → or_else o None ≡ o
+pub or_none : (o : Option (Option ℕ)) → or_else o None ≡ o
 or_none None = refl
 or_none (Some t) = refl
 
@@ -144,11 +144,10 @@ pub leads_before : (to : ℕ) (t : Option ℕ) (row more : List ByteRange) → (
 leads_before to t row more leads b less = leads b ∙ ap (λ x. cond x (Some t) (look_up row b)) (eq_false b to (inl less))
 
 -- a longer row, however it is given
-pub one_more : (to : ℕ) (t : Option ℕ) (old middle new : List ByteRange) → RiseWithin 0 to old → middle ≡ old → new ≡ middle ++ record { first = to; last = to; next = t } ∷ []
+pub one_more : (to : ℕ) (t : Option ℕ) (old new : List ByteRange) → RiseWithin 0 to old → new ≡ old ++ record { first = to; last = to; next = t } ∷ []
     → RiseWithin 0 (to + 1) new × ((b : ℕ) → look_up new b ≡ cond (nat_eq b to) (Some t) (look_up old b))
-one_more to t old middle new rise same is =
-    let whole : new ≡ old ++ record { first = to; last = to; next = t } ∷ [] = is ∙ ap (λ xs. xs ++ record { first = to; last = to; next = t } ∷ []) same in
-    (subst (RiseWithin 0 (to + 1)) (sym whole) (rise_one to t old rise), (λ b. ap (λ xs. look_up xs b) whole ∙ look_up-one to t old rise b))
+one_more to t old new rise is =
+    (subst (RiseWithin 0 (to + 1)) (sym is) (rise_one to t old rise), (λ b. ap (λ xs. look_up xs b) is ∙ look_up-one to t old rise b))
 
 pub one_longer : (to : ℕ) (t : Option ℕ) (old front new : List ByteRange) (x : ByteRange) → RiseWithin 0 to old → old ≡ front ++ x ∷ [] → x.last + 1 ≡ to → x.next ≡ t
     → new ≡ front ++ record { first = x.first; last = to; next = t } ∷ []
@@ -160,3 +159,27 @@ one_longer to t old front new x rise was next leads is =
       (λ b. ap (λ xs. look_up xs b) whole ∙ look_up-longer to front x next rise' b ∙ ap (λ z. cond (nat_eq b to) (Some z) (look_up (front ++ x ∷ []) b)) leads
           ∙ ap (λ xs. cond (nat_eq b to) (Some t) (look_up xs b)) (sym was)),
     )
+
+-- a list up to its last item, and with another in its place
+last_item : (xs : List ByteRange) (i : ℕ) (d y : ByteRange) → i + 1 ≡ length xs
+    → (xs ≡ take i xs ++ get_or xs i d ∷ []) × (slice_set xs i y ≡ take i xs ++ y ∷ [])
+last_item [] i d y e = absurd (omega (arith, e))
+last_item (x ∷ []) zero d y e = (refl, refl)
+last_item (x ∷ x' ∷ xs) zero d y e = absurd (omega (arith, e))
+last_item (x ∷ xs) (suc i) d y e = let on = last_item xs i d y (omega (arith, e)) in (ap (λ l. x ∷ l) on.0, ap (λ l. x ∷ l) on.1)
+
+any_default : (xs : List ByteRange) (i : ℕ) (d d' : ByteRange) → i < length xs → get_or xs i d ≡ get_or xs i d'
+any_default [] i d d' lt = absurd (omega (arith, lt))
+any_default (x ∷ xs) zero d d' lt = refl
+any_default (x ∷ xs) (suc i) d d' lt = any_default xs i d d' (omega (arith, lt))
+
+-- the last range, read as x and as y, is extended in its place
+pub set_longer : (to i : ℕ) (t : Option ℕ) (old : List ByteRange) (x y : ByteRange) → RiseWithin 0 to old → i + 1 ≡ length old → x ≡ get_or old i x → y ≡ get_or old i y → x.last + 1 ≡ to → x.next ≡ t
+    → let new = slice_set old i record { first = y.first; last = to; next = y.next } in
+    RiseWithin 0 (to + 1) new × ((b : ℕ) → look_up new b ≡ cond (nat_eq b to) (Some t) (look_up old b))
+set_longer to i t old x y rise len is-x is-y next leads =
+    let same : y ≡ x = is-y ∙ any_default old i y x (omega (arith, len)) ∙ sym is-x in
+    let longer : ByteRange → ByteRange = λ z. record { first = z.first; last = to; next = t } in
+    let at = last_item old i x record { first = y.first; last = to; next = y.next } len in
+    one_longer to t old (take i old) _ x rise (at.0 ∙ ap (λ z. take i old ++ z ∷ []) (sym is-x)) next leads
+    (at.1 ∙ ap (λ (z : Option ℕ). take i old ++ record { first = y.first; last = to; next = z } ∷ []) (ap (λ (z : ByteRange). z.next) same ∙ leads) ∙ ap (λ (z : ByteRange). take i old ++ longer z ∷ []) same)

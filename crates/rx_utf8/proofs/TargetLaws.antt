@@ -8,7 +8,7 @@ use Rattle.rx_utf8.specs.declared.byte_ranges.ByteRange.{ByteRange}
 use Rattle.std.specs.List.{All}
 use Rattle.std.proofs.lemmas.List.Elements.{All-append, All-cons, All-nil, All-get_or}
 use Rattle.rx_utf8.specs.Automata.{look_up, step_in, RiseWithin, IsAutomatonRow}
-use Rattle.rx_utf8.proofs.RowLaws.{rise_above, rise_more, leads_here, leads_before}
+use Rattle.rx_utf8.proofs.RowLaws.{rise_above, rise_below, rise_more, rise_append, look_up-append, or_else, or_none, or_here, not_in, leads_here, leads_before}
 use Rattle.rx_utf8.proofs.FirstLaws.{next_range}
 use Rattle.rx_utf8.proofs.FitLaws.{Full, full_fits, fits_on, fits_alike}
 
@@ -124,6 +124,20 @@ filled_fits R p (suc r) v row some more filled =
       (λ b is. here b ∙ elim (next_at b is) [ inl low ↦ filled'.below b low | inr high ↦ rise_above 0 192 row b filled'.rises high ]),
     )
 
+-- of ranges up to a place, and from one on
+pub part_alike : (p m q : ℕ → Bool) (r v n n' : ℕ) → n ≡ size r → n' ≡ size r → ((x : ℕ) → x ≤ v * n + (n' - 1) → p x ≡ m x) → ((x : ℕ) → v * n ≤ x → m x ≡ q x)
+    → (x : ℕ) → v * size r ≤ x → x ≤ v * size r + (size r - 1) → p x ≡ q x
+part_alike p m q r v n n' e e' to from x low high' =
+    to x (subst (λ k. x ≤ v * k + (n' - 1)) (sym e) (subst (λ k. x ≤ v * size r + (k - 1)) (sym e') high'))
+    ∙ from x (subst (λ k. v * k ≤ x) (sym e) low)
+
+pub row_fits : (R S : Rows) (p q : ℕ → Bool) (r v number : ℕ) (row : List ByteRange) → 0 < r → r ≤ 3 → 0 < length R → ((x : ℕ) → v * size r ≤ x → x ≤ v * size r + (size r - 1) → p x ≡ q x)
+    → Filled R p (r - 1) v 192 row → S ≡ R ++ row ∷ [] → number ≡ length R → Fits (step_in S) (length S) q r v (Some (Some number))
+row_fits R S p q r v number row some few more same filled is at =
+    let fits = part_fits (R ++ row ∷ []) p q r v (Some (Some (length R))) few same (filled_fits R p r v row some more filled) in
+    subst (λ s. Fits (step_in S) (length S) q r v (Some (Some s))) (sym at)
+    (subst (λ T. Fits (step_in T) (length T) q r v (Some (Some (length R)))) (sym is) fits)
+
 -- one more row, whose ranges are disjoint
 pub rows_one_more : (R : Rows) (row : List ByteRange) (to : ℕ) → to ≤ 256 → All IsAutomatonRow R → RiseWithin 0 to row → All IsAutomatonRow (R ++ row ∷ [])
 rows_one_more R row to few all rises = All-append IsAutomatonRow R (row ∷ []) all (All-cons IsAutomatonRow row [] (rise_more 0 to 256 row few rises) (All-nil IsAutomatonRow))
@@ -139,3 +153,52 @@ row_in {Z = Z} rows list s row items same below at is all =
     let below' : s < length rows = omega (arith, below, ap length same) in
     let here : get_or (rows_of rows) s [] ≡ items = item_of rows s row below' ∙ ap (λ (x : Vec ByteRange Z). x.items) (ap (λ xs. get_or xs s row) (sym same) ∙ sym at) ∙ sym is in
     subst IsAutomatonRow here (All-get_or IsAutomatonRow (rows_of rows) s [] (omega (arith, below', length-map rows (λ (x : Vec ByteRange Z). x.items))) all)
+
+-- the row of a last byte is filled up to a code point
+pub record LastFilled (p : ℕ → Bool) (low code : ℕ) (row : List ByteRange) : Type 0 where
+  pub leads : (b : ℕ) → 128 ≤ b → b < 128 + (code - low) → look_up row b ≡ cond (p (low + (b - 128))) (Some None) None
+  pub rises : RiseWithin 128 (128 + (code - low)) row
+
+before_or_past : (b to : ℕ) → (b < to) ⊎ (to ≤ b)
+before_or_past b to = grind arith
+
+within : (first last b : ℕ) → first ≤ b → b ≤ last → (nat_le first b && nat_le b last) ≡ true
+within first last b from to = grind (arith, nat_tests)
+
+leads_all : (p : ℕ → Bool) (low code last : ℕ) (is : Bool) (row more : List ByteRange) → low ≤ code → AllBetween p code last is → LastFilled p low code row
+    → ((b : ℕ) → b < 128 + (code - low) → look_up more b ≡ look_up row b)
+    → ((b : ℕ) → 128 + (code - low) ≤ b → b < 128 + (last + 1 - low) → look_up more b ≡ cond is (Some None) None)
+    → (b : ℕ) → 128 ≤ b → b < 128 + (last + 1 - low) → look_up more b ≡ cond (p (low + (b - 128))) (Some None) None
+leads_all p low code last is row more from all filled before past b low' high' = elim (before_or_past b (128 + (code - low))) [
+  | inl less ↦ before b less ∙ filled.leads b low' less
+  | inr more' ↦ past b more' high' ∙ ap (λ z. cond z (Some None) None) (sym (all (low + (b - 128)) (omega (arith, more', from, low')) (omega (arith, high', from, low'))))
+]
+
+pub last_skip : (p : ℕ → Bool) (low code last : ℕ) (row : List ByteRange) → low ≤ code → code ≤ last → AllBetween p code last false → LastFilled p low code row → LastFilled p low (last + 1) row
+last_skip p low code last row from to all filled = record {
+  leads = leads_all p low code last false row row from all filled (λ b less. refl) (λ b past less. rise_above 128 (128 + (code - low)) row b filled.rises past);
+  rises = rise_more 128 (128 + (code - low)) (128 + (last + 1 - low)) row (omega (arith, from, to)) filled.rises;
+}
+
+pub last_push : (p : ℕ → Bool) (low code last : ℕ) (row more : List ByteRange) → low ≤ code → code ≤ last → AllBetween p code last true → LastFilled p low code row
+    → more ≡ row ++ record { first = code - low + 128; last = last - low + 128; next = None } ∷ [] → LastFilled p low (last + 1) more
+last_push p low code last row more from to all filled is =
+    let x : ByteRange = record { first = code - low + 128; last = last - low + 128; next = None } in
+    let rises : RiseWithin 128 (128 + (last + 1 - low)) (row ++ x ∷ []) =
+    rise_append 128 (128 + (code - low)) (128 + (last + 1 - low)) row (x ∷ []) filled.rises (omega arith, omega (arith, from, to), omega (arith, from, to)) in
+    let leads = leads_all p low code last true row (row ++ x ∷ []) from all filled
+    (λ b less. look_up-append row (x ∷ []) b ∙ ap (λ z. or_else (look_up row b) (cond z (Some None) None)) (not_in x b (inl (omega (arith, less)))) ∙ or_none (look_up row b))
+    (λ b past less. look_up-append row (x ∷ []) b ∙ or_here (look_up row b) (nat_le x.first b && nat_le b x.last) None (rise_above 128 (128 + (code - low)) row b filled.rises past)
+    (within x.first x.last b (omega (arith, past)) (omega (arith, less, from, to)))) in
+    subst (LastFilled p low (last + 1)) (sym is) (record { leads = leads; rises = rises })
+
+-- and becomes a state
+pub last_fits : (R : Rows) (p : ℕ → Bool) (r v : ℕ) (row : List ByteRange) → r ≡ 1 → ((b : ℕ) → 128 ≤ b → b < 192 → look_up row b ≡ cond (p (v * 64 + (b - 128))) (Some None) None) → RiseWithin 128 192 row
+    → Filled R p (r - 1) v 192 row
+last_fits R p r v row e leads rises =
+    let zero' : 0 ≡ r - 1 = omega (arith, e) in
+    subst (λ x. Filled R p x v 192 row) zero' (record {
+      fits = leads;
+      below = λ b low. rise_below 128 192 row b rises low;
+      rises = rise_append 0 128 192 [] row (omega arith) rises;
+    })

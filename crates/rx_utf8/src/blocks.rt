@@ -1,8 +1,8 @@
 //! The states of blocks of characters, which have the same first bytes.
 
-ghost use Rattle.std.specs.Prelude.{ℕ, ◌≡◌, ◌<◌, ◌≤◌, ◌+◌, ◌++◌, [], ◌∷◌, length, All, IfOk, OnOk, IfSome};
+ghost use Rattle.std.specs.Prelude.{ℕ, ◌≡◌, ◌<◌, ◌≤◌, ◌+◌, ◌-◌, ◌*◌, ◌++◌, [], ◌∷◌, length, cond, Some, None, All, IfOk, OnOk, IfSome};
 ghost use Rattle.rx_sets.specs.Sets.{in_ranges};
-ghost use Rattle.rx_utf8.specs.Automata.{step_in, IsAutomatonRow};
+ghost use Rattle.rx_utf8.specs.Automata.{look_up, step_in, IsAutomatonRow, RiseWithin};
 ghost use Rattle.rx_utf8.specs.Blocks.{Extends, prepared, limit, size, AllBetween, Fits, rows_of, any_next};
 
 use crate::byte_ranges::{ByteRange, push_byte, state_number};
@@ -71,14 +71,62 @@ fn size(rest: u32) -> u32
     }
 }
 
-/// Appends a row, copied to an allocation of its length, because an automaton has hundreds of short
-/// ones.
-fn push_row(rows: &mut Vec<Vec<ByteRange>>, row: Vec<ByteRange>) -> Result<(), AllocError>
-    ensures { OnOk result (rows_of rows.new.items ≡ rows_of rows.old.items ++ (row.items ∷ [])) }
+/// Returns whether a code point is in the ranges, and the end, at most `high`, of a run of code
+/// points from it on of which all are in them, or none.
+fn run(ranges: &[Range], code: u32, high: u32) -> (bool, u32)
+    requires { code ≤ high }
+    ensures from { code ≤ result.1 }
+    ensures to { result.1 ≤ high }
+    ensures alike { AllBetween (in_ranges ranges.now) code result.1 result.0 }
 {
+    let mut last = high;
+    for range in ranges {
+        if range.0 <= code && code <= range.1 {
+            return (true, range.1.min(high));
+        }
+        if code < range.0 && range.0 <= last {
+            last = range.0 - 1;
+        }
+    }
+    (false, last)
+}
+
+/// Returns the row of a state that reads the last byte of a character, after bytes with this value.
+fn last_row(alloc: Global, ranges: &[Range], value: u32) -> Result<Vec<ByteRange>, AllocError>
+    requires { value < limit 1 }
+    ensures leads { IfOk result (λ row. (b : ℕ) → 128 ≤ b → b < 192 → look_up row.items b
+        ≡ cond (in_ranges ranges.now (value * 64 + (b - 128))) (Some None) None) }
+    ensures rises { IfOk result (λ row. RiseWithin 128 192 row.items) }
+{
+    let mut row = Vec::new(alloc);
+    let low = value * 64;
+    let high = low + 63;
+    let mut code = low;
+    while code <= high {
+        let (is_in, last) = run(ranges, code, high);
+        if is_in {
+            row.push(ByteRange {
+                first: (code - low) as u8 + 128,
+                last: (last - low) as u8 + 128,
+                next: None,
+            })?;
+        }
+        code = last + 1;
+    }
+    Ok(row)
+}
+
+/// Appends a row, copied to an allocation of its length, because an automaton has hundreds of short
+/// ones. Returns the number of its state.
+fn push_row(rows: &mut Vec<Vec<ByteRange>>, row: Vec<ByteRange>) -> Result<u16, AllocError>
+    ensures rows { OnOk result (rows_of rows.new.items
+        ≡ rows_of rows.old.items ++ (row.items ∷ [])) }
+    ensures number { IfOk result (λ number. number ≡ length (rows_of rows.old.items)) }
+{
+    let number = state_number(rows.len())?;
     let row = row.to_vec(*rows.allocator())?;
     rows.push(row)?;
-    Ok(())
+    Ok(number)
 }
 
 /// Returns where bytes lead whose value so far is `value`, with `rest` bytes to come.
@@ -114,15 +162,17 @@ pub(crate) fn target(
     // Only the ranges inside the block are passed on, so that its parts don't check the others
     // again.
     let part = ranges_up_to(ranges_from(ranges, low), high);
+    if rest == 1 {
+        let row = last_row(*rows.allocator(), part, value)?;
+        return Ok(Some(Some(push_row(rows, row)?)));
+    }
     let mut row = Vec::new(*rows.allocator());
     for byte in 128..192 {
         if let Some(next) = target(rows, part, rest - 1, value * 64 + (byte as u32 - 128))? {
             push_byte(&mut row, byte, next)?;
         }
     }
-    let state = rows.len();
-    push_row(rows, row)?;
-    Ok(Some(Some(state_number(state)?)))
+    Ok(Some(Some(push_row(rows, row)?)))
 }
 
 /// Appends a row that leads from each continuation byte to this state.

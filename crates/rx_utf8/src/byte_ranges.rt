@@ -74,24 +74,15 @@ pub(crate) fn push_byte(
     ensures leads { OnOk result ((b : ℕ) → look_up row.new.items b
         ≡ cond (nat_eq b byte) (Some next) (look_up row.old.items b)) }
 {
-    let one = ByteRange {
+    let len = row.len();
+    if len > 0 && row[len - 1].takes_in(byte, next) {
+        row[len - 1].last = byte;
+        return Ok(());
+    }
+    row.push(ByteRange {
         first: byte,
         last: byte,
         next,
-    };
-    let Some(before) = row.pop() else {
-        row.push(one)?;
-        return Ok(());
-    };
-    if before.takes_in(byte, next) {
-        row.push(ByteRange {
-            first: before.first,
-            last: byte,
-            next,
-        })?;
-        return Ok(());
-    }
-    row.push(before)?;
-    row.push(one)?;
+    })?;
     Ok(())
 }

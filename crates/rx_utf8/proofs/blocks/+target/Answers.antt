@@ -1,10 +1,10 @@
-use Rattle.std.proofs.Common.{rules, ◌≡◌, ◌<◌, ◌≤◌, ◌+◌, ◌++◌, length, [], ◌∷◌, ◌-◌, ◌*◌, ℕ, true, Some, subst, sym, ◌∙◌, arith}
+use Rattle.std.proofs.Common.{◌≡◌, ◌<◌, ◌≤◌, ◌+◌, length, [], ◌-◌, ◌*◌, true, subst, sym, arith}
 use Rattle.std.specs.List.{All}
-use Rattle.std.proofs.lemmas.List.{length-map}
 use Rattle.rx_sets.specs.Sets.{in_ranges}
 use Rattle.rx_utf8.specs.Automata.{step_in, IsAutomatonRow}
 use Rattle.rx_utf8.specs.Blocks.{size, AllBetween, Fits, rows_of}
-use Rattle.rx_utf8.proofs.TargetLaws.{Filled, extends_on, whole_fits, filled_push, filled_skip, filled_fits, part_fits, rows_one_more}
+use Rattle.rx_utf8.proofs.TargetLaws.{Filled, extends_on, whole_fits, filled_push, filled_skip, row_fits, last_fits, part_alike, rows_one_more}
+use Rattle.rx_utf8.proofs.RowLaws.{rise_append}
 use Rattle.rx_utf8.proofs.blocks.+target.Goals.{in-Some+in_ok-push_byte, in_default}
 use Rattle.rx_utf8.proofs.blocks.+target.Goals as goal
 
@@ -29,7 +29,7 @@ loop-byte-preserved t c =
     let inv = c.loop-byte.invariant in
     let ext = c.in_ok-next.ensures.grows in
     let fit : Fits (step_in S) (length S) p r (v * 64 + (to - 128)) c.in_ok-next.field-0 = c.in_ok-next.ensures.fits in
-    let filled : Filled S p r v (to + 1) c.match-branch-2.row.items = elim c.match-branch-2.branch [
+    let filled : Filled S p r v (to + 1) c.match-branch-4.row.items = elim c.match-branch-4.branch [
       | in-Some+in_ok-push_byte w ↦
           subst (λ row. Filled S p r v (to + 1) row.items) (sym w.row-is)
           (filled_push R S p r v to c.loop-byte.row.items w.push_byte.new.row.items w.in-Some.next ext inv.from inv.filled (subst (Fits (step_in S) (length S) p r (v * 64 + (to - 128))) w.in-Some.is fit)
@@ -51,27 +51,33 @@ returns-clause-fits t c =
     let p = in_ranges c.ranges_up_to-part.result.now in
     let row = c.loop-byte.row.items in
     let inv = c.loop-byte.invariant in
-    let pushed : R ++ row ∷ [] ≡ rows_of c.push_row.new.rows.items = sym c.in_ok-push_row.ensures in
-    let same : length c.loop-byte.rows.items ≡ c.len-state.result = search rules in
-    let state : length R ≡ c.in_ok-state_number.field-0 = length-map c.loop-byte.rows.items (λ x. x.items) ∙ same ∙ sym c.in_ok-state_number.ensures in
     let end : c.loop-byte.byte ≡ 192 = omega (arith, c.loop-byte-test.false, c.loop-byte.auto.byte, c.loop-byte.auto.byte-end) in
     let filled : Filled R p (c.args.rest - 1) c.args.value 192 row = subst (λ x. Filled R p (c.args.rest - 1) c.args.value x row) end inv.filled in
     let more : 0 < length R = omega (arith, c.requires.prepared.0, inv.grows.0) in
-    let r = c.args.rest in
-    let v = c.args.value in
-    let q = in_ranges c.args.ranges.now in
-    let same : (x : ℕ) → v * size r ≤ x → x ≤ v * size r + (size r - 1) → p x ≡ q x = λ x low high.
-    c.ranges_up_to-part.ensures x (subst (λ n. x ≤ v * n + (c.size-2.result - 1)) (sym c.size.ensures) (subst (λ n. x ≤ v * size r + (n - 1)) (sym c.size-2.ensures) high))
-    ∙ c.ranges_from.ensures x (subst (λ n. v * n ≤ x) (sym c.size.ensures) low) in
-    let fits = part_fits (R ++ row ∷ []) p q r v (Some (Some (length R))) c.requires.rest same (filled_fits R p r v row (omega (arith, c.if-rest-eq0.false)) more filled) in
-    subst (λ s. Fits (step_in (rows_of c.push_row.new.rows.items)) (length (rows_of c.push_row.new.rows.items)) q r v (Some (Some s))) state
-    (subst (λ S. Fits (step_in S) (length S) q r v (Some (Some (length R)))) pushed fits)
+    row_fits R (rows_of c.push_row-2.new.rows.items) p (in_ranges c.args.ranges.now) c.args.rest c.args.value c.in_ok-push_row-2.field-0 row (omega (arith, c.if-rest-eq0.false)) c.requires.rest more
+    (part_alike p (in_ranges c.ranges_from.result.now) (in_ranges c.args.ranges.now) c.args.rest c.args.value c.size.result c.size-2.result c.size.ensures c.size-2.ensures c.ranges_up_to-part.ensures c.ranges_from.ensures)
+    filled c.in_ok-push_row-2.ensures.rows c.in_ok-push_row-2.ensures.number
 
 pub returns-clause-kept : goal.returns-clause-kept
 returns-clause-kept t c =
     let R = rows_of c.loop-byte.rows.items in
     let row = c.loop-byte.row.items in
     let inv = c.loop-byte.invariant in
-    let pushed : R ++ row ∷ [] ≡ rows_of c.push_row.new.rows.items = sym c.in_ok-push_row.ensures in
     let few : c.loop-byte.byte ≤ 256 = omega (arith, c.loop-byte.auto.byte-end) in
-    subst (All IsAutomatonRow) pushed (rows_one_more R row c.loop-byte.byte few inv.kept inv.filled.rises)
+    subst (All IsAutomatonRow) (sym c.in_ok-push_row-2.ensures.rows) (rows_one_more R row c.loop-byte.byte few inv.kept inv.filled.rises)
+
+pub returns-then-rest-eq1-clause-fits : goal.returns-then-rest-eq1-clause-fits
+returns-then-rest-eq1-clause-fits t c =
+    let R = rows_of c.args.rows.now.items in
+    let p = in_ranges c.ranges_up_to-part.result.now in
+    let row = c.in_ok-row.row.items in
+    row_fits R (rows_of c.push_row.new.rows.items) p (in_ranges c.args.ranges.now) c.args.rest c.args.value c.in_ok-push_row.field-0 row (omega (arith, c.if-rest-eq0.false)) c.requires.rest (omega (arith, c.requires.prepared.0))
+    (part_alike p (in_ranges c.ranges_from.result.now) (in_ranges c.args.ranges.now) c.args.rest c.args.value c.size.result c.size-2.result c.size.ensures c.size-2.ensures c.ranges_up_to-part.ensures c.ranges_from.ensures)
+    (last_fits R p c.args.rest c.args.value row c.if-rest-eq1.true c.in_ok-row.ensures.leads c.in_ok-row.ensures.rises) c.in_ok-push_row.ensures.rows c.in_ok-push_row.ensures.number
+
+pub returns-then-rest-eq1-clause-kept : goal.returns-then-rest-eq1-clause-kept
+returns-then-rest-eq1-clause-kept t c =
+    let R = rows_of c.args.rows.now.items in
+    let row = c.in_ok-row.row.items in
+    subst (All IsAutomatonRow) (sym c.in_ok-push_row.ensures.rows)
+    (rows_one_more R row 192 (omega arith) c.requires.disjoint (rise_append 0 128 192 [] row (omega arith) c.in_ok-row.ensures.rises))
