@@ -186,6 +186,13 @@ def vectors():
             yield about("under", patterns, answer, f"{ways}/{given}", haystack.encode(), size, settings=settings)
 
 
+def gives_up():
+    """Backward, the automaton gives up; later searches follow threads, until enough bytes were read to try it again."""
+    haystack = ("ab " + "a" * 20_000 + "12345678 ") * 11
+    given = "hybrid_cache_capacity=0"
+    yield about("under", ["[a-z]+[0-9]{8}"], spans(3, 20_008, 20_012, 11), given, haystack.encode())
+
+
 def counts():
     for patterns, given, answer in COUNTS:
         yield about("counted", patterns, answer, given)
@@ -308,6 +315,7 @@ def test_all():
     for name, cases in [
         ("examples and defaults of docs/searching.md", page()),
         ("searches under settings, by each engine", vectors()),
+        ("search whose automaton gives up backward", gives_up()),
         ("counts of groups, and refusals, under settings", counts()),
         ("results of getters", getters()),
     ]:

@@ -23,7 +23,7 @@ use Rattle.rx_dfa.specs.Alphabets.{ahead_in, column_count}
 use Rattle.rx_dfa.specs.Caches.{CacheView}
 use Rattle.rx_dfa.specs.Searching.{met_after, HasReached, IsAhead, IsBehind}
 
--- the search with an automaton that an input asks for
+-- the search with an automaton that an input requests
 abbrev pub search_by : Automaton → InputState → Search
 search_by a input = search_of a.alphabet.now.utf8_empty input
 

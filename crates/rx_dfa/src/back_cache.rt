@@ -1,5 +1,5 @@
 //! Backward searches with the automaton of a reverse program, and by following its threads if that
-//! quits or gives up.
+//! quits or gives up, or doesn't pay.
 
 ghost use Rattle.std.specs.Prelude.{◌≡◌, IsTrue, IfErr, IfOk, OnOk};
 ghost use Rattle.rx_util.specs.declared.search.MatchError.{MatchError};
@@ -27,8 +27,10 @@ use std::marker::Model;
 pub struct BackCache {
     states: Cache,
     room: ReverseCache,
-    // Whether to follow threads without the automaton: a search gave up, or the caller chose it.
-    walks_alone: bool,
+    // Whether the caller chose to follow threads without the automaton.
+    is_alone: bool,
+    // How many bytes searches read, with the automaton or without.
+    read: usize,
 }
 
 // Written out, so that crates above needn't prove how the fields are dropped.
@@ -37,7 +39,8 @@ impl Drop for BackCache {
         let BackCache {
             states: _states,
             room: _room,
-            walks_alone: _walks_alone,
+            is_alone: _is_alone,
+            read: _read,
         } = self;
     }
 }
@@ -72,7 +75,8 @@ impl BackCache {
         Ok(BackCache {
             states: Cache::new_back(alloc, reverse, alphabet)?,
             room: ReverseCache::new(alloc, reverse)?,
-            walks_alone: false,
+            is_alone: false,
+            read: 0,
         })
     }
 
@@ -88,21 +92,35 @@ impl BackCache {
         Ok(BackCache {
             states: self.states.clone()?,
             room: self.room.clone()?,
-            walks_alone: self.walks_alone,
+            is_alone: self.is_alone,
+            read: self.read,
         })
     }
 
-    /// Makes searches follow threads without the automaton from now on, as they do after one that
-    /// gave up.
+    /// Makes searches follow threads without the automaton from now on.
     pub fn walk_alone(&mut self)
         ensures { self.new ≡ self.old }
     {
-        self.walks_alone = true;
+        self.is_alone = true;
     }
 
-    /// Returns whether searches follow threads without the automaton.
+    /// Returns whether the next search follows threads without the automaton: always after
+    /// `walk_alone`, and otherwise as long as its states were cleared too often for the bytes that
+    /// searches read.
     pub fn walks_alone(&self) -> bool {
-        self.walks_alone
+        self.is_alone || !self.states.pays(self.read)
+    }
+
+    /// Counts the bytes of a search that has moved the input from the end of its span to its
+    /// position; none if the span has no end.
+    fn note_read<C: Cursor>(&mut self, input: &Input<C>)
+        ensures { self.new ≡ self.old }
+    {
+        let end = input.end();
+        if end < usize::MAX {
+            let bytes = end.saturating_sub(input.position());
+            self.read = self.read.saturating_add(bytes);
+        }
     }
 
     /// Returns the approximate number of bytes of the automaton's states: their nodes, their rows
@@ -119,7 +137,8 @@ impl BackCache {
 /// least pattern for it, as the forward program finds them. `utf8_empty` skips an empty match
 /// inside a character.
 ///
-/// It uses the automaton, and follows threads if that quits or gives up.
+/// It uses the automaton, and follows threads if that quits or gives up, or if its states were
+/// cleared too often for the bytes that searches read.
 ///
 /// # Requires
 ///
@@ -150,13 +169,17 @@ pub fn search_back<C: Cursor>(
     ensures asked { input.new.asked ≡ input.old.asked }
     ensures refused { IfErr result (IsRefusalBack (search_of utf8_empty input.old)) }
 {
-    if !cache.walks_alone {
+    if !cache.walks_alone() {
         match try_search_back(reverse, alphabet, &mut cache.states, input, utf8_empty) {
-            Ok(found) => return Ok(found),
+            Ok(found) => {
+                cache.note_read(input);
+                return Ok(found);
+            }
             Err(MatchError::Memory) => return Err(MatchError::Memory),
-            Err(MatchError::GaveUp { .. }) => cache.walks_alone = true,
             Err(_) => {}
         }
     }
-    search_rev(reverse, &mut cache.room, input, utf8_empty)
+    let answer = search_rev(reverse, &mut cache.room, input, utf8_empty);
+    cache.note_read(input);
+    answer
 }

@@ -41,6 +41,10 @@ pub(crate) const UNKNOWN: u32 = 0xFFFF_FFFF;
 /// How often a search clears the cache before it gives up.
 pub(crate) const CLEARS: usize = 3;
 
+/// How many bytes searches must read for each clear of the cache, if it was cleared that often: to
+/// compute as many states as have room takes about as long as to follow threads through these.
+const BYTES_A_CLEAR: usize = 50_000;
+
 /// The bytes of a node of a state.
 pub(crate) const NODE_BYTES: usize = size_of::<Node>();
 /// The bytes of an entry of a row.
@@ -212,6 +216,14 @@ impl Cache {
     /// this number.
     pub fn clear_count(&self) -> usize {
         self.clear_count
+    }
+
+    /// Returns whether it pays to compute states, given how many bytes searches read since the
+    /// cache was made or reset: it was seldom cleared, and otherwise these searches would be faster
+    /// if they followed threads. No contract fixes this.
+    pub fn pays(&self, read: usize) -> bool {
+        let clears = self.clear_count;
+        clears < CLEARS || read >= clears.saturating_mul(BYTES_A_CLEAR)
     }
 
     /// Removes all states.

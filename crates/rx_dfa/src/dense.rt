@@ -74,8 +74,8 @@ impl Model for Regex {
         IsDense (record { engine = re.compiled; automaton = re.automaton.value }) };
 }
 
-/// Computes all states and steps of a program's automaton. More than `usize::MAX` states count as
-/// out of memory.
+/// Computes all states and steps of a program's automaton. More states than entries can lead to
+/// count as out of memory.
 fn closed_of(alloc: Global, program: &Program, dfa: &Alphabet) -> Result<DenseTable, AllocError>
     requires { IsAlphabetOf program.now dfa.now }
     ensures { IfOk result (IsClosedOf (forward program.now) dfa.now) }

@@ -56,7 +56,8 @@ fn new_cache(alloc: Global, automaton: &Automaton) -> Result<Cache, AllocError>
 
 impl DenseTable {
     /// Computes the states and steps of an automaton. Returns `None` if there are more states than
-    /// `state_limit`, or if they take more than about `size_limit` bytes.
+    /// `state_limit`, if they take more than about `size_limit` bytes, or if entries of 32 bits
+    /// can't lead to all of them.
     fn of(
         alloc: Global,
         automaton: &Automaton,
@@ -79,7 +80,8 @@ impl DenseTable {
     }
 
     /// Computes the states and steps of a program's automaton. Returns `None` if there are more
-    /// states than `state_limit`, or if they take more than about `size_limit` bytes.
+    /// states than `state_limit`, if they take more than about `size_limit` bytes, or if entries of
+    /// 32 bits can't lead to all of them.
     ///
     /// # Requires
     ///

@@ -176,44 +176,50 @@ impl Cache {
         Ok(self.entry_to(next))
     }
 
-    /// Enters the step from a state in a column.
+    /// Enters the step from a state in a column. Returns false if the offset of the next state's
+    /// row is too large for an entry.
     fn fill(
         &mut self,
         automaton: &Automaton,
         number: usize,
         column: usize,
-    ) -> Result<(), AllocError>
+    ) -> Result<bool, AllocError>
         requires made { HoldsBy automaton.now self.old }
         requires number { number < length self.old.states }
         requires column { column < column_count automaton.now.alphabet.now }
         ensures made { HoldsBy automaton.now self.new }
         ensures grows { OnOk result (Grows self.old self.new) }
-        ensures known { OnOk result
-            (IsKnownAt self.new.table (number * self.new.width + column)) }
-        ensures rows { OnOk result (HaveRows self.old self.new) }
+        ensures known { IfOk result (λ is_known. is_known ≡ true
+            → IsKnownAt self.new.table (number * self.new.width + column)) }
+        ensures rows { IfOk result (λ is_known. is_known ≡ true → HaveRows self.old self.new) }
     {
         let entry = self.entry_made(automaton, number, column)?;
         if entry == UNKNOWN {
-            return Err(AllocError);
+            return Ok(false);
         }
         self.set_entry(number, column, entry);
-        Ok(())
+        Ok(true)
     }
 
-    /// Enters all steps from a state; those from the states before it must be known.
-    fn fill_row(&mut self, automaton: &Automaton, number: usize) -> Result<(), AllocError>
+    /// Enters all steps from a state; those from the states before it must be known. Returns false
+    /// if the offset of a row is too large for an entry.
+    fn fill_row(&mut self, automaton: &Automaton, number: usize) -> Result<bool, AllocError>
         requires made { HoldsBy automaton.now self.old }
         requires number { number < length self.old.states }
         requires known { AreKnown self.old number }
         ensures made { HoldsBy automaton.now self.new }
-        ensures known { OnOk result (AreKnown self.new (number + 1)) }
+        ensures known { IfOk result
+            (λ is_known. is_known ≡ true → AreKnown self.new (number + 1)) }
         ensures kept { OnOk result (KeepNumbers self.old.states self.new.states) }
-        ensures rows { OnOk result (HaveRows self.old self.new) }
+        ensures rows { IfOk result (λ is_known. is_known ≡ true → HaveRows self.old self.new) }
     {
         for column in 0..automaton.alphabet.column_count() {
-            self.fill(automaton, number, column)?;
+            let is_known = self.fill(automaton, number, column)?;
+            if !is_known {
+                return Ok(false);
+            }
         }
-        Ok(())
+        Ok(true)
     }
 
     /// Returns whether there are at most `state_limit` states that take at most about `size_limit`
@@ -225,7 +231,8 @@ impl Cache {
     }
 
     /// Computes all reachable states and all steps. Returns false if there are more than
-    /// `state_limit` states, or if they take more than about `size_limit` bytes.
+    /// `state_limit` states, if they take more than about `size_limit` bytes, or if the offset of a
+    /// row is too large for an entry.
     pub(crate) fn close(
         &mut self,
         automaton: &Automaton,
@@ -239,14 +246,17 @@ impl Cache {
             → AreKnown self.new (length self.new.states)) }
         ensures limit { IfOk result (λ is_closed. is_closed ≡ true
             → IsWithin state_limit size_limit self.new) }
-        ensures rows { OnOk result (HaveRows self.old self.new) }
+        ensures rows { IfOk result (λ is_closed. is_closed ≡ true → HaveRows self.old self.new) }
     {
         let mut number = 0;
         while number < self.states.len() {
             if !self.is_within(state_limit, size_limit) {
                 return Ok(false);
             }
-            self.fill_row(automaton, number)?;
+            let is_known = self.fill_row(automaton, number)?;
+            if !is_known {
+                return Ok(false);
+            }
             number += 1;
         }
         Ok(self.is_within(state_limit, size_limit))

@@ -12,7 +12,7 @@ use Rattle.rx_steps.specs.Searching.{anchoring_of, search_of}
 use Rattle.rx_steps.specs.ComingBack.{IsHalfToldBack}
 use Rattle.rx_steps.proofs.BackAnswerLaws.{outside_answers, over_answers_back, unknown_answers}
 use Rattle.rx_steps.proofs.OverLaws.{same_search}
-use Rattle.rx_dfa.specs.Back.{HasEndedBack, IsRefusalBackBy, StopsBack}
+use Rattle.rx_dfa.specs.Back.{HasEndedBack, StopsBack}
 use Rattle.rx_dfa.specs.Directions.{Directed}
 use Rattle.rx_dfa.proofs.BackLaws.{is_on, stops_refused}
 use Rattle.rx_dfa.proofs.LowerLaws.{searched_back}

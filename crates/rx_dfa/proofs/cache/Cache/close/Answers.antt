@@ -12,9 +12,9 @@ loop-number-init c = record { made = c.requires.made; kept = keep_all c.args.sel
 pub loop-number-preserved : goal.loop-number-preserved
 loop-number-preserved c = record {
   made = c.fill_row.ensures.made;
-  kept = λ number x e. c.in_ok-fill_row.ensures.kept number x (c.loop-number.invariant.kept number x e);
-  known = c.in_ok-fill_row.ensures.known;
-  rows = rows_both c.args.self.now c.loop-number.self c.fill_row.new.self (sym c.loop-number.invariant.made.width) (sym c.fill_row.ensures.made.width) c.loop-number.invariant.rows c.in_ok-fill_row.ensures.rows;
+  kept = λ number x e. c.in_ok-is_known.ensures.kept number x (c.loop-number.invariant.kept number x e);
+  known = c.in_ok-is_known.ensures.known c.if-not-is_known.false;
+  rows = rows_both c.args.self.now c.loop-number.self c.fill_row.new.self (sym c.loop-number.invariant.made.width) (sym c.fill_row.ensures.made.width) c.loop-number.invariant.rows (c.in_ok-is_known.ensures.rows c.if-not-is_known.false);
 }
 
 -- there are at most as many states as before, or as entries can lead to
@@ -26,6 +26,9 @@ loop-number-smaller c =
     let there : c.loop-number.number < length cache.states = omega (arith, c.loop-number-test.true, c.len.ensures, long, ap (λ (v : CacheView). length v.states) c.self.view_is) in
     let below = rows_end c.args.self.now cache c.loop-number.number (omega (arith, c.loop-number.invariant.made.width)) c.loop-number.invariant.rows there in
     omega (arith, below)
+
+pub returns-then-not-is_known-clause-kept : goal.returns-then-not-is_known-clause-kept
+returns-then-not-is_known-clause-kept c = λ number x e. c.in_ok-is_known.ensures.kept number x (c.loop-number.invariant.kept number x e)
 
 pub returns-clause-known : goal.returns-clause-known
 returns-clause-known c = λ e.

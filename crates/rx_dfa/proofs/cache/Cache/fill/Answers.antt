@@ -25,9 +25,9 @@ returns-clause-grows c =
     (grows_entered middle c.set_entry.new.self (c.args.number * middle.width + c.args.column) c.in_ok-entry.entry c.if-entry.false c.set_entry.ensures.states c.set_entry.ensures.table)
 
 pub returns-clause-known : goal.returns-clause-known
-returns-clause-known c =
+returns-clause-known c = λ e.
     entered_known (directed c.args.automaton.now) c.args.automaton.now.alphabet.now c.args.self.now c.entry_made.new.self c.set_entry.new.self c.args.number c.args.column c.in_ok-entry.entry c.requires.made c.entry_made.ensures.made c.in_ok-entry.ensures.grows c.requires.number
     (omega (arith, c.requires.column, c.requires.made.width)) c.if-entry.false c.set_entry.ensures.table c.set_entry.ensures.width
 
 pub returns-clause-rows : goal.returns-clause-rows
-returns-clause-rows c = rows_as c.args.self.now c.entry_made.new.self c.set_entry.new.self c.set_entry.ensures.states c.set_entry.ensures.width (c.in_ok-entry.ensures.rows c.if-entry.false)
+returns-clause-rows c = λ e. rows_as c.args.self.now c.entry_made.new.self c.set_entry.new.self c.set_entry.ensures.states c.set_entry.ensures.width (c.in_ok-entry.ensures.rows c.if-entry.false)
