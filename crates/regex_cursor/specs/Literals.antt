@@ -22,7 +22,7 @@ pub record AreLiteralsOf (p : ByteProgram) (literals : Literals) : Type 0 where
   pub required : IfSome literals.required (λ needles. MatchesContain needles (character_program p))
   pub first : IfSome literals.first (λ bytes. MatchesBeginIn bytes (character_program p))
 
--- matches are asked for anywhere in a span that is inside the slice
+-- matches are requested anywhere in a span that is inside the slice
 pub record AsksInSlice (a : Asked) : Type 0 where
   pub unanchored : a.anchored ≡ No
   pub from : a.slice.start ≤ a.span.start

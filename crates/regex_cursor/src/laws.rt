@@ -15,8 +15,7 @@ pub fn one_tree()
     rx_grammar::laws::spells_at_most_one();
 }
 
-/// Each text spells a tree, or it spells none: so it is decided for each text whether it has a
-/// regex.
+/// Each text spells a tree or none: whether a text has a regex is decidable.
 pub fn tree_or_none()
     ensures { SpellsTreeOrNone }
 {
@@ -24,7 +23,7 @@ pub fn tree_or_none()
 }
 
 /// In each search a tree has exactly one result, a match or none, and exactly one list of matches.
-/// They are inside, rise, don't overlap, and in UTF-8 are whole characters.
+/// They are inside the span, ascend, don't overlap, and in UTF-8 are whole characters.
 pub fn finds_of_trees()
     ensures { (tree : Tree) → HasFinds tree }
 {
@@ -40,11 +39,11 @@ pub fn finds_of_trees()
     rx_walks::laws::first_matches_grow::<CharacterSet>();
 }
 
-/// A regex's result for an input, unless any match may be returned, is that of its pattern's tree
-/// in the search that the input requests, also in slots: also for a plain `Input::new`, and for one
-/// over a whole haystack. Each match of that tree has noted its start and its end in the slots of
-/// group 0, and of each group both offsets or neither. Why a pattern has no regex follows from that
-/// tree, or from there being none.
+/// Unless any match may be returned, a regex's result for an input is that of its pattern's tree in
+/// the search that the input requests, also in slots: for a plain `Input::new`, and for one over a
+/// whole haystack. Each match of that tree has stored its start and its end in the slots of group
+/// 0, and of each group both offsets or neither. Why a pattern has no regex follows from that tree,
+/// or from there being none.
 pub fn regexes_have_trees()
     ensures { RegexesHaveTrees }
 {
@@ -52,10 +51,10 @@ pub fn regexes_have_trees()
     rx_program::laws::groups_are_noted_whole();
 }
 
-/// The results of a regex, with any settings, are the same for two inputs that show the same bytes,
-/// in whatever chunks, as of a rope's slice and of its bytes in pieces, and that request the same,
-/// unless any match may be returned: the match, and the pattern with its offsets in equally many
-/// slots. Under `MatchKind::All` these are the offsets of the whole match.
+/// The results of a regex, with any settings, are the same for two inputs with the same bytes and
+/// the same request, unless any match may be returned: the match, and the pattern with its offsets
+/// in equally many slots. The bytes may be split into any chunks, those of a rope's slice or
+/// others. Under `MatchKind::All` these are the offsets of the whole match.
 pub fn answers_are_alike()
     ensures { (e : Engine) → AnswersAlike e }
 {

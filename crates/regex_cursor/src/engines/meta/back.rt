@@ -225,7 +225,7 @@ impl Back {
     /// Returns what is left of a search in an input that isn't anchored, for a program whose
     /// matches all end at the slice's end, or at the haystack's if that is less. If the span ends
     /// before that, there is no match; otherwise the automaton searches backward from there.
-    /// Returns `None` if the span goes on after it, and if searches only follow threads, because
+    /// Returns `None` if the span continues after it, and if searches only follow threads, because
     /// the forward automaton is faster than that. The only error is `Memory`.
     pub(super) fn search_last<C: Cursor>(
         &mut self,

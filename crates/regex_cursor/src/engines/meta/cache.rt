@@ -1,12 +1,13 @@
-//! What searches keep from one to the next.
+//! What a search keeps for the next one.
 
-ghost use Rattle.std.specs.Prelude.{◌≡◌, ◌≤◌, IfErr, IfOk, IfSome, OnErr, OnOk};
+ghost use Rattle.std.specs.Prelude.{◌≡◌, ◌≤◌, IfErr, IfOk, IfSome, OnErr, OnOk, Some, length};
 ghost use Rattle.rx_util.specs.declared.search.Anchored.TheVariants.{No};
 ghost use Rattle.rx_util.specs.declared.search.MatchError.{MatchError};
 ghost use Rattle.rx_input.specs.Cursors.{IsSameContent};
 ghost use Rattle.rx_program.specs.Programs.{character_program};
 ghost use Rattle.rx_literals.specs.Endings.{EndsWithSlice};
 ghost use Rattle.rx_steps.specs.Caches as steps;
+ghost use Rattle.rx_steps.specs.Searching.{IsAnswer};
 ghost use Rattle.rx_dfa.specs.Searching.{IsHalfAnswer};
 ghost use Rattle.regex_cursor.specs.Backs.{EndsLast, IsWhole};
 ghost use Rattle.regex_cursor.specs.Regexes.{IsCacheOf, search_by};
@@ -18,34 +19,36 @@ use super::back::Back;
 use super::left::Left;
 use super::regex::Regex;
 use super::shared::Core;
-use rx_chunk::pikevm;
+use rx_chunk::pikevm::{self, PikeVM};
 use rx_dfa::try_search_fwd;
 use rx_input::{Cursor, Input};
-use rx_util::{HalfMatch, Match, MatchError, PatternID};
+use rx_util::{HalfMatch, Match, MatchError, NonMaxUsize, PatternID};
 use std::alloc::{AllocError, Global};
 use std::marker::Model;
 use std::rc::Rc;
 
-/// How often the states of the automaton may be taken out for want of room.
+/// How often the automaton's states may be cleared for lack of room, however little searches
+/// advance.
 const CLEARS: usize = 3;
 
-/// How many bytes searches must come on by for each time, if it is more often: about ten for each
-/// state that has room, since to make one takes as long as the PikeVM takes for some bytes.
+/// How many bytes searches must have advanced for each clearing, if there were more: about ten for
+/// each state that there is room for, because making one takes as long as the PikeVM takes for some
+/// bytes.
 const BYTES_A_CLEAR: usize = 50_000;
 
-/// In how many bytes for each state of the program searches forward may have looked for the starts
-/// of matches whose ends are known before the program is reversed, which takes about as long.
+/// How many bytes, for each state of the program, forward searches may read to find the starts of
+/// matches whose ends are known, before the program is reversed: that takes about as long.
 const BYTES_A_STATE: usize = 35;
 
 /// The PikeVM takes as long for a byte as those searches for this number of bytes.
 const BYTES_A_WALKED: usize = 4;
 
-/// The greatest number of failed tries in a row. A try asks whether a match begins at the first
+/// The greatest number of failed tries in a row. A try checks whether a match begins at the first
 /// offset at which one can begin.
 const TRIES: usize = 32;
 
 /// The number of failed tries that each successful one makes up for: a failed one takes about half
-/// as long as the search back for a match's start that a successful one saves.
+/// as long as the backward search for a match's start that a successful one saves.
 const TRIES_A_MATCH: usize = 2;
 
 /// A failed try counts once more for each time that it read this number of bytes, so that long ones
@@ -55,20 +58,25 @@ const BYTES_A_TRY: usize = 16;
 /// The number of searches by the automaton without a try after which there is one again.
 const UNTRIED: usize = 64;
 
-/// What searches with a regex keep from one to the next, so that they ask for memory once. It
-/// serves the regex that it was made for or reset for, after each search again, refused or not.
-/// Contracts see the program of that regex, whether it passes over empty matches inside a
-/// character, and how much room it lets the automaton's states take.
+/// What a search with a regex keeps for the next one, so that memory is allocated once. It remains
+/// usable for the regex that it was created or reset for, also after a search that failed.
+/// Contracts see the program of that regex, whether it skips empty matches inside a character, and
+/// how many bytes the automaton's states may take.
 #[derive(Debug)]
 pub struct Cache {
-    // In a box, so that caches and what holds them are small and quickly moved.
+    // In a box, so that caches and their owners are small and cheap to move.
     pub(super) kept: Box<Kept>,
+    // For searches by a single thread, once there was one.
+    one_pass: Option<Box<rx_onepass::Cache>>,
 }
 
-// Written out, so that no crate above proves anew how what it holds is let go.
+// Written out, so that crates above needn't prove how the fields are dropped.
 impl Drop for Cache {
     fn drop(self) {
-        let Cache { kept: _kept } = self;
+        let Cache {
+            kept: _kept,
+            one_pass: _one_pass,
+        } = self;
     }
 }
 
@@ -78,15 +86,15 @@ pub(super) struct Kept {
     // What it was made for.
     core: Rc<Core>,
     pub(super) vm: pikevm::Cache,
-    // The states of the core's automaton to which searches came.
+    // The states of the core's automaton that searches reached.
     automaton: rx_dfa::Cache,
-    // By how many bytes the automaton came on.
+    // How many bytes the automaton advanced.
     passed: usize,
     // The reversed program, once that pays.
     back: Option<Back>,
-    // In how many bytes searches forward looked for the starts of matches whose ends were known.
+    // How many bytes forward searches read to find the starts of matches whose ends were known.
     walked: usize,
-    // How many places any search read.
+    // How many offsets all searches read.
     read: usize,
     // The number of failed tries that are left.
     tries: usize,
@@ -95,20 +103,21 @@ pub(super) struct Kept {
 }
 
 impl Kept {
-    /// All of it in a box.
+    /// Moves it into a box.
     fn boxed(self, alloc: Global) -> Result<Box<Kept>, AllocError>
         ensures { IfOk result (λ boxed. boxed.value ≡ self) }
     {
         Ok(Box::new(alloc, self)?)
     }
 
-    /// Whether the automaton may be quicker than the PikeVM: its states stay long enough.
+    /// Returns whether the automaton may be faster than the PikeVM: its states stay in the cache
+    /// for long enough.
     pub(super) fn pays(&self) -> bool {
         let clears = self.automaton.clear_count();
         clears < CLEARS || self.passed >= clears.saturating_mul(BYTES_A_CLEAR)
     }
 
-    /// Notes that the automaton came on by so many bytes more.
+    /// Notes that the automaton advanced by this number of bytes.
     pub(super) fn pass(&mut self, bytes: usize)
         ensures core { self.new.core ≡ self.old.core }
         ensures vm { self.new.vm ≡ self.old.vm }
@@ -149,7 +158,7 @@ impl Kept {
         self.tries = self.tries.saturating_sub(cost);
     }
 
-    /// Notes that a search read so many places more.
+    /// Notes that a search read this number of offsets.
     pub(super) fn note_read(&mut self, places: usize)
         ensures core { self.new.core ≡ self.old.core }
         ensures vm { self.new.vm ≡ self.old.vm }
@@ -159,7 +168,7 @@ impl Kept {
         self.read = self.read.saturating_add(places);
     }
 
-    /// Notes that the PikeVM read an input from its span's start to where it stands.
+    /// Notes that the PikeVM read an input from its span's start to its position.
     pub(super) fn note_walk<C: Cursor>(&mut self, input: &Input<C>)
         ensures core { self.new.core ≡ self.old.core }
         ensures vm { self.new.vm ≡ self.old.vm }
@@ -169,37 +178,37 @@ impl Kept {
         self.note_read(input.position().saturating_sub(input.start()));
     }
 
-    /// Whether a match's start may be looked for forward, from one place after the other: the
-    /// program isn't reversed, and that wouldn't have paid yet.
+    /// Returns whether a match's start may be searched for forward, from one offset after the
+    /// other: the program isn't reversed, and reversing it wouldn't pay yet.
     pub(super) fn may_step(&self) -> bool {
         self.back.is_none() && !self.pays_to_turn()
     }
 
-    /// Whether searches forward for starts took about as long as to reverse the program.
+    /// Returns whether forward searches for starts took about as long as reversing the program.
     fn pays_to_turn(&self) -> bool {
         self.walked >= self.bytes_before_turning()
     }
 
-    /// In how many bytes searches forward look for starts before the program is reversed.
+    /// Returns how many bytes forward searches for starts read before the program is reversed.
     fn bytes_before_turning(&self) -> usize {
         self.core.states().saturating_mul(BYTES_A_STATE)
     }
 
-    /// Returns in how many bytes searches forward may have looked for starts once they have read
-    /// this number of bytes more. That is less if the program is reversed before.
+    /// Returns how many bytes forward searches for starts may have read once they have read this
+    /// number more; fewer if the program is reversed before that.
     pub(super) fn step_limit(&self, bytes: usize) -> usize {
         let limit = self.walked.saturating_add(bytes);
         limit.min(self.bytes_before_turning())
     }
 
-    /// Returns whether a match's start may be looked for forward: the program isn't reversed,
-    /// and the limit isn't reached.
+    /// Returns whether a match's start may be searched for forward: the program isn't reversed, and
+    /// the limit isn't reached.
     pub(super) fn may_step_below(&self, limit: usize) -> bool {
         self.back.is_none() && self.walked < limit
     }
 
-    /// Notes that a match's start was looked for at the start of an input's span, from where it was
-    /// read to where it stands.
+    /// Notes that a match's start was tried at the start of an input's span, by reading from there
+    /// to the position.
     pub(super) fn note_step<C: Cursor>(&mut self, input: &Input<C>)
         ensures core { self.new.core ≡ self.old.core }
         ensures vm { self.new.vm ≡ self.old.vm }
@@ -210,12 +219,13 @@ impl Kept {
         self.walked = self.walked.saturating_add(bytes);
     }
 
-    /// How many places searches read.
+    /// Returns how many offsets searches read.
     fn places_read(&self) -> usize {
         self.read
     }
 
-    /// Where the match ends, by the automaton whose states are made as searches come to them.
+    /// Returns the pattern and the end of the match, by the automaton whose states are made as
+    /// searches reach them.
     pub(super) fn search_half<C: Cursor>(
         &mut self,
         input: &mut Input<C>,
@@ -234,8 +244,8 @@ impl Kept {
         try_search_fwd(core.program(), core.dfa(), &mut self.automaton, input)
     }
 
-    /// Reverses the program once that pays, where a match is to be looked for in so many bytes
-    /// more. The one refusal is `Memory`.
+    /// Reverses the program once that pays, if a match's start is to be found in this number of
+    /// bytes more. The only error is `Memory`.
     fn turn(&mut self, bytes: usize) -> Result<(), MatchError>
         requires serve { AreCachesOf self.old.core.value self.old.vm self.old.automaton
             self.old.back }
@@ -254,7 +264,7 @@ impl Kept {
         self.turn_now()
     }
 
-    // Apart, since a function pays for the room of what it makes at each call.
+    // Separate, because a function pays for the room of what it makes at each call.
     fn turn_now(&mut self) -> Result<(), MatchError>
         requires serve { AreCachesOf self.old.core.value self.old.vm self.old.automaton
             self.old.back }
@@ -268,9 +278,9 @@ impl Kept {
         Ok(())
     }
 
-    /// The match that is found in an input that isn't anchored, of which it is known that it ends
-    /// where the span does, and of which pattern it is, by a search back from there; none where
-    /// that doesn't pay. No automaton serves where `hybrid` is off. The one refusal is `Memory`.
+    /// Returns the match found in an input that isn't anchored, given that it ends where the span
+    /// does, and its pattern, by a backward search from there; `None` if that doesn't pay. If
+    /// `hybrid` is off, no automaton is used. The only error is `Memory`.
     pub(super) fn whole_match<C: Cursor>(
         &mut self,
         input: &mut Input<C>,
@@ -308,9 +318,9 @@ impl Kept {
 }
 
 impl Kept {
-    /// What is found in an input that isn't anchored, of a program whose matches all end where the
-    /// slice does, by the automaton back from there; nothing is told where the span goes on behind,
-    /// or before it pays. The one refusal is `Memory`.
+    /// Returns what is left of a search in an input that isn't anchored, for a program whose
+    /// matches all end where the slice does, by the reverse automaton from there. Returns `None` if
+    /// the span continues after that, or if it doesn't pay yet. The only error is `Memory`.
     pub(super) fn search_last<C: Cursor>(
         &mut self,
         input: &mut Input<C>,
@@ -343,7 +353,16 @@ impl Kept {
     }
 }
 
+/// Puts a cache for searches by a single thread into a box.
+fn boxed(alloc: Global, cache: rx_onepass::Cache) -> Result<Box<rx_onepass::Cache>, AllocError>
+    ensures { IfOk result (λ boxed. boxed.value ≡ cache) }
+{
+    Ok(Box::new(alloc, cache)?)
+}
+
 impl Model for Cache {
+    ghost use Rattle.std.specs.Prelude.{IfSome};
+    ghost use Rattle.rx_onepass.specs.Caches as onepass;
     ghost use Rattle.regex_cursor.specs.Regexes.{CacheView};
     ghost use Rattle.regex_cursor.specs.Configs.{capacity_of};
     ghost use Rattle.regex_cursor.specs.Cores.{AreCachesOf};
@@ -357,12 +376,21 @@ impl Model for Cache {
     } };
 
     ghost invariant = { λ c. AreCachesOf c.kept.value.core.value c.kept.value.vm
-        c.kept.value.automaton c.kept.value.back };
+        c.kept.value.automaton c.kept.value.back
+        × IfSome c.one_pass
+        (λ boxed. onepass.IsCacheOf c.kept.value.core.value.vm.program boxed.value) };
 }
 
 impl Cache {
-    /// Returns a cache for searches with a regex, which takes memory in proportion to the states of
-    /// the pattern's program and to those of its sets' automata. The one error is `Memory`.
+    /// Returns a cache for searches with a regex.
+    ///
+    /// # Errors
+    ///
+    /// `Memory` only.
+    ///
+    /// # Complexity
+    ///
+    /// Memory proportional to the states of the pattern's program and of its sets' automata.
     pub fn new(alloc: Global, re: &Regex) -> Result<Cache, MatchError>
         ensures made { IfOk result (λ cache. IsCacheOf re.now cache) }
         ensures refused { IfErr result (λ error. error ≡ MatchError.Memory) }
@@ -370,7 +398,7 @@ impl Cache {
         Cache::over(alloc, re.strategy().core().clone()?)
     }
 
-    /// A cache for searches by a regex of this core.
+    /// Returns a cache for searches with a regex of this core.
     fn over(alloc: Global, core: Rc<Core>) -> Result<Cache, MatchError>
         ensures program { IfOk result (λ cache. cache.program ≡ core.value.vm.program) }
         ensures utf8_empty { IfOk result (λ cache. cache.utf8_empty ≡ core.value.vm.utf8_empty) }
@@ -382,7 +410,7 @@ impl Cache {
         Cache::with_vm(alloc, core, vm)
     }
 
-    /// The same, where the cache of the PikeVM is there.
+    /// Returns the same, given the cache of the PikeVM.
     fn with_vm(alloc: Global, core: Rc<Core>, vm: pikevm::Cache) -> Result<Cache, MatchError>
         requires { steps.IsCacheOf core.value.vm.program vm }
         ensures program { IfOk result (λ cache. cache.program ≡ core.value.vm.program) }
@@ -405,10 +433,11 @@ impl Cache {
         };
         Ok(Cache {
             kept: kept.boxed(alloc)?,
+            one_pass: None,
         })
     }
 
-    /// Returns a cache for the same regex. The one error is `Memory`.
+    /// Returns an empty cache for the same regex. The only error is `Memory`.
     pub fn clone(&self) -> Result<Cache, MatchError>
         ensures same { IfOk result (λ cache. cache ≡ self.now) }
         ensures refused { IfErr result (λ error. error ≡ MatchError.Memory) }
@@ -417,7 +446,7 @@ impl Cache {
         Cache::over(core.program().allocator(), core)
     }
 
-    /// Makes the cache one for searches with this regex. The one error is `Memory`, which leaves
+    /// Makes the cache one for searches with this regex. The only error is `Memory`, which leaves
     /// the cache as it was.
     pub fn reset(&mut self, re: &Regex) -> Result<(), MatchError>
         ensures made { OnOk result (IsCacheOf re.now self.new) }
@@ -429,17 +458,60 @@ impl Cache {
         Ok(())
     }
 
-    /// How many places searches by it read.
+    /// Makes what searches by a single thread keep, if it isn't there.
+    fn make_one_pass(&mut self) -> Result<(), MatchError>
+        ensures { self.new ≡ self.old }
+    {
+        if self.one_pass.is_none() {
+            let program = self.kept.core.program();
+            let alloc = program.allocator();
+            let made = rx_onepass::Cache::new(alloc, program)?;
+            self.one_pass = Some(boxed(alloc, made)?);
+        }
+        Ok(())
+    }
+
+    /// Returns the pattern of the match found in an anchored input, with its offsets in slots, by a
+    /// single thread. `None` says nothing; the slots are then unspecified.
+    pub(super) fn search_alone<C: Cursor>(
+        &mut self,
+        vm: &PikeVM,
+        input: &mut Input<C>,
+        slots: &mut [Option<NonMaxUsize>],
+    ) -> Option<PatternID>
+        requires program { self.old.program ≡ vm.now.program }
+        ensures answer { IfSome result (λ pattern. IsAnswer vm.now.program
+            (search_by vm.now input.old) (Some pattern) slots.new) }
+        ensures len { length slots.new ≡ length slots.old }
+        ensures cache { self.new ≡ self.old }
+        ensures asked { input.new.asked ≡ input.old.asked }
+        ensures same { IsSameContent input.old.cursor input.new.cursor }
+    {
+        // Without memory, the PikeVM searches.
+        self.make_one_pass().ok()?;
+        let one_pass = self.one_pass.as_mut()?;
+        let (program, utf8_empty) = (vm.program(), vm.utf8_empty());
+        let found = rx_onepass::search_slots(program, one_pass, input, utf8_empty, slots);
+        self.kept.note_walk(input);
+        found
+    }
+
+    /// Returns how many offsets searches with it read.
     pub(super) fn places_read(&self) -> usize {
         self.kept.places_read()
     }
 
-    /// Returns about how many bytes its lists take, without the reversed program: a count that
-    /// no contract fixes.
+    /// Returns about how many bytes its lists take, without the reversed program. No contract
+    /// specifies the number.
     pub fn memory_usage(&self) -> usize {
         let kept = &self.kept;
+        let one_pass = match &self.one_pass {
+            Some(one_pass) => one_pass.memory_usage(),
+            None => 0,
+        };
         kept.vm
             .memory_usage()
             .saturating_add(kept.automaton.memory_usage())
+            .saturating_add(one_pass)
     }
 }

@@ -66,7 +66,7 @@ impl Model for Config {
 }
 
 impl Config {
-    /// Returns settings none of which is set.
+    /// Returns settings with none set.
     pub fn new() -> Config
         ensures { result ≡ none_set }
     {
@@ -115,7 +115,7 @@ impl Config {
 
     /// Sets which of all matches a search finds. Under `All` only the PikeVM searches, and reads
     /// all of the span unless the search is anchored or any match may be returned; and the only
-    /// group that is noted is the whole match.
+    /// group that is stored is the whole match.
     pub fn match_kind(mut self, kind: MatchKind) -> Config
         ensures { result ≡ record self { match_kind = Some kind } }
     {
@@ -150,7 +150,7 @@ impl Config {
         self
     }
 
-    /// Sets which groups are noted, in captures and by `group_info`. `captures_len` counts the
+    /// Sets which groups are stored, in captures and by `group_info`. `captures_len` counts the
     /// others too.
     pub fn which_captures(mut self, which: WhichCaptures) -> Config
         ensures { result ≡ record self { which_captures = Some which } }
@@ -278,7 +278,7 @@ impl Config {
         }
     }
 
-    /// Returns which groups are noted: by default all.
+    /// Returns which groups are stored: by default all.
     pub fn get_which_captures(&self) -> WhichCaptures
         ensures { result ≡ which_captures_of self.now }
     {

@@ -1,4 +1,4 @@
-//! Automata with few states, all of which are made with a regex.
+//! Automata with few states, which are all built with the regex.
 
 ghost use Rattle.std.specs.Prelude.{◌≡◌, IfOk, IfSome, None, false};
 ghost use Rattle.rx_dfa.specs.Caches.{IsWithin};

@@ -10,7 +10,7 @@ ghost use Rattle.rx_input.specs.Cursors.{IsSameContent};
 ghost use Rattle.rx_input.specs.Searchers.{EndsInside};
 ghost use Rattle.rx_steps.specs.Threads.{no_slots};
 ghost use Rattle.rx_engine.specs.Engines.{IsEngine};
-ghost use Rattle.rx_chunk.specs.Engines.{EngineFinds, TellsWhether};
+ghost use Rattle.rx_chunk.specs.Engines.{EngineFinds, TellsWhether, end_noted, start_noted};
 ghost use Rattle.rx_chunk.specs.Iterating.{EndsAhead, IsFoundNext, IsNextAnswer, StartsFrom};
 ghost use Rattle.regex_cursor.specs.Backs.{EndsLast, IsWhole};
 ghost use Rattle.regex_cursor.specs.Regexes.{HoldsMatches, IsCacheOf, TellsHalf, TellsMatch, TellsSlots, TellsWhole, search_by};
@@ -510,8 +510,55 @@ fn walk_to_next<C: Cursor>(
     found
 }
 
+/// Returns whether the slots have two different offsets for a pattern's match.
+fn differ(pattern: PatternID, slots: &[Option<NonMaxUsize>]) -> bool
+    ensures { result ≡ true
+        → start_noted pattern slots.now ≡ end_noted pattern slots.now → ⊥ }
+{
+    let number = pattern.as_usize();
+    if number >= slots.len() {
+        return false;
+    }
+    match (slots.get(2 * number), slots.get(2 * number + 1)) {
+        (Some(start), Some(end)) => start != end,
+        _ => false,
+    }
+}
+
+/// Returns the pattern of the next match in an anchored input, with its offsets in slots: by a
+/// single thread, or else by the PikeVM.
+fn next_anchored<C: Cursor>(
+    strategy: &Strategy,
+    cache: &mut Cache,
+    input: &mut Input<C>,
+    slots: &mut [Option<NonMaxUsize>],
+    last_match_end: Option<usize>,
+) -> Result<Option<PatternID>, MatchError>
+    requires made { IsCacheOf (regex_of strategy.now) cache.old }
+    requires first { strategy.now.vm.match_kind ≡ MatchKind.LeftmostFirst }
+    requires slots { 2 * length strategy.now.vm.groups ≤ length slots.old }
+    ensures answer { IfOk result (λ pattern. IsNextAnswer (EngineFinds strategy.now.vm)
+        (search_by strategy.now.vm input.old) last_match_end pattern slots.new) }
+    ensures none { OnErr result (slots.new ≡ no_slots (length slots.new)) }
+    ensures made { IsCacheOf (regex_of strategy.now) cache.new }
+    ensures same { (start : ℕ) × StartsFrom input.old input.new start }
+    ensures refused { IfErr result (λ error. error ≡ MatchError.Memory) }
+{
+    let vm = strategy.vm();
+    let _groups = vm.group_info(); // for the proof: what the engine is
+    if let Some(pattern) = cache.search_alone(vm, input, slots) {
+        // An empty match may have to be skipped.
+        if differ(pattern, slots) {
+            return Ok(Some(pattern));
+        }
+    }
+    let found = pikevm::next_slots(vm, &mut cache.kept.vm, input, slots, last_match_end);
+    cache.kept.note_walk(input);
+    found
+}
+
 /// Returns the pattern of the next match in an input that isn't anchored, with its offsets in
-/// slots, if an anchored search by the PikeVM finds one.
+/// slots, if an anchored search finds one.
 fn next_here<C: Cursor>(
     strategy: &Strategy,
     cache: &mut Cache,
@@ -535,9 +582,7 @@ fn next_here<C: Cursor>(
 {
     let span = input.get_span();
     input.set_anchored(Anchored::Yes);
-    let vm = strategy.vm();
-    let found = pikevm::next_slots(vm, &mut cache.kept.vm, input, slots, last_match_end);
-    cache.kept.note_walk(input);
+    let found = next_anchored(strategy, cache, input, slots, last_match_end);
     input.set_anchored(Anchored::No);
     put_back(input, span);
     found

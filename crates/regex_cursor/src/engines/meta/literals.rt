@@ -15,26 +15,26 @@ use rx_program::Program;
 use rx_util::MatchKind;
 use std::alloc::{AllocError, Global};
 
-/// The greatest number of states of a program of which first bytes are read: each set takes 256
-/// steps of its automaton, and a long alternation begins with many sets.
+/// The greatest number of states of a program for which first bytes are computed: each set takes
+/// 256 steps of its automaton, and a long alternation begins with many sets.
 const STATES: usize = 1_000;
 
 /// What is known of the literals in a program's matches.
 #[derive(Debug, Drop)]
 pub(super) struct Literals {
-    /// Those of which each match begins with one, if they are known.
+    /// Literals such that each match begins with one of them, if they are known.
     pub(super) beginnings: Option<Prefilter>,
-    /// The one that each match is, if that is known.
+    /// The literal that each match is, if it is known.
     pub(super) whole: Option<Prefilter>,
-    /// One that each match contains, if it is known and none are that matches begin with.
+    /// A literal that each match contains, if one is known, and `beginnings` are not.
     pub(super) required: Option<Prefilter>,
     /// The bytes that matches begin with, if they are known and `beginnings` are not.
     pub(super) first: Option<ByteSet>,
 }
 
 impl Literals {
-    /// Those of a program, as far as the settings want them to be looked for. It takes time in
-    /// proportion to the program's states and the ranges of their automata.
+    /// Returns the literals of a program, as far as the settings allow a search for them. By
+    /// default it takes time proportional to the program's states and the ranges of their automata.
     pub(super) fn of(
         alloc: Global,
         program: &Program,
@@ -57,7 +57,7 @@ impl Literals {
     }
 }
 
-/// The literals of the caller's own, if they were set, and each match begins with one of them.
+/// Returns the caller's own literals, if they are set and each match begins with one of them.
 fn given(alloc: Global, program: &Program, config: &Config) -> Result<Option<Prefilter>, AllocError>
     ensures begins { IfOk result (λ given. IfSome given
         (λ needles. MatchesBeginWith needles (character_program program.now))) }
@@ -75,8 +75,8 @@ fn given(alloc: Global, program: &Program, config: &Config) -> Result<Option<Pre
     }
 }
 
-/// Literals of which each match begins with one: the caller's own, or those that are read from the
-/// program.
+/// Returns literals such that each match begins with one of them: the caller's own, or those read
+/// from the program.
 fn beginnings_of(
     alloc: Global,
     program: &Program,
@@ -96,7 +96,7 @@ fn beginnings_of(
     }
 }
 
-/// The literal that each match is, if that is read from the program.
+/// Returns the literal that each match is, if it can be read from the program.
 fn literal_of(
     alloc: Global,
     program: &Program,
@@ -114,7 +114,7 @@ fn literal_of(
     }
 }
 
-/// A literal that each match contains, if one is read from the program. None is read where it is
+/// Returns a literal that each match contains, if one can be read from the program; `None` if it is
 /// known what matches begin with.
 fn required_of(
     alloc: Global,

@@ -1,4 +1,4 @@
-//! A regular expression that is searched for.
+//! Regular expressions.
 
 ghost use Rattle.std.specs.Prelude.{◌≡◌, ◌<◌, ◌≤◌, ◌^◌, ℕ, List, IfErr, IfOk, IfSome, None, false, OnErr, OnOk, length, ◌*◌, map};
 ghost use Rattle.std.specs.Iterator.{size};
@@ -42,18 +42,18 @@ use std::alloc::{AllocError, Global};
 use std::marker::Model;
 use std::rc::Rc;
 
-/// A regular expression, or several, searched for in contents that lie in pieces. Contracts see the
-/// engine that serves any search, which is the program, which match is found, the groups of each
-/// pattern, and whether empty matches inside a character are passed over; and the settings.
+/// A regular expression, or several, to search for in haystacks that are split into chunks.
+/// Contracts see its settings and its engine: the program, the match kind, the groups of each
+/// pattern, and whether empty matches inside a character are skipped.
 ///
-/// The plain calls make a cache each, which takes memory and time in proportion to the pattern's
-/// program; those named `_with` are handed one, and take none of either for it.
+/// The plain calls create a cache each, which takes memory and time proportional to the pattern's
+/// program; those named `_with` take one, and need neither.
 #[derive(Debug)]
 pub struct Regex {
     strategy: Rc<Strategy>,
 }
 
-// Written out, so that no crate above proves anew how what it holds is let go.
+// Written out, so that crates above needn't prove how the fields are dropped.
 impl Drop for Regex {
     fn drop(self) {
         let Regex {
@@ -74,8 +74,11 @@ impl Model for Regex {
 }
 
 impl Regex {
-    /// Returns the regex for a pattern, with the default settings. Errors are those of
-    /// `Builder::build`.
+    /// Returns the regex for a pattern, with the default settings.
+    ///
+    /// # Errors
+    ///
+    /// Those of `Builder::build`.
     pub fn new(alloc: Global, pattern: &str) -> Result<Regex, BuildError>
         ensures built { IfOk result (λ re. IsRegexOf pattern.now re) }
         ensures refused { IfErr result (λ error. IsRefusedAsRegex pattern.now error) }
@@ -84,7 +87,10 @@ impl Regex {
     }
 
     /// Returns the regex for patterns that are searched for together, with the default settings.
-    /// Errors are those of `Builder::build_many`.
+    ///
+    /// # Errors
+    ///
+    /// Those of `Builder::build_many`.
     pub fn new_many(alloc: Global, patterns: &[&str]) -> Result<Regex, BuildError>
         ensures built { IfOk result (IsRegexOfAll (map (λ text. text.now) patterns.now)) }
         ensures refused { IfErr result
@@ -93,7 +99,7 @@ impl Regex {
         Regex::builder().build_many(alloc, patterns)
     }
 
-    /// Returns settings of which none is set.
+    /// Returns settings with none set.
     pub fn config() -> Config
         ensures { result ≡ none_set }
     {
@@ -107,7 +113,7 @@ impl Regex {
         Builder::new()
     }
 
-    /// A regex that searches by these engines. The one refusal is want of memory.
+    /// Returns a regex with these engines. The only error is lack of memory.
     pub(super) fn over(alloc: Global, strategy: Strategy) -> Result<Regex, AllocError>
         ensures { IfOk result (λ re. re ≡ regex_with strategy) }
     {
@@ -116,21 +122,21 @@ impl Regex {
         })
     }
 
-    /// The engines.
+    /// Returns the engines.
     pub(super) fn strategy(&self) -> &Rc<Strategy>
         ensures { regex_with result.now.value ≡ self.now }
     {
         &self.strategy
     }
 
-    /// The engine that serves any search.
+    /// Returns the PikeVM, which can do any search.
     pub(super) fn vm(&self) -> &PikeVM
         ensures { result.now ≡ self.now.engine }
     {
         self.strategy.vm()
     }
 
-    /// The literal that each match is, if it is known and the leftmost match is found.
+    /// Returns the literal that each match is, if it is known and the match kind is leftmost-first.
     pub(super) fn whole_literal(&self) -> Option<&Prefilter>
         ensures first { IfSome result
             (λ needle. self.now.engine.match_kind ≡ MatchKind.LeftmostFirst) }
@@ -140,7 +146,7 @@ impl Regex {
         self.strategy.whole_literal()
     }
 
-    /// Returns the same regex, which shares what it was compiled to. The one error is `Memory`.
+    /// Returns the same regex, which shares the compiled program. The only error is `Memory`.
     /// `O(1)`.
     pub fn clone(&self) -> Result<Regex, MatchError>
         ensures same { IfOk result (λ re. re ≡ self.now) }
@@ -151,7 +157,7 @@ impl Regex {
         })
     }
 
-    /// Returns whether there is a match. The one error is `Memory`.
+    /// Returns whether there is a match. The only error is `Memory`.
     pub fn is_match<C: Cursor + Drop>(&self, mut input: Input<C>) -> Result<bool, MatchError>
         ensures answer { IfOk result (λ yes. TellsWhether (EngineFinds self.now.engine)
             (search_by self.now.engine input) yes) }
@@ -170,7 +176,7 @@ impl Regex {
         self.search(input)
     }
 
-    /// Notes what is found with all its groups, as `search_captures` does.
+    /// Stores the match found with all its groups, as `search_captures` does.
     pub fn captures<C: Cursor + Drop>(
         &self,
         input: Input<C>,
@@ -189,9 +195,9 @@ impl Regex {
         self.search_captures(input, caps)
     }
 
-    /// Returns an iterator over all matches in an input, one after the other, also where its
-    /// `earliest` is set. An empty match where the one before ended is passed over. They are few
-    /// enough that `count` may be called. The one error is `Memory`.
+    /// Returns an iterator over all matches in an input, which are whole matches even if `earliest`
+    /// is set. An empty match where the previous one ended is skipped. Their number fits a `usize`,
+    /// so `count` may be called. The only error is `Memory`.
     pub fn find_iter<'r, C: Cursor + Drop>(
         &'r self,
         input: Input<C>,
@@ -208,7 +214,7 @@ impl Regex {
     }
 
     /// Returns an iterator over all matches in an input with their groups, as `find_iter` does.
-    /// Each item has captures of its own. The one error is `Memory`.
+    /// Each item owns its captures. The only error is `Memory`.
     pub fn captures_iter<'r, C: Cursor + Drop>(
         &'r self,
         input: Input<C>,
@@ -227,8 +233,8 @@ impl Regex {
     }
 
     /// Returns an iterator over the parts between the matches, from 0 to the end of the input's
-    /// span, at most to that of its content. They are few enough that `count` may be called. The
-    /// one error is `Memory`.
+    /// span or of the haystack, whichever is less. Their number fits a `usize`, so `count` may be
+    /// called. The only error is `Memory`.
     pub fn split<'r, C: Cursor + Drop>(
         &'r self,
         input: Input<C>,
@@ -246,8 +252,8 @@ impl Regex {
         Ok(Split::new(self, cache, input))
     }
 
-    /// Returns an iterator over the same parts, at most as many as the limit: the last of so many
-    /// goes to the end. The one error is `Memory`.
+    /// Returns an iterator over the same parts, at most `limit` of them: the last of that number
+    /// extends to the end. The only error is `Memory`.
     pub fn splitn<'r, C: Cursor + Drop>(
         &'r self,
         input: Input<C>,
@@ -266,10 +272,14 @@ impl Regex {
         Ok(SplitN::new(self, cache, input, limit))
     }
 
-    /// Returns the match that is found: of those that start first the one that the pattern prefers;
-    /// or under `MatchKind::All` of those with the greatest end the one that starts first, and of
-    /// these the one of the first pattern. It ends in the span. Where `earliest` is set, only that,
-    /// and whether there is a match, is promised. The one error is `Memory`.
+    /// Returns the match found, which ends in the span. Under leftmost-first it is, of the matches
+    /// that start first, the one that the pattern prefers; under `MatchKind::All`, of those with
+    /// the greatest end, the one that starts first, and of these that of the first pattern. If
+    /// `earliest` is set, only whether there is a match, and that it ends in the span, is promised.
+    ///
+    /// # Errors
+    ///
+    /// `Memory` only.
     pub fn search<C: Cursor + Drop>(&self, mut input: Input<C>) -> Result<Option<Match>, MatchError>
         ensures answer { IfOk result (λ found. TellsMatch self.now.engine input found) }
         ensures inside { IfOk result (λ found. ForSome found (λ m. EndsInside input m.span.end)) }
@@ -279,7 +289,7 @@ impl Regex {
         self.search_with(&mut cache, &mut input)
     }
 
-    /// Returns the pattern and the end of the match that is found, as `search_half_with` does.
+    /// Returns the pattern and the end of the match found, as `search_half_with` does.
     pub fn search_half<C: Cursor + Drop>(
         &self,
         mut input: Input<C>,
@@ -292,7 +302,7 @@ impl Regex {
         self.search_half_with(&mut cache, &mut input)
     }
 
-    /// Notes what is found with all its groups, as `search_captures_with` does.
+    /// Stores the match found with all its groups, as `search_captures_with` does.
     pub fn search_captures<C: Cursor + Drop>(
         &self,
         mut input: Input<C>,
@@ -313,7 +323,7 @@ impl Regex {
         self.search_captures_with(&mut cache, &mut input, caps)
     }
 
-    /// Puts what is found into slots, as `search_slots_with` does.
+    /// Writes the offsets of the match found into slots, as `search_slots_with` does.
     pub fn search_slots<C: Cursor + Drop>(
         &self,
         mut input: Input<C>,
@@ -329,9 +339,16 @@ impl Regex {
         self.search_slots_with(&mut cache, &mut input, slots)
     }
 
-    /// Returns the match that is found, as `search` does, by a cache. Span, slice, anchoring and
-    /// `earliest` of the input stay as they are. The one error is `Memory`. Requires that the cache
-    /// is one for this regex, as it is afterwards too.
+    /// Returns the match found, as `search` does, with a cache. The input keeps its span, slice,
+    /// anchoring and `earliest`.
+    ///
+    /// # Errors
+    ///
+    /// `Memory` only.
+    ///
+    /// # Requires
+    ///
+    /// The cache is for this regex, and remains so.
     pub fn search_with<C: Cursor>(
         &self,
         cache: &mut Cache,
@@ -349,10 +366,17 @@ impl Regex {
         self.strategy.find(cache, input)
     }
 
-    /// Returns the pattern and the end of the match that `search_with` finds. Where `earliest` is
-    /// set, only whether there is a match, and that this ends in the span, is promised. Span,
-    /// slice, anchoring and `earliest` of the input stay as they are. The one error is `Memory`.
-    /// Requires that the cache is one for this regex, as it is afterwards too.
+    /// Returns the pattern and the end of the match that `search_with` finds. If `earliest` is set,
+    /// only whether there is a match, and that it ends in the span, is promised. The input keeps
+    /// its span, slice, anchoring and `earliest`.
+    ///
+    /// # Errors
+    ///
+    /// `Memory` only.
+    ///
+    /// # Requires
+    ///
+    /// The cache is for this regex, and remains so.
     pub fn search_half_with<C: Cursor>(
         &self,
         cache: &mut Cache,
@@ -370,11 +394,18 @@ impl Regex {
         self.strategy.find_half(cache, input)
     }
 
-    /// Notes what is found in captures: its pattern, and the places in as many slots as they have.
-    /// In captures that the regex made group 0 is then the whole match. Where `earliest` is set,
-    /// only whether there is a match is promised. Span, slice, anchoring and `earliest` of the
-    /// input stay as they are. The one error is `Memory`: then no pattern is noted, and no slot
-    /// holds a place. Requires that the cache is one for this regex, as it is afterwards too.
+    /// Stores the match found in captures: its pattern, and its offsets in as many slots as they
+    /// have. In captures that the regex made, group 0 is then the whole match. If `earliest` is
+    /// set, only whether there is a match is promised. The input keeps its span, slice, anchoring
+    /// and `earliest`.
+    ///
+    /// # Errors
+    ///
+    /// `Memory` only: then no pattern is stored, and all slots are empty.
+    ///
+    /// # Requires
+    ///
+    /// The cache is for this regex, and remains so.
     pub fn search_captures_with<C: Cursor>(
         &self,
         cache: &mut Cache,
@@ -398,13 +429,20 @@ impl Regex {
         self.strategy.search(cache, input, caps)
     }
 
-    /// Returns the pattern of the match that is found, if there is one, and puts its places into
-    /// the slots, as many as there are; all others hold none. Of a single pattern those of group k
-    /// are 2k and 2k + 1; of several those of pattern p's whole match are 2p and 2p + 1, and its
-    /// further groups stand behind these. Where `earliest` is set, only whether there is a match is
-    /// promised, and that no slot holds a place where there is none. Span, slice, anchoring and
-    /// `earliest` of the input stay as they are. The one error is `Memory`: then no slot holds a
-    /// place. Requires that the cache is one for this regex, as it is afterwards too.
+    /// Returns the pattern of the match found, if there is one, and writes its offsets into the
+    /// slots, as many as there are; all others become empty. Group k of a single pattern has the
+    /// slots 2k and 2k + 1. With several patterns, the whole match of pattern p has the slots 2p
+    /// and 2p + 1, and the further groups follow, pattern by pattern. If `earliest` is set, only
+    /// whether there is a match is promised, and that all slots are empty if there is none. The
+    /// input keeps its span, slice, anchoring and `earliest`.
+    ///
+    /// # Errors
+    ///
+    /// `Memory` only: then all slots are empty.
+    ///
+    /// # Requires
+    ///
+    /// The cache is for this regex, and remains so.
     pub fn search_slots_with<C: Cursor>(
         &self,
         cache: &mut Cache,
@@ -423,13 +461,19 @@ impl Regex {
         self.strategy.search_slots(cache, input, slots)
     }
 
-    /// Returns the pattern of the match that comes next where the last one, if there was one, ended
-    /// at `last_match_end`, and puts its places into the slots, as many as there are; all others
-    /// hold none. An empty match there is passed over, and the search goes on one byte further than
-    /// the span starts. It is a whole match, also where `earliest` is set. Slice, anchoring,
-    /// `earliest` and the span's end stay as they are; the span may start elsewhere then. The one
-    /// error is `Memory`: then no slot holds a place. Requires that the cache is one for this
-    /// regex, as it is afterwards too, and two slots for each of its patterns or more.
+    /// Returns the pattern of the next match, given where the last one ended, if there was one, and
+    /// writes its offsets into the slots, as many as there are; all others become empty. An empty
+    /// match where the last one ended is skipped, and the search continues one byte after the
+    /// span's start. It is a whole match, even if `earliest` is set. The input keeps its slice,
+    /// anchoring, `earliest` and the span's end; the span's start may change.
+    ///
+    /// # Errors
+    ///
+    /// `Memory` only: then all slots are empty.
+    ///
+    /// # Requires
+    ///
+    /// The cache is for this regex, and remains so. There are at least two slots for each pattern.
     pub fn next_slots_with<C: Cursor>(
         &self,
         cache: &mut Cache,
@@ -450,15 +494,17 @@ impl Regex {
             .next_slots(cache, input, slots, last_match_end)
     }
 
-    /// Returns an offset of the input's span before which no match lies: no part of the haystack
+    /// Returns an offset of the input's span up to which nothing matches: no part of the haystack
     /// from the span's start up to there has a match, searched by itself. It is the offset of the
     /// first literal that each match begins with or contains, or else of the first byte that
     /// matches begin with; if the span has none, the span's end, which may exceed the haystack's.
     /// `None` if neither literals nor bytes are known, or if one of the bytes is common in texts.
-    /// Only the position of the input changes. It allocates nothing.
+    /// Only the position of the input changes.
     ///
-    /// With one literal, or with bytes, it takes time proportional to the bytes and chunks up to
-    /// the offset.
+    /// # Complexity
+    ///
+    /// It allocates nothing. With one literal, or with bytes, it takes time proportional to the
+    /// bytes and chunks up to the offset.
     pub fn no_match_before<C: Cursor>(&self, input: &mut Input<C>) -> Option<usize>
         ensures no_match { (text : List ℕ) → (built : IsRegexOf text self.now)
             → IfSome result (λ place. HasNoMatchBetween built.tree input.old.cursor.content
@@ -479,8 +525,8 @@ impl Regex {
         }
     }
 
-    /// Returns captures with slots for all groups, in which nothing is noted. The one error is
-    /// `Memory`. `O(n)` in the number of groups.
+    /// Returns empty captures with slots for all groups. The only error is `Memory`. `O(n)` in the
+    /// number of groups.
     pub fn create_captures(&self) -> Result<Captures, MatchError>
         ensures made { IfOk result (λ caps. caps
             ≡ nothing_noted self.now.engine.groups (slot_len self.now.engine.groups)) }
@@ -491,8 +537,7 @@ impl Regex {
         self.vm().create_captures()
     }
 
-    /// Returns a cache for searches with it, which takes memory in proportion to the states of the
-    /// pattern's program and to those of its sets' automata. The one error is `Memory`.
+    /// Returns a cache for searches with it, as `Cache::new` does. The only error is `Memory`.
     pub fn create_cache(&self) -> Result<Cache, MatchError>
         ensures made { IfOk result (λ cache. IsCacheOf self.now cache) }
         ensures refused { IfErr result (λ error. error ≡ MatchError.Memory) }
@@ -500,25 +545,25 @@ impl Regex {
         Cache::new(self.strategy.program().allocator(), self)
     }
 
-    /// Returns how many patterns it has. `O(1)`.
+    /// Returns the number of patterns. `O(1)`.
     pub fn pattern_len(&self) -> usize
         ensures { result ≡ length self.now.engine.groups }
     {
         self.group_info().pattern_len()
     }
 
-    /// Returns how many groups its patterns have together, the whole match of each among them, and
-    /// those that aren't noted too. `O(1)`.
+    /// Returns the number of groups of all patterns, including the whole match of each, and those
+    /// that aren't stored. `O(1)`.
     pub fn captures_len(&self) -> usize
         ensures { result ≡ self.now.engine.captures_len }
     {
         self.vm().captures_len()
     }
 
-    /// Returns how many groups stand in each match, the whole match among them and whether they are
-    /// noted or not. `None` where matches differ in that, as those of `(a)|b` do, and where there
-    /// is no pattern; what may be repeated no times counts as different, unless there is no group
-    /// in it. `O(1)`.
+    /// Returns the number of groups in each match, including the whole match, whether they are
+    /// stored or not. `None` if matches differ in it, as those of `(a)|b` do, or if there is no
+    /// pattern. What may be repeated zero times counts as different, unless it has no group.
+    /// `O(1)`.
     pub fn static_captures_len(&self) -> Option<usize>
         ensures len { result ≡ self.now.engine.static_captures_len }
         ensures regex { IsRegex self.now }
@@ -526,7 +571,7 @@ impl Regex {
         self.vm().static_captures_len()
     }
 
-    /// Returns those groups of its patterns that are noted. `O(1)`.
+    /// Returns the groups of its patterns that are stored. `O(1)`.
     pub fn group_info(&self) -> &GroupInfo
         ensures groups { result.now ≡ self.now.engine.groups }
         ensures regex { IsRegex self.now }
@@ -534,16 +579,16 @@ impl Regex {
         self.vm().group_info()
     }
 
-    /// Returns the settings that it was built under. `O(1)`.
+    /// Returns the settings that it was built with. `O(1)`.
     pub fn get_config(&self) -> &Config
         ensures { result.now ≡ self.now.settings }
     {
         self.strategy.config()
     }
 
-    /// Returns whether it looks for literals that matches begin with before an engine is asked,
-    /// which it doesn't where `auto_prefilter` is off and no `prefilter` is set, nor where it finds
-    /// among all matches. `O(1)`.
+    /// Returns whether literals that matches begin with are searched for before an engine runs.
+    /// `false` if `auto_prefilter` is off and no `prefilter` is set, and under `MatchKind::All`.
+    /// `O(1)`.
     pub fn is_accelerated(&self) -> bool
         ensures unwanted { WantsNoLiterals self.now.settings → result ≡ false }
         ensures all { self.now.engine.match_kind ≡ MatchKind.All → result ≡ false }
@@ -551,8 +596,8 @@ impl Regex {
         self.strategy.is_accelerated()
     }
 
-    /// Returns about how many bytes the states and the tables of its program and of its automaton
-    /// take: a count that no contract fixes. `O(n)` in the number of the program's states.
+    /// Returns about how many bytes the states and tables of its program and of its automaton take.
+    /// No contract specifies the number. `O(n)` in the number of the program's states.
     pub fn memory_usage(&self) -> usize {
         self.strategy.memory_usage()
     }

@@ -12,14 +12,14 @@ use rx_program::Program;
 use std::alloc::{AllocError, Global};
 use std::marker::Model;
 
-/// What a regex shares with its clones and its caches: the engine that serves any search, the
+/// What a regex shares with its clones and its caches: the PikeVM, which can do any search, the
 /// automaton of its program, and its settings.
 #[derive(Debug, Drop)]
 pub(super) struct Core {
     vm: PikeVM,
     dfa: Alphabet,
     config: Config,
-    // How many states the program and the automata of its sets have.
+    // The number of states of the program and of the automata of its sets.
     states: usize,
 }
 
@@ -50,7 +50,7 @@ impl Core {
         })
     }
 
-    /// The engine that serves any search.
+    /// Returns the PikeVM, which can do any search.
     pub(super) fn vm(&self) -> &PikeVM
         ensures vm { result.now ≡ self.now.vm }
         ensures engine { IsEngine self.now.vm }
@@ -58,7 +58,7 @@ impl Core {
         &self.vm
     }
 
-    /// The automaton.
+    /// Returns the automaton's alphabet.
     pub(super) fn dfa(&self) -> &Alphabet
         ensures dfa { result.now ≡ self.now.dfa }
         ensures core { IsCore self.now }
@@ -66,21 +66,21 @@ impl Core {
         &self.dfa
     }
 
-    /// The settings.
+    /// Returns the settings.
     pub(super) fn config(&self) -> &Config
         ensures { result.now ≡ self.now.settings }
     {
         &self.config
     }
 
-    /// The program that both search for.
+    /// Returns the program that both search for.
     pub(super) fn program(&self) -> &Program
         ensures { result.now ≡ self.now.vm.program }
     {
         self.vm.program()
     }
 
-    /// How many states the program and the automata of its sets have.
+    /// Returns the number of states of the program and of the automata of its sets.
     pub(super) fn states(&self) -> usize {
         self.states
     }

@@ -1,6 +1,6 @@
-//! The engines of a regex, and how it chooses among them: where all matches are wanted the PikeVM
-//! alone is asked; for the leftmost one literals are looked for, then the automaton is asked, and
-//! what it leaves is searched by the PikeVM.
+//! The engines of a regex, and how it chooses among them. Under `MatchKind::All` only the PikeVM
+//! searches. For the leftmost match, literals are searched for first, then the automaton runs, and
+//! the PikeVM searches what these leave.
 
 ghost use Rattle.std.specs.Prelude.{◌≡◌, ℕ, ◌*◌, ◌<◌, ◌≤◌, ◌^◌, IfOk, IfErr, IfSome, OnOk, OnErr, None, false, length};
 ghost use Rattle.std.specs.Option.{ForSome};
@@ -49,10 +49,10 @@ use std::rc::Rc;
 #[derive(Debug, Drop)]
 pub(super) struct Strategy {
     core: Rc<Core>,
-    // Where program and automaton are small.
+    // If program and automaton are small.
     closed: Option<DenseTable>,
     literals: Literals,
-    // Whether each match is known to end where the slice does.
+    // Whether it is known that each match ends where the slice does.
     ends_last: bool,
 }
 
@@ -80,7 +80,8 @@ impl Model for Strategy {
     }) };
 }
 
-/// By how many bytes the automaton came on that answers so in a search of an input.
+/// Returns how many bytes the automaton advanced in a search of an input that ended with this
+/// result.
 fn bytes_of<C: Cursor>(answer: &Result<Option<HalfMatch>, MatchError>, input: &Input<C>) -> usize {
     let place = match answer {
         Err(MatchError::GaveUp { offset }) => *offset,
@@ -90,10 +91,10 @@ fn bytes_of<C: Cursor>(answer: &Result<Option<HalfMatch>, MatchError>, input: &I
 }
 
 impl Strategy {
-    /// A PikeVM, the automaton of its program, with all its states where they are few, and the
-    /// literals that matches begin with, or the one that they are, if these are known; each of them
-    /// as the settings want it. By default it takes time in proportion to the program's states and
-    /// the ranges of their automata.
+    /// Returns the engines over a PikeVM: the automaton of its program, with all its states if they
+    /// are few, and the literals that matches begin with or are, if they are known; each as far as
+    /// the settings allow it. By default it takes time proportional to the program's states and the
+    /// ranges of their automata.
     pub(super) fn new(alloc: Global, vm: PikeVM, config: Config) -> Result<Strategy, AllocError>
         ensures vm { IfOk result (λ strategy. strategy.vm ≡ vm) }
         ensures settings { IfOk result (λ strategy. strategy.settings ≡ config) }
@@ -102,8 +103,8 @@ impl Strategy {
         Strategy::over(alloc, core)
     }
 
-    /// The engines beside what a regex shares with its caches. They are made by functions in turn,
-    /// each of which owns few things, and so is proved quickly.
+    /// Returns the engines over what a regex shares with its caches. Several functions build them,
+    /// each of which owns little, so that each is proved quickly.
     fn over(alloc: Global, core: Rc<Core>) -> Result<Strategy, AllocError>
         ensures vm { IfOk result (λ strategy. strategy.vm ≡ core.value.vm) }
         ensures settings { IfOk result (λ strategy. strategy.settings ≡ core.value.settings) }
@@ -112,7 +113,7 @@ impl Strategy {
         Strategy::with_literals(alloc, core, literals)
     }
 
-    /// The same, where the literals of the program are known.
+    /// Returns the same, given the literals of the program.
     fn with_literals(
         alloc: Global,
         core: Rc<Core>,
@@ -133,7 +134,7 @@ impl Strategy {
         })
     }
 
-    /// What its caches are made for.
+    /// Returns what its caches are made for.
     pub(super) fn core(&self) -> &Rc<Core>
         ensures vm { result.now.value.vm ≡ self.now.vm }
         ensures settings { result.now.value.settings ≡ self.now.settings }
@@ -141,7 +142,7 @@ impl Strategy {
         &self.core
     }
 
-    /// The engine that serves any search.
+    /// Returns the PikeVM, which can do any search.
     pub(super) fn vm(&self) -> &PikeVM
         ensures vm { result.now ≡ self.now.vm }
         ensures engine { IsEngine self.now.vm }
@@ -149,21 +150,21 @@ impl Strategy {
         self.core.vm()
     }
 
-    /// The program that its engines search for.
+    /// Returns the program that its engines search for.
     pub(super) fn program(&self) -> &Program
         ensures { result.now ≡ self.now.vm.program }
     {
         self.core.program()
     }
 
-    /// The settings.
+    /// Returns the settings.
     pub(super) fn config(&self) -> &Config
         ensures { result.now ≡ self.now.settings }
     {
         self.core.config()
     }
 
-    /// Whether literals are looked for before an engine is asked.
+    /// Returns whether literals are searched for before an engine runs.
     pub(super) fn is_accelerated(&self) -> bool
         ensures unwanted { WantsNoLiterals self.now.settings → result ≡ false }
         ensures all { self.now.vm.match_kind ≡ MatchKind.All → result ≡ false }
@@ -174,15 +175,15 @@ impl Strategy {
         }
     }
 
-    /// Whether literals are known that matches begin with, or are.
+    /// Returns whether literals are known that matches begin with, or are.
     fn has_literals(&self) -> bool
         ensures { WantsNoLiterals self.now.settings → result ≡ false }
     {
         self.literals.beginnings.is_some() || self.literals.whole.is_some()
     }
 
-    /// About how many bytes the states and the tables of the program and of the automaton take that
-    /// are made with the regex.
+    /// Returns about how many bytes the states and tables take that are made with the regex, of the
+    /// program and of the automaton.
     pub(super) fn memory_usage(&self) -> usize {
         let states = bytes_of_states(self.program());
         match &self.closed {
@@ -191,13 +192,13 @@ impl Strategy {
         }
     }
 
-    /// Whether the automaton may be asked: its states are made already, or are to be made as
-    /// searches come to them, and that pays.
+    /// Returns whether the automaton may be used: its states are all made already, or may be made
+    /// as searches reach them, and that pays.
     fn may_ask_automaton(&self, kept: &Kept) -> bool {
         self.closed.is_some() || self.config().get_hybrid() && kept.pays()
     }
 
-    /// The prefilter of what each match begins with or contains, if one is known.
+    /// Returns the prefilter of literals that each match begins with or contains, if one is known.
     pub(super) fn prefilter(&self) -> Option<&Prefilter>
         ensures contained { IfSome result
             (λ needles. MatchesContain needles.now (character_program self.now.vm.program)) }
@@ -234,7 +235,7 @@ impl Strategy {
         self.literals.beginnings.is_some() || self.literals.first.is_some()
     }
 
-    /// The literal that each match is, if it is known and the leftmost match is found.
+    /// Returns the literal that each match is, if it is known and the match kind is leftmost-first.
     pub(super) fn whole_literal(&self) -> Option<&Prefilter>
         ensures first { IfSome result
             (λ needle. self.now.vm.match_kind ≡ MatchKind.LeftmostFirst) }
@@ -247,8 +248,8 @@ impl Strategy {
         }
     }
 
-    /// Where the match ends, by the automaton. Where all states are made already, those that are
-    /// kept aren't looked at.
+    /// Returns the pattern and the end of the match, by the automaton. If all its states are made
+    /// already, the cached ones aren't used.
     fn search_half<C: Cursor>(
         &self,
         kept: &mut Kept,
@@ -268,8 +269,8 @@ impl Strategy {
         }
     }
 
-    /// Asks what is left of a search: the literals that matches are or begin with are looked for
-    /// first, if these are known, and the automaton is asked from there on. The one error is
+    /// Returns what is left of a search for the PikeVM: searches for the literals that matches are
+    /// or begin with, if they are known, and runs the automaton from there. The only error is
     /// `Memory`.
     pub(super) fn ask<C: Cursor>(
         &self,
@@ -285,7 +286,7 @@ impl Strategy {
         ensures bound { length input.old.cursor.content < 2 ^ 63 }
         ensures refused { IfErr result (λ error. error ≡ MatchError.Memory) }
     {
-        let _at = input.position(); // tells how long the content may be
+        let _at = input.position(); // for the proof: how long the haystack may be
         if input.is_done() {
             return Ok(Left::Nothing);
         }
@@ -302,7 +303,7 @@ impl Strategy {
         }
     }
 
-    /// Asks the automaton what is left of a search from a place of the span on.
+    /// Returns what the automaton leaves of a search from an offset of the span on.
     fn ask_from<C: Cursor>(
         &self,
         place: usize,
@@ -328,8 +329,8 @@ impl Strategy {
         left
     }
 
-    /// Asks what is left of a search, of which literals tell no more: first back from the end of
-    /// the slice, where all matches end there, and else the automaton.
+    /// Returns what is left of a search, if literals show nothing more: by a backward search from
+    /// the slice's end, if all matches end there, and otherwise by the automaton.
     fn ask_rest<C: Cursor>(&self, kept: &mut Kept, input: &mut Input<C>) -> Result<Left, MatchError>
         requires ordered { input.old.asked.span.start ≤ input.old.asked.span.end }
         requires serve { AreKeptFor self.now kept.old }
@@ -346,9 +347,9 @@ impl Strategy {
         }
     }
 
-    /// Asks what a search back from the end of the slice tells, where all matches end there, the
-    /// search isn't anchored, and it pays: by the automaton alone, since walks take longer than the
-    /// search forward. The one refusal is `Memory`.
+    /// Returns what a backward search from the slice's end leaves, if all matches end there, the
+    /// search isn't anchored, and it pays. Only the automaton is used, because following threads
+    /// takes longer than the forward search. The only error is `Memory`.
     fn ask_back<C: Cursor>(
         &self,
         kept: &mut Kept,
@@ -370,9 +371,9 @@ impl Strategy {
         kept.search_last(input)
     }
 
-    /// Asks the automaton what it tells of a search: that there is no match, or where the match
-    /// ends; or nothing, where it can't tell, or any match will do: it goes on to the end of the
-    /// one that is found, and the PikeVM stops at the first end. The one refusal is `Memory`.
+    /// Returns what the automaton finds: no match, or where the match ends. The result is unknown
+    /// if it quits or gives up, or if any match will do: the automaton continues to the end of the
+    /// match that it finds, but the PikeVM stops at the first end. The only error is `Memory`.
     pub(super) fn ask_automaton<C: Cursor>(
         &self,
         kept: &mut Kept,
@@ -399,10 +400,10 @@ impl Strategy {
         }
     }
 
-    /// The match that is found in an input, of which it is known that it ends where the span does,
-    /// and of which pattern it is. It starts where the span does, since the input is anchored, or
-    /// it is an empty one there; or where the automaton finds one first, or where a search back
-    /// tells; none where neither does. The one refusal is `Memory`.
+    /// Returns the match found in an input, given that it ends where the span does, and its
+    /// pattern. It starts at the span's start if the input is anchored, or if it is empty and the
+    /// span is too; otherwise where the forward automaton or a backward search finds its start.
+    /// `None` if neither does. The only error is `Memory`.
     pub(super) fn whole_match<C: Cursor>(
         &self,
         kept: &mut Kept,
@@ -422,7 +423,7 @@ impl Strategy {
         ensures bound { length input.old.cursor.content < 2 ^ 63 }
         ensures refused { IfErr result (λ error. error ≡ MatchError.Memory) }
     {
-        let _at = input.position(); // tells how long the content may be
+        let _at = input.position(); // for the proof: how long the haystack may be
         let end = input.end();
         if starts_first(input, end) {
             return Ok(Some(whole(HalfMatch::new(pattern, end), input.start())));
@@ -433,9 +434,9 @@ impl Strategy {
         kept.whole_match(input, pattern, self.config().get_hybrid())
     }
 
-    /// Where the match lies, by the literal that each match is, or where it may begin, by those
-    /// that matches begin with. The span must not be done. The position may move. `tries` says
-    /// whether a match mostly begins at the first byte that matches begin with.
+    /// Returns the match, if each match is one literal, or where it may begin, by what matches
+    /// begin with. The span must not be done. The position may move. `tries` is whether a match
+    /// mostly begins at the first byte that matches can begin with.
     fn first_start<C: Cursor>(&self, input: &mut Input<C>, tries: bool) -> Start
         requires { input.old.asked.span.start ≤ input.old.asked.span.end }
         ensures start { IsStart self.now.vm.program (search_by self.now.vm input.old) result }
@@ -467,8 +468,8 @@ impl Strategy {
         }
     }
 
-    /// Whether there is a match. The cache must be one for the regex, and still is one afterwards.
-    /// The one refusal is `Memory`.
+    /// Returns whether there is a match. The cache must be for the regex, and remains so. The only
+    /// error is `Memory`.
     pub(super) fn is_match<C: Cursor>(
         &self,
         cache: &mut Cache,
@@ -488,8 +489,8 @@ impl Strategy {
         }
     }
 
-    /// The match that is found, which ends in the span. The cache must be one for the regex, and
-    /// still is one afterwards. The one refusal is `Memory`.
+    /// Returns the match found, which ends in the span. The cache must be for the regex, and
+    /// remains so. The only error is `Memory`.
     pub(super) fn find<C: Cursor>(
         &self,
         cache: &mut Cache,
@@ -510,7 +511,7 @@ impl Strategy {
         }
     }
 
-    /// The pattern and the end of the match that is found, as `find` finds it.
+    /// Returns the pattern and the end of the match that `find` finds.
     pub(super) fn find_half<C: Cursor>(
         &self,
         cache: &mut Cache,
@@ -534,9 +535,9 @@ impl Strategy {
         }
     }
 
-    /// The pattern of the match that is found; its places are put into the slots, as many as there
-    /// are, and all others hold none. The cache must be one for the regex, and still is one
-    /// afterwards. The one refusal is `Memory`: then no slot holds a place.
+    /// Returns the pattern of the match found, and writes its offsets into the slots, as many as
+    /// there are; all others become empty. The cache must be for the regex, and remains so. The
+    /// only error is `Memory`: then all slots are empty.
     pub(super) fn search_slots<C: Cursor>(
         &self,
         cache: &mut Cache,
@@ -558,10 +559,10 @@ impl Strategy {
         }
     }
 
-    /// Notes what is found, as `search_slots` does. In captures of the regex's groups with two
-    /// slots for each pattern and more group 0 is then the whole match. The cache must be one for
-    /// the regex, and still is one afterwards. The one refusal is `Memory`: then no pattern is
-    /// noted, and no slot holds a place.
+    /// Stores the match found in captures, as `search_slots` does. If these are of the regex's
+    /// groups, with at least two slots for each pattern, group 0 is then the whole match. The cache
+    /// must be for the regex, and remains so. The only error is `Memory`: then no pattern is
+    /// stored, and all slots are empty.
     pub(super) fn search<C: Cursor>(
         &self,
         cache: &mut Cache,
@@ -588,8 +589,8 @@ impl Strategy {
         }
     }
 
-    /// The part of an input's span in which the match lies that is found there: from its start to
-    /// its end, where both are known. None where nothing is found. The one refusal is `Memory`.
+    /// Returns the part of an input's span that contains the match found there, from its start to
+    /// its end as far as these are known; `None` if there is no match. The only error is `Memory`.
     pub(super) fn find_part<C: Cursor>(
         &self,
         kept: &mut Kept,
@@ -613,8 +614,8 @@ impl Strategy {
         }
     }
 
-    /// Of a part in which the match lies that is found, what that match takes, where its start is
-    /// found without the PikeVM. The one refusal is `Memory`.
+    /// Shortens a part that contains the match found to the match itself, if its start is found
+    /// without the PikeVM. The only error is `Memory`.
     fn shorten<C: Cursor>(
         &self,
         kept: &mut Kept,
@@ -643,9 +644,9 @@ impl Strategy {
         }
     }
 
-    /// The part of an input's span in which that comes next which comes next in the span, where the
-    /// last match, if there was one, ended at `last_match_end`; none where nothing more is found.
-    /// The one refusal is `Memory`.
+    /// Returns the part of an input's span in which the next match is found that is found in the
+    /// span, given where the last one ended, if there was one; `None` if there are no more. The
+    /// only error is `Memory`.
     pub(super) fn next_part<C: Cursor>(
         &self,
         kept: &mut Kept,
@@ -667,11 +668,11 @@ impl Strategy {
         }
     }
 
-    /// The pattern of the match that comes next where the last one, if there was one, ended at
-    /// `last_match_end`; its places are put into the slots, two for each pattern or more, and all
-    /// others hold none. An empty match there is passed over, and the search goes on one byte
-    /// further than the span starts. The cache must be one for the regex, and still is one
-    /// afterwards. The one refusal is `Memory`: then no slot holds a place.
+    /// Returns the pattern of the next match, given where the last one ended, if there was one, and
+    /// writes its offsets into the slots, at least two for each pattern; all others become empty.
+    /// An empty match where the last one ended is skipped, and the search continues one byte after
+    /// the span's start. The cache must be for the regex, and remains so. The only error is
+    /// `Memory`: then all slots are empty.
     pub(super) fn next_slots<C: Cursor>(
         &self,
         cache: &mut Cache,
@@ -698,8 +699,8 @@ impl Strategy {
         }
     }
 
-    /// The match that comes next, as `next_slots` finds it. The cache must be one for the regex,
-    /// and still is one afterwards. The one refusal is `Memory`.
+    /// Returns the next match, as `next_slots` finds it. The cache must be for the regex, and
+    /// remains so. The only error is `Memory`.
     pub(super) fn find_next<C: Cursor>(
         &self,
         cache: &mut Cache,
@@ -727,9 +728,9 @@ impl Strategy {
         }
     }
 
-    /// Notes the match that comes next, as `next_slots` finds it, with all its groups, in captures
-    /// of the regex's groups with two slots for each pattern or more. The cache must be one for the
-    /// regex, and still is one afterwards. The one refusal is `Memory`: then no pattern is noted.
+    /// Stores the next match, as `next_slots` finds it, with all its groups, in captures of the
+    /// regex's groups with at least two slots for each pattern. The cache must be for the regex,
+    /// and remains so. The only error is `Memory`: then no pattern is stored.
     pub(super) fn search_next<C: Cursor>(
         &self,
         cache: &mut Cache,
