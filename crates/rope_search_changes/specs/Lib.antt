@@ -1,3 +1,4 @@
 pub mod Changes
+pub mod FirstGroups
 pub mod Replacement
 pub mod Text

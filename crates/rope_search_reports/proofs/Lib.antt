@@ -43,3 +43,5 @@ mod KeptLemmas
 mod BackLemmas
 mod FurtherLemmas
 mod ListedLemmas
+mod FirstLemmas
+mod CrossLemmas

@@ -1,5 +1,5 @@
 -- A patch that touches the last one is merged into it.
-use Rattle.std.proofs.Common.{◌≡◌, ℕ, ◌+◌, ◌≤◌, List, [], ◌∷◌, ◌++◌, length, refl, sym, ap, subst, ◌∙◌, inl, inr, arith, length-append}
+use Rattle.std.proofs.Common.{◌≡◌, ℕ, List, [], ◌∷◌, ◌++◌, length, refl, sym, ap, subst, ◌∙◌, inl, inr, arith, length-append}
 use Rattle.std.specs.Global.{Vec}
 use Rattle.rope_search_reports.specs.declared.changes.Splice.{Splice}
 use Rattle.rope_search_reports.specs.declared.patches.Patch.{Patch}

@@ -16,7 +16,7 @@ use Rattle.rope_search_reports.specs.Changes.{AreChanges}
 use Rattle.rope_search_changes.specs.declared.Change.{Change}
 use Rattle.rope_search_reports.specs.declared.patches.Patch.{Patch}
 use Rattle.rope_search_reports.specs.Patches.{patched, AreInTurn}
-use Rattle.rope_search_reports.specs.Drafts.{AddsRowsOf, GoOnAlike, IsPatchAdded, lines_between}
+use Rattle.rope_search_reports.specs.Drafts.{AddsRowsOf, GoOnAlike, IsPatchAdded}
 use Rattle.rope_search_reports.specs.declared.changes.Splice.{Splice}
 use Rattle.rope_search_reports.proofs.LineLemmas.{byte_len-append}
 use Rattle.rope_search_reports.proofs.ReportLaws.{AreRows-join}

@@ -16,7 +16,7 @@ use Rattle.rope_search_reports.specs.declared.positions.Place.{Place}
 use Rattle.rope_search_reports.specs.declared.positions.OwnLine.{OwnLine}
 use Rattle.rope_search_reports.specs.declared.line_start.LineStart.{LineStart}
 use Rattle.rope_search_reports.specs.declared.line.Line.{Line}
-use Rattle.rope_search_reports.specs.declared.line.Line.TheVariants.{Whole, Parted}
+use Rattle.rope_search_reports.specs.declared.line.Line.TheVariants.{Whole, Narrow, Parted}
 
 -- the text of a line, given with the break that ends it, if one does
 pub record HasOwnText (line own : List ℕ) : Type 0 where
@@ -52,16 +52,15 @@ pub record AddsRows (pattern : List ℕ) (lines : List (List ℕ)) (old new : Li
 -- the text of a line
 abbrev pub own_text : Line → List ℕ
 own_text (Whole text) = chars text.now
+own_text (Narrow text) = chars text.now
 own_text (Parted slice) = slice_text slice
 
--- it is text: UTF-8, or scalar values
+-- it is text: UTF-8, or scalar values; in a narrow line each character takes one byte
 abbrev pub HoldsText : Line → Type 0
 HoldsText (Whole text) = IsUtf8 text.now
+HoldsText (Narrow text) =
+    IsUtf8 text.now × (units (chars text.now) ≡ byte_len (chars text.now))
 HoldsText (Parted slice) = IsText (slice_text slice)
-
--- each of its characters takes one byte and one code unit
-abbrev pub HasNarrowText : Line → Type 0
-HasNarrowText line = units (own_text line) ≡ byte_len (own_text line)
 
 -- an offset in a line's text, up to its end, with this number of code units before it
 pub record HasColumn (own : List ℕ) (column : ℕ) (place : Place) : Type 0 where

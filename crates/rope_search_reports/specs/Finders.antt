@@ -3,6 +3,7 @@ use Rattle.std.specs.Prelude.{◌≡◌, ℕ, ◌+◌, ◌*◌, Bool, true, List
 use Rattle.std.specs.Str.{chars}
 use Rattle.regex_cursor.specs.Patterns.{Tree, FoundMatch, TreeFinds, TreeMatches, answer_slots}
 use Rattle.regex_cursor.specs.Regexes.{RegexView, IsRegexOf}
+use Rattle.rope_search_changes.specs.FirstGroups.{first_groups}
 use Rattle.rope_search_reports.specs.Text.{bytes_of}
 use Rattle.rope_search_reports.specs.Matches.{both, groups_of}
 use Rattle.rope_search_reports.specs.Pattern.{span_of}
@@ -60,6 +61,14 @@ pub record AreGroupsOf (tree : Tree) (content : List ℕ) (groups : List (List (
   pub matches : List FoundMatch
   pub are : TreeMatches tree content matches
   pub shown : groups ≡ map groups_of matches
+
+-- the first of them, this number for each match; the others are absent
+pub record AreFirstGroupsOf (count : ℕ) (tree : Tree) (content : List ℕ)
+    (groups : List (List (Option (ℕ × ℕ))))
+    : Type 0 where
+  pub all : List (List (Option (ℕ × ℕ)))
+  pub are : AreGroupsOf tree content all
+  pub first : groups ≡ map (first_groups count) all
 
 -- the spans only
 pub record AreSpansOf (tree : Tree) (content : List ℕ) (spans : List (ℕ × ℕ)) : Type 0 where

@@ -4,6 +4,7 @@
 use Rattle.std.specs.Prelude.{◌≡◌, ℕ, ◌+◌, ◌*◌, List, ◌∷◌, Option, None, Some, map}
 use Rattle.std.specs.List.{range_with_len}
 use Rattle.regex_cursor.specs.Patterns.{Tree, SpellsTree, FoundMatch, TreeMatches, slot_of}
+use Rattle.rope_search_changes.specs.FirstGroups.{first_groups}
 use Rattle.rope_search_reports.specs.Pattern.{span_of}
 
 -- all matches, with their groups
@@ -39,3 +40,11 @@ pub record AreGroups (pattern content : List ℕ) (groups : List (List (Option (
   pub matches : List FoundMatch
   pub are : AreMatches pattern content matches
   pub groups_are : groups ≡ map groups_of matches
+
+-- the first groups of all matches, this number for each; the others are absent
+pub record AreFirstGroups (count : ℕ) (pattern content : List ℕ)
+    (groups : List (List (Option (ℕ × ℕ))))
+    : Type 0 where
+  pub all : List (List (Option (ℕ × ℕ)))
+  pub are : AreGroups pattern content all
+  pub first : groups ≡ map (first_groups count) all

@@ -28,5 +28,5 @@ pub use reports::{report_of, rows_of_lines};
 pub use rope_search_changes::{Change, Groups};
 pub use rows::{
     CallerInC, Finder, Lines, PATTERN_LEN, Row, add_groups_of_line, find_all, find_from,
-    find_spans, groups_at, search_line,
+    find_groups, find_spans, groups_at, search_line,
 };

@@ -17,6 +17,8 @@ use str_indices::utf16;
 pub(crate) enum Line<'a> {
     /// It is in one chunk.
     Whole(&'a str),
+    /// It is in one chunk, and each character takes one byte.
+    Narrow(&'a str),
     /// It is split into chunks.
     Parted(RopeSlice<'a>),
 }
@@ -42,12 +44,14 @@ impl<'a> Line<'a> {
     {
         match *self {
             Line::Whole(text) => text.len(),
+            Line::Narrow(text) => text.len(),
             Line::Parted(slice) => slice.len_bytes(),
         }
     }
 
     /// Returns the column of an offset, counted from an earlier offset and its column. In one
-    /// chunk, time is linear in the text between the two.
+    /// chunk, time is linear in the text between the two, or constant if each character takes one
+    /// byte.
     #[inline(always)]
     fn column_from(&self, place: usize, place_column: usize, end: usize) -> usize
         requires holds { HoldsText self.now }
@@ -59,6 +63,7 @@ impl<'a> Line<'a> {
     {
         match *self {
             Line::Whole(text) => place_column + utf16::count(&text[place..end]),
+            Line::Narrow(_) => end,
             Line::Parted(slice) => column_at(&slice, end),
         }
     }

@@ -8,7 +8,7 @@ ghost use Rattle.rope_search_reports.specs.Pattern.{FindsSpan};
 ghost use Rattle.rope_search_reports.specs.Position.{line_text};
 ghost use Rattle.rope_search_reports.specs.LineGroups.{AddsGroupsOfLine, TellsGroups};
 ghost use Rattle.rope_search_reports.specs.Report.{IsRow};
-ghost use Rattle.rope_search_reports.specs.Matches.{AreGroups, IsMatches};
+ghost use Rattle.rope_search_reports.specs.Matches.{AreFirstGroups, AreGroups, IsMatches};
 ghost use Rattle.rope_search_reports.specs.Replacement.{AreMatchesIn, alone};
 ghost use Rattle.rope_search_reports.specs.Drafts.{HoldsText, own_text};
 
@@ -19,6 +19,7 @@ mod matches;
 mod searching;
 
 use self::matches::Found;
+use self::searching::GROUP_COUNT;
 use crate::line::Line;
 use crate::walk::without_break;
 pub use engine::{Finder, PATTERN_LEN};
@@ -332,7 +333,41 @@ pub fn find_all(tick: &mut Lines, finder: &mut Finder, text: &Rope) -> Result<Ve
     ensures grows { tick.old.wholes ≤ tick.new.wholes }
     ensures looked { tick.new.looked ≡ tick.old.looked }
 {
-    finder.groups_of(tick, text)
+    finder.groups_of(tick, text, GROUP_COUNT)
+}
+
+/// Returns all matches in a whole text, as `find_all` finds them, with the groups below a number,
+/// from 1 to 10; the others are `None`. Counts one search of a whole text, also after an error. It
+/// takes less time the fewer groups are requested; with group 0 alone `find_spans` takes less
+/// memory.
+///
+/// # Errors
+///
+/// `Fault::Memory`; the finder remains usable.
+///
+/// # Requires
+///
+/// `1 <= count` and `count <= 10`
+pub fn find_groups(
+    tick: &mut Lines,
+    finder: &mut Finder,
+    text: &Rope,
+    count: usize,
+) -> Result<Vec<Groups>, Fault>
+    requires some { 1 ≤ count }
+    requires few { count ≤ 10 }
+    ensures found { IfOk result (λ groups.
+        AreFirstGroups count finder.old (bytes_of (text_of text.now)) groups.items) }
+    ensures stand { IfOk result (λ groups.
+        AreMatchesIn (bytes_of (text_of text.now)) groups.items) }
+    ensures fault { IfErr result (λ fault. fault ≡ Fault.Memory) }
+    ensures finder { finder.new ≡ finder.old }
+    ensures count { tick.new.count ≡ tick.old.count }
+    ensures wholes { tick.new.wholes ≡ min (tick.old.wholes + 1) (2 ^ 64 - 1) }
+    ensures grows { tick.old.wholes ≤ tick.new.wholes }
+    ensures looked { tick.new.looked ≡ tick.old.looked }
+{
+    finder.groups_of(tick, text, count)
 }
 
 /// Returns the spans of all matches in a whole text, as `find_all` finds them: the byte indices of

@@ -1,7 +1,7 @@
 //! A forward walk over the lines of a text: chunk by chunk, and line by line in a chunk.
 ghost use Rattle.std.specs.Prelude.{◌≡◌, ◌+◌, ◌-◌, ◌^◌, ◌<◌, ◌≤◌, ℕ, List, ◌++◌, take};
 ghost use Rattle.std.specs.Str.{chars, IsUtf8, IsCharBoundary};
-ghost use Rattle.str_indices.specs.Text.{breaks, break_ends, byte_len, ends_up_to};
+ghost use Rattle.str_indices.specs.Text.{breaks, break_ends, byte_len, ends_up_to, units};
 ghost use Rattle.ropey.specs.Chunks.{is_break, text_of};
 ghost use Rattle.ropey.specs.Slices.{slice_bytes, slice_text};
 ghost use Rattle.rope_search_reports.specs.Text.{line_count};
@@ -89,6 +89,21 @@ pub(crate) fn lines_up_to(text: &Rope, end: usize) -> RopeSlice<'_>
     // For the proof: the text's facts.
     let _ = text.len_bytes();
     text.slice(..).byte_slice(..text.line_to_byte(end))
+}
+
+/// Returns a line of a text, which is in one chunk. Each character of the text takes one byte if it
+/// has as many code units as bytes.
+fn line_in_chunk<'a>(text: &RopeSlice<'_>, own: &'a str) -> Line<'a>
+    requires utf8 { IsUtf8 own.now }
+    requires narrow { units (slice_text text.now) ≡ byte_len (slice_text text.now)
+        → units (chars own.now) ≡ byte_len (chars own.now) }
+    ensures own { own_text result ≡ chars own.entry.now }
+    ensures holds { HoldsText result }
+{
+    if text.len_utf16_cu() == text.len_bytes() {
+        return Line::Narrow(own);
+    }
+    Line::Whole(own)
 }
 
 impl<'a> Walk<'a> {
@@ -240,8 +255,31 @@ impl<'a> Walk<'a> {
         }
     }
 
-    /// Returns the next line, which goes past the end of its chunk or is the last one.
+    /// Returns the next line, which goes past the end of its chunk or is the last one. If it ends
+    /// in the next chunk, that takes three descents of the tree.
     fn next_across(&mut self) -> Line<'a>
+        requires below { self.old.line < line_count self.old.text }
+        requires goes_on { breaks is_break self.old.rest ≡ 0 }
+        ensures own { own_text result ≡ line_text self.old.text self.old.line }
+        ensures holds { HoldsText result }
+        ensures text { self.new.text ≡ self.old.text }
+        ensures line { self.new.line ≡ self.old.line + 1 }
+    {
+        let start = self.byte_idx;
+        let behind = start + self.rest.len();
+        let chunk = chunk_from(&self.text, behind);
+        let Some(found) = breaks::first_break(chunk) else {
+            return self.next_far();
+        };
+        let line = self.text.byte_slice(start..behind + found.start);
+        self.line_idx += 1;
+        self.byte_idx = behind + found.end;
+        self.rest = &chunk[found.end..];
+        Line::Parted(line)
+    }
+
+    /// Returns the next line, which may be in many chunks.
+    fn next_far(&mut self) -> Line<'a>
         requires { self.old.line < line_count self.old.text }
         ensures own { own_text result ≡ line_text self.old.text self.old.line }
         ensures holds { HoldsText result }
@@ -266,9 +304,10 @@ impl<'a> Walk<'a> {
         let Some(found) = breaks::first_break(rest) else {
             return self.next_across();
         };
+        let line = line_in_chunk(&self.text, &rest[..found.start]);
         self.line_idx += 1;
         self.byte_idx += found.end;
         self.rest = &rest[found.end..];
-        Line::Whole(&rest[..found.start])
+        line
     }
 }

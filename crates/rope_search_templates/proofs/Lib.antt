@@ -12,4 +12,5 @@ pub mod BuildingLemmas
 mod LeftLemmas
 mod ChunkLemmas
 mod AloneLemmas
+mod FirstLemmas
 mod SubstitutionLemmas

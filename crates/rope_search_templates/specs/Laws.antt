@@ -1,7 +1,8 @@
 -- Laws of replacing.
 use Rattle.std.specs.Prelude.{◌≡◌, ℕ, false, List, map}
+use Rattle.rope_search_changes.specs.FirstGroups.{first_groups}
 use Rattle.rope_search_changes.specs.Replacement.{Groups, alone, whole, replaced, searched, changes_of}
-use Rattle.rope_search_templates.specs.Templates.{names_explicit_groups}
+use Rattle.rope_search_templates.specs.Templates.{NeedsGroups, names_explicit_groups}
 
 -- with both lists of matches a template makes the same text, by the same changes, which may search
 -- as many lines
@@ -15,3 +16,9 @@ abbrev pub SpansAreEnough : Type 0
 SpansAreEnough = (content template : List ℕ) (matches : List Groups)
     → names_explicit_groups template ≡ false
     → ReplaceAlike content template (map alone (map whole matches)) matches
+
+-- a template needs only the groups up to the last one that it names
+abbrev pub FirstGroupsAreEnough : Type 0
+FirstGroupsAreEnough = (content template : List ℕ) (count : ℕ) (matches : List Groups)
+    → NeedsGroups template count
+    → ReplaceAlike content template (map (first_groups count) matches) matches

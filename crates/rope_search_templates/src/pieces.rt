@@ -18,12 +18,25 @@ pub enum Piece<'a> {
 }
 
 impl Piece<'_> {
-    ghost use Rattle.std.specs.Prelude.{◌≡◌, ℕ, List};
+    ghost use Rattle.std.specs.Prelude.{◌≡◌, ◌-◌, ◌<◌, ◌≤◌, ℕ, List, nat_le, false, true};
     ghost use Rattle.str_indices.specs.Text.{byte_len};
     ghost use Rattle.rope_search_changes.specs.Text.{IsText, bytes_of};
     ghost use Rattle.rope_search_changes.specs.Replacement.{HasSpansIn};
     ghost use Rattle.rope_search_templates.specs.Matches.{groups_in};
-    ghost use Rattle.rope_search_templates.specs.Pieces.{IsTemplatePiece, shown};
+    ghost use Rattle.rope_search_templates.specs.Pieces.{IsTemplatePiece, is_group, shown};
+
+    /// Returns the number of groups, from group 0 on, up to the piece's, or 0 for a text.
+    pub(crate) fn group_count(self) -> usize
+        requires { IsTemplatePiece self }
+        ensures few { result ≤ 10 }
+        ensures none_further { (n : ℕ) → result ≤ n → is_group (nat_le n) self.entry ≡ false }
+        ensures last { 0 < result → is_group (nat_le (result - 1)) self.entry ≡ true }
+    {
+        match self {
+            Piece::Text(_) => 0,
+            Piece::Group(number) => number + 1,
+        }
+    }
 
     /// Returns the number of bytes of the piece's text at a match.
     pub fn len(self, found: Match<'_>) -> usize

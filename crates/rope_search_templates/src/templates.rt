@@ -5,7 +5,7 @@ ghost use Rattle.str_indices.specs.Text.{byte_len};
 ghost use Rattle.ropey.specs.Chunks.{text_of};
 ghost use Rattle.rope_search_changes.specs.Text.{IsText, bytes_of};
 ghost use Rattle.rope_search_changes.specs.Replacement.{Groups, HasSpansIn, expand};
-ghost use Rattle.rope_search_templates.specs.Templates.{names_explicit_groups, names_groups};
+ghost use Rattle.rope_search_templates.specs.Templates.{NeedsGroups, names_explicit_groups, names_groups};
 ghost use Rattle.rope_search_templates.specs.Matches.{groups_in};
 ghost use Rattle.rope_search_templates.specs.Pieces.{IsTemplatePiece, shown};
 
@@ -134,6 +134,19 @@ impl<'a> Template<'a> {
             }
         }
         false
+    }
+
+    /// Returns the number of groups, from group 0 on, that matches need to be replaced: one more
+    /// than the number of the last group that it names, at least 1. `O(m)` for a template of m
+    /// bytes.
+    pub fn group_count(&self) -> usize
+        ensures { NeedsGroups self.now result }
+    {
+        let mut count = 1;
+        for piece in self.pieces() {
+            count = count.max(piece.group_count());
+        }
+        count
     }
 
     /// Returns the length of its expansion for a match, in bytes of UTF-8, or `None` if that is

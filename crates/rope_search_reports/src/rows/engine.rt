@@ -10,7 +10,7 @@ ghost use Rattle.rope_search_reports.specs.Pattern.{IsPattern, IsTooHeavy, Spell
 ghost use Rattle.rope_search_reports.specs.Position.{line_start, line_text};
 ghost use Rattle.rope_search_reports.specs.LineGroups.{AddsGroupsOfLine, TellsGroups};
 ghost use Rattle.rope_search_reports.specs.Report.{IsRow};
-ghost use Rattle.rope_search_reports.specs.Matches.{AreGroups, IsMatches};
+ghost use Rattle.rope_search_reports.specs.Matches.{AreFirstGroups, IsMatches};
 ghost use Rattle.rope_search_reports.specs.Replacement.{AreMatchesIn, alone};
 ghost use Rattle.rope_search_reports.specs.Finders.{matches_in};
 ghost use Rattle.rope_search_reports.specs.Drafts.{HaveNoMatches, FindsNoneBetween, HoldsText, own_text};
@@ -265,13 +265,20 @@ impl Finder {
         self.regex.first_in(tick, text.slice(..), from)
     }
 
-    /// Returns all matches in a whole text with their groups. Counts one search of a whole text,
-    /// also after an error.
+    /// Returns all matches in a whole text with their first groups, this number of each; the others
+    /// are `None`. Counts one search of a whole text, also after an error.
     ///
     /// Errors: `Fault::Memory`; the finder remains usable.
-    pub(super) fn groups_of(&mut self, tick: &mut Lines, text: &Rope) -> Result<Vec<Groups>, Fault>
+    pub(super) fn groups_of(
+        &mut self,
+        tick: &mut Lines,
+        text: &Rope,
+        count: usize,
+    ) -> Result<Vec<Groups>, Fault>
+        requires some { 1 ≤ count }
+        requires few { count ≤ 10 }
         ensures found { IfOk result (λ groups.
-            AreGroups self.old (bytes_of (text_of text.now)) groups.items) }
+            AreFirstGroups count self.old (bytes_of (text_of text.now)) groups.items) }
         ensures stand { IfOk result (λ groups.
             AreMatchesIn (bytes_of (text_of text.now)) groups.items) }
         ensures fault { IfErr result (λ fault. fault ≡ Fault.Memory) }
@@ -281,7 +288,7 @@ impl Finder {
         ensures grows { tick.old.wholes ≤ tick.new.wholes }
         ensures looked { tick.new.looked ≡ tick.old.looked }
     {
-        all_groups(tick, self.alloc, &mut self.regex, text.slice(..))
+        all_groups(tick, self.alloc, &mut self.regex, text.slice(..), count)
     }
 
     /// Returns the groups of a match in a line, given by its number from 0, each by its columns, or

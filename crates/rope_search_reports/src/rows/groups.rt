@@ -8,7 +8,7 @@ ghost use Rattle.rope_search_reports.specs.LineGroups.{AddsGroupsOf, IsAmongGrou
 
 use super::Lines;
 use super::counted::{CountedRegex, RopeyCursor};
-use super::searching::{SLOT_COUNT, groups_in};
+use super::searching::{GROUP_COUNT, SLOT_COUNT, groups_in};
 use rope_search_changes::Groups;
 use rope_search_io::Fault;
 use ropey::RopeSlice;
@@ -38,7 +38,7 @@ pub fn groups_of_match(
     let mut left = number;
     while let Some(_) = regex.next(&mut pass, &mut slots)? {
         if left == 0 {
-            return Ok(Some(groups_in(&slots)));
+            return Ok(Some(groups_in(&slots, GROUP_COUNT)));
         }
         left -= 1;
     }
@@ -95,7 +95,7 @@ pub fn add_groups(
     let mut pass = regex.in_line(tick, RopeyCursor::new(line), line.len_bytes());
     let mut slots = [None; SLOT_COUNT];
     while let Some(_) = regex.next(&mut pass, &mut slots)? {
-        groups.push(moved(&line, start, &groups_in(&slots)))?;
+        groups.push(moved(&line, start, &groups_in(&slots, GROUP_COUNT)))?;
     }
     Ok(())
 }

@@ -1,7 +1,9 @@
 use Rattle.std.proofs.Common.{chars, ap, arith}
 use Rattle.str_indices.specs.Text.{units}
+use Rattle.rope_search_reports.specs.Drafts.{own_text}
 use Rattle.rope_search_reports.specs.Report.{column}
-use Rattle.rope_search_reports.proofs.OwnLemmas.{counts-on, whole-bytes}
+use Rattle.rope_search_reports.proofs.ColumnLemmas.{ascii-column}
+use Rattle.rope_search_reports.proofs.OwnLemmas.{counts-on, narrow-units, own-scalars, whole-bytes}
 use Rattle.rope_search_reports.proofs.TextPlaces.{places}
 use Rattle.rope_search_reports.proofs.line.Line.column_from.Goals as goal
 
@@ -47,3 +49,9 @@ returns-in-Whole c =
       ap (λ bs. column bs c.args.place) bytes,
       ap (λ bs. column bs c.args.end) bytes,
     )
+
+pub returns-in-Narrow : goal.returns-in-Narrow
+returns-in-Narrow c =
+    let r = c.requires in
+    let line = c.args.self.now in
+    ascii-column places (own_text line) c.args.end (own-scalars line r.holds) r.ends (narrow-units line _ c.in-Narrow.is r.holds)

@@ -1,6 +1,4 @@
-use Rattle.std.proofs.Common.{◌≡◌, ◌+◌, ◌<◌, ◌≤◌, ◌^◌, length, ap, sym, subst, ◌∙◌, arith}
-use Rattle.std.proofs.lemmas.Str.{encodes-chars}
-use Rattle.str_indices.specs.Text.{byte_len}
+use Rattle.std.proofs.Common.{◌+◌, ◌<◌, length, sym, subst, arith}
 use Rattle.str_indices.proofs.TextLaws.{ends_behind_a_boundary-lines, ends_of_a_part-lines}
 use Rattle.ropey.specs.Chunks.{is_break}
 use Rattle.ropey.specs.Slices.{slice_text}
