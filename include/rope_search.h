@@ -30,8 +30,8 @@
  *
  * A call of a closed session is harmless: it returns ROPE_SEARCH_CLOSED, 0 or false, and writes
  * nothing. No call ends the program: if memory is refused, the call returns MEMORY, and nothing has
- * changed. A system that overcommits memory may end the program instead of refusing memory. A
- * running call can't be stopped.
+ * changed but for a text that arrives in parts. A system that overcommits memory may end the
+ * program instead of refusing memory. A running call can't be stopped.
  *
  * Complexity, for a text of n bytes; O(log n) is some microseconds:
  *
@@ -40,10 +40,15 @@
  * - begin_pattern is linear in its argument. advance and window search lines that aren't done, at
  *   most the number requested: linear in these lines, times the pattern's weight. The last slice of
  *   advance also drops the old report.
+ * - append_part is linear in its argument, end_text in the text that arrived; it costs as much as
+ *   set_text under a pattern. begin_text and cancel_text are linear in the text that they drop.
  * - edit, edit_bytes and edit_all are O(log n) for each edit, and linear in the inserted text. With
  *   a pattern they search the lines that they touch, and move the rows after these if the number of
- *   lines changes. undo and redo do the same for the text that they restore; without a pattern they
- *   are O(1).
+ *   lines changes. undo and redo do the same for the text that they restore. But the rows that the
+ *   last replace or replace_listed took out of the report are kept, if the number of lines stayed
+ *   and they take less memory than the text: then its undo puts them back and searches no line.
+ *   Under the same conditions it keeps those of the newer text for redo. Without a pattern both are
+ *   O(1).
  * - replace searches the whole text once, and is linear in the matches and their replacements. next
  *   searches up to the match that it finds. next_all searches the whole text once; it is O(log n)
  *   for each match that it copies, and until it returns it takes 16 bytes for each match of the
@@ -86,11 +91,11 @@ extern "C" {
 /*
  * What a call returns that may be refused: that it is done, or why it is refused. If several
  * reasons apply, it is the one with the least number, unless memory runs out before that is found.
- * After a refusal the session is as it was.
+ * After a refusal the session is as it was, except for a text that arrives in parts.
  */
 enum {
     ROPE_SEARCH_DONE = 0,
-    ROPE_SEARCH_NONE = 1,    /* no such buffer, no pattern, nothing to undo or redo */
+    ROPE_SEARCH_NONE = 1,    /* no such buffer or pattern, nothing to undo or redo, no text begun */
     ROPE_SEARCH_RANGE = 2,   /* a position is not in the text, or positions are not in order */
     ROPE_SEARCH_UTF8 = 3,    /* the bytes aren't UTF-8 */
     ROPE_SEARCH_PATTERN = 4, /* the bytes are not a pattern */
@@ -500,6 +505,49 @@ rope_search_stretch rope_search_changed(rope_search *session);
  * buffer none. Linear in their number. The rest of `out` is not changed.
  */
 size_t rope_search_text_changes(rope_search *session, rope_search_text_change *out, size_t out_len);
+
+/* ---- a text that arrives in parts ---- */
+
+/*
+ * A text of which all parts are passed before it is set, such as a file that is read in slices. It
+ * is kept once, in the form of a buffer's text:
+ *
+ *     rope_search_begin_text(&session);
+ *     while ((len = fread(part, 1, sizeof part, file)) > 0)
+ *         if (rope_search_append_part(&session, part, len) != ROPE_SEARCH_DONE)
+ *             break;                                      (end_text says why)
+ *     if (rope_search_end_text(&session) != ROPE_SEARCH_DONE) ...
+ *
+ * A session has at most one such text, whichever buffer is chosen. Until end_text, the buffers have
+ * their texts and reports, all other calls use these, and none of them but open and close changes
+ * the text that arrives.
+ */
+
+/*
+ * Begins a text, with no bytes so far. What arrived of one that was begun before is dropped. Never
+ * refused.
+ */
+uint32_t rope_search_begin_text(rope_search *session);
+
+/*
+ * Adds the next bytes to the text that arrives. They may end inside a character, and there may be
+ * none. Returns DONE; NONE, if no text was begun; or, as soon as it is known that end_text will
+ * refuse the text: SIZE, if the bytes so far are more than the session's limit, whether or not they
+ * are UTF-8; UTF8, if no text begins with them; MEMORY. The bytes are then dropped, and each further
+ * part has the same answer: end_text, cancel_text or begin_text comes next. If the bytes are too
+ * many and not UTF-8, end_text returns UTF8.
+ */
+uint32_t rope_search_append_part(rope_search *session, const uint8_t *part, size_t len);
+
+/*
+ * Sets the text of the chosen buffer to the one that arrived, as set_text of all its bytes does.
+ * Refused: NONE, if no text was begun; UTF8, SIZE, MEMORY, after which the buffer is as it was. In
+ * each case no text arrives any more: what arrived is set or dropped.
+ */
+uint32_t rope_search_end_text(rope_search *session);
+
+/* Drops the text that arrives, if one was begun. Never refused. */
+uint32_t rope_search_cancel_text(rope_search *session);
 
 /* ---- a pending pattern of the chosen buffer ---- */
 

@@ -7,13 +7,13 @@
 --     assert(session:set_pattern("one"))
 --     for _, match in ipairs(session:matches()) do print(match.line, match.start, match.stop) end
 --
--- Lines and columns begin at 0, a column counts UTF-16 code units. A call that is refused returns
--- nil and the word of its reason, one of rope_search.faults, and leaves the session as it was. A
--- session stays on the thread that opened it, and is ended by `close`, or with its last use.
--- docs/protocol.md says what each command does, docs/patterns.md what patterns there are.
+-- Lines and columns count from 0; a column counts UTF-16 code units. A call that is refused returns
+-- nil and the word of the reason, one of rope_search.faults, and leaves the session as it was. A
+-- session stays on the thread that opened it, and ends by `close`, or when it is collected.
+-- docs/protocol.md says what each command does, docs/patterns.md has the syntax of patterns.
 --
--- The library is the file that the environment's ROPE_SEARCH_LIBRARY names, else
--- that of bin/ in this repository, or of lib/ where both were installed, else the system's.
+-- The library is the file that the environment's ROPE_SEARCH_LIBRARY names, otherwise that in bin/ or
+-- lib/ above this file, otherwise the system's.
 local ffi = require("ffi")
 
 ffi.cdef([[
@@ -78,6 +78,10 @@ bool rope_search_listed_before(rope_search *, rope_search_position, rope_search_
 bool rope_search_list_index(rope_search *, size_t, size_t, size_t *, size_t *);
 rope_search_stretch rope_search_changed(rope_search *);
 size_t rope_search_text_changes(rope_search *, rope_search_text_change *, size_t);
+uint32_t rope_search_begin_text(rope_search *);
+uint32_t rope_search_append_part(rope_search *, const uint8_t *, size_t);
+uint32_t rope_search_end_text(rope_search *);
+uint32_t rope_search_cancel_text(rope_search *);
 uint32_t rope_search_begin_pattern(rope_search *, const uint8_t *, size_t);
 uint32_t rope_search_advance(rope_search *, size_t, bool *);
 uint32_t rope_search_cancel(rope_search *);
@@ -90,10 +94,10 @@ rope_search_counts rope_search_counted(rope_search *);
 
 local M = {}
 
--- Why a call is refused, by what it answers.
+-- Why a call is refused, by the status that it returns.
 M.faults = { "none", "range", "utf8", "pattern", "limit", "size", "memory", "closed" }
 
--- Why a text is no pattern, as `pattern_error` tells it.
+-- Why a text is no pattern, as `pattern_error` returns it.
 M.reasons = {
   "the pattern is nested too deeply",
   "a group isn't closed",
@@ -119,7 +123,7 @@ end
 
 local function library_path()
   local top = (debug.getinfo(1, "S").source:match("^@(.*[/\\])") or "./") .. "../../"
-  -- bin/ of the repository, or lib/ where both were installed.
+  -- bin/ of the repository, or lib/ of an installation or release.
   local built, installed = top .. "bin/librope_search.so", top .. "lib/librope_search.so"
   return os.getenv("ROPE_SEARCH_LIBRARY") or (is_there(built) and built)
     or (is_there(installed) and installed) or "rope_search"
@@ -141,7 +145,7 @@ local function library()
   return calls
 end
 
--- What a call answers that tells nothing else: true, or nil and why it is refused.
+-- Returns true for the status of a call that is done; nil and the reason for one that is refused.
 local function told(status, answer)
   if status ~= 0 then
     return nil, M.faults[status]
@@ -157,7 +161,7 @@ local function spot(of)
   return { line = tonumber(of.line), column = tonumber(of.column) }
 end
 
--- The first matches of a buffer, each with its line and its two columns.
+-- Returns the first matches of a buffer, each with its line and its two columns.
 local function spans(out, count)
   local matches = {}
   for i = 0, count - 1 do
@@ -174,15 +178,15 @@ local BITS = { ["utf-8"] = 8, ["utf-16"] = 16, ["utf-32"] = 32 }
 local Session = {}
 Session.__index = Session
 
--- Opens a session whose texts have at most `limit` bytes, 1 GiB where it isn't given.
+-- Opens a session whose texts have at most `limit` bytes, by default 1 GiB.
 function M.open(limit)
   local handle = ffi.gc(ffi.new("rope_search"), library().rope_search_close)
   return told(calls.rope_search_open(limit or 2 ^ 30, handle), setmetatable({ handle = handle }, Session))
 end
 
--- Where and why a text is no pattern: { place, reason }, the byte at which the first character begins
--- that can't be there and one of rope_search.reasons; or false, where "pattern" isn't why it is
--- refused, if it is. No session takes part.
+-- Returns where and why a text is no pattern, if set_pattern refuses it with "pattern": { place, reason },
+-- the byte offset of the first character that can't be there and one of rope_search.reasons. Otherwise
+-- false. Needs no session.
 function M.pattern_error(pattern)
   local told_of = ffi.new("rope_search_pattern_reason")
   local status = library().rope_search_pattern_error(pattern, #pattern, told_of)
@@ -190,8 +194,8 @@ function M.pattern_error(pattern)
   return told(status, reason ~= nil and { place = tonumber(told_of.place), reason = reason })
 end
 
--- A pattern that matches that text only: the text with a backslash before each character that has a
--- meaning of its own in a pattern. Needs no session. Refused with "limit" if the pattern would have
+-- Returns a pattern that matches that text only: the text with a backslash before each character that
+-- has a special meaning in patterns. Needs no session. Refused with "limit" if the pattern would have
 -- more than 65,536 bytes.
 function M.escape(text)
   -- A pattern never has more bytes than this.
@@ -201,7 +205,7 @@ function M.escape(text)
   return told(status, ffi.string(out, tonumber(len[0])))
 end
 
--- Ends the session: all further calls are refused with "closed". It may be called again.
+-- Ends the session: all further calls are refused with "closed". May be called again.
 function Session:close()
   calls.rope_search_close(self.handle)
 end
@@ -210,18 +214,18 @@ function Session:is_open()
   return self.handle.is_open
 end
 
--- Sets the text, and empties its history.
+-- Sets a new text and starts a new history.
 function Session:set_text(text)
   return told(calls.rope_search_set_text(self.handle, text, #text))
 end
 
--- Replaces what stands from one position to another, each { line, column }.
+-- Replaces the text between two positions, each { line, column }.
 function Session:edit(start, stop, text)
   return told(calls.rope_search_edit(self.handle, position(start), position(stop), text, #text))
 end
 
--- Makes several edits as one, each { start, stop, text }, all in terms of the text before any of them
--- and in the order in which they lie; two may touch.
+-- Makes several edits as one undo step, each { start, stop, text }, in ascending order, with positions
+-- in the text before any of them; two may touch.
 function Session:edit_all(edits)
   local given = ffi.new("rope_search_text_edit[?]", math.max(1, #edits))
   local texts = {}
@@ -233,8 +237,8 @@ function Session:edit_all(edits)
   return told(calls.rope_search_edit_all(self.handle, given, #edits, text, #text))
 end
 
--- Replaces the bytes from one offset to another: "range" too where one is inside a character, or
--- between a CR and its LF.
+-- Replaces the bytes from one offset to another: "range" also if one is inside a character, or between
+-- a CR and its LF.
 function Session:edit_bytes(start, stop, text)
   return told(calls.rope_search_edit_bytes(self.handle, start, stop, text, #text))
 end
@@ -256,16 +260,17 @@ function Session:off()
   return told(calls.rope_search_off(self.handle))
 end
 
--- The first match in the whole text at a position or behind it, as its two positions, or false.
+-- Returns the first match in the whole text that starts at a position or after it, as its two
+-- positions, or false.
 function Session:next(start)
   local match = ffi.new("rope_search_match")
   local status = calls.rope_search_next(self.handle, position(start), match)
   return told(status, match.found and { start = spot(match.start), stop = spot(match.stop) })
 end
 
--- The first matches in the whole text at a position or after it, each as its two positions, at most
--- `room`, 1024 where it isn't given: of those that `replace` replaces, found from the text's start in
--- one search.
+-- Returns the first matches in the whole text that start at a position or after it, each as its two
+-- positions, at most `room`, by default 1024: of those that `replace` replaces, found from the text's
+-- start in one search.
 function Session:next_all(start, room)
   room = room or 1024
   local out, count = ffi.new("rope_search_text_match[?]", math.max(1, room)), ffi.new("size_t[1]")
@@ -285,7 +290,7 @@ function Session:replace(template)
 end
 
 -- Replaces one match of the report, by its line and its number in that row, from 0, with the groups
--- that the search of the line finds: "range" where no such match is listed.
+-- that the search of the line finds: "range" if no such match is listed.
 function Session:replace_match(line, number, template)
   return told(calls.rope_search_replace_match(self.handle, line, number, template, #template))
 end
@@ -298,7 +303,7 @@ function Session:replace_listed(from, to, template)
   return told(status, tonumber(count[0]))
 end
 
--- Adds a buffer with this text alone, and tells its number.
+-- Adds a buffer with the current text, no history and no pattern, and returns its number.
 function Session:fork()
   local number = ffi.new("size_t[1]")
   return told(calls.rope_search_fork(self.handle, number), tonumber(number[0]))
@@ -309,7 +314,7 @@ function Session:choose(number)
   return told(calls.rope_search_choose(self.handle, number))
 end
 
--- Drops the history: the current text alone is left.
+-- Drops the history: only the current text is left.
 function Session:forget()
   return told(calls.rope_search_forget(self.handle))
 end
@@ -319,12 +324,12 @@ function Session:keep(steps)
   return told(calls.rope_search_keep(self.handle, steps))
 end
 
--- Makes the last undo steps one, as many as told.
+-- Makes the last `steps` undo steps one.
 function Session:join(steps)
   return told(calls.rope_search_join(self.handle, steps))
 end
 
--- How many buffers there are, and the number of the chosen one.
+-- Return the number of buffers, and the number of the chosen one.
 function Session:buffers()
   return tonumber(calls.rope_search_buffers(self.handle))
 end
@@ -333,7 +338,7 @@ function Session:chosen()
   return tonumber(calls.rope_search_chosen(self.handle))
 end
 
--- Whether there is a text to go back to, and one to go forward to.
+-- Return whether there is a text to go back to, and one to go forward to.
 function Session:can_undo()
   return calls.rope_search_can_undo(self.handle)
 end
@@ -342,7 +347,7 @@ function Session:can_redo()
   return calls.rope_search_can_redo(self.handle)
 end
 
--- How many texts there are to go back to, and how many to go forward to.
+-- Return the number of texts to go back to, and to go forward to.
 function Session:undo_steps()
   return tonumber(calls.rope_search_undo_steps(self.handle))
 end
@@ -351,7 +356,7 @@ function Session:redo_steps()
   return tonumber(calls.rope_search_redo_steps(self.handle))
 end
 
--- The byte of the text at which a position is, and the position of a byte.
+-- Return the byte offset of a position, and the position of a byte offset.
 function Session:byte_of(at)
   local byte = ffi.new("size_t[1]")
   return told(calls.rope_search_byte_of(self.handle, position(at), byte), tonumber(byte[0]))
@@ -362,8 +367,8 @@ function Session:position_of(byte)
   return told(calls.rope_search_position_of(self.handle, byte, at), spot(at))
 end
 
--- The column of a position in bytes, for "utf-8", in characters, for "utf-32", or in code units, for
--- "utf-16", and the position of a line and such a column.
+-- Return the column of a position, in bytes for "utf-8", in code units for "utf-16", in characters for
+-- "utf-32", and the position of a line and such a column.
 function Session:column_in(encoding, at)
   local column = ffi.new("size_t[1]")
   local status = calls.rope_search_column_in(self.handle, BITS[encoding] or 0, position(at), column)
@@ -375,15 +380,15 @@ function Session:position_in(encoding, line, column)
   return told(calls.rope_search_position_in(self.handle, BITS[encoding] or 0, line, column, at), spot(at))
 end
 
--- The position nearest to a line and a column in an encoding ("utf-16" where none is given), which may
--- be nowhere: for a column past the line's text its end, for one inside a character or a surrogate
--- pair the start of that, for a line past the last one the text's end.
+-- Returns the position nearest to a line and a column in an encoding, by default "utf-16", that need
+-- not be in the text: the end of the line's text for a column past it, the start of a character or
+-- surrogate pair for a column inside, the text's end for a line past the last one.
 function Session:clamp(line, column, encoding)
   local at = ffi.new("rope_search_position")
   return told(calls.rope_search_clamp(self.handle, BITS[encoding or "utf-16"] or 0, line, column, at), spot(at))
 end
 
--- How long a line's text is in an encoding, and that text; the break is left off.
+-- Return the length of a line's text in an encoding, and that text, without its break.
 function Session:line_len(line, encoding)
   local len = ffi.new("size_t[1]")
   local status = calls.rope_search_line_len(self.handle, line, BITS[encoding or "utf-16"] or 0, len)
@@ -402,7 +407,7 @@ function Session:line_text(line)
   return ffi.string(out, room)
 end
 
--- How many bytes the text has, and how many lines.
+-- Return the number of bytes of the text, and of its lines.
 function Session:text_len()
   return tonumber(calls.rope_search_text_len(self.handle))
 end
@@ -411,8 +416,8 @@ function Session:text_lines()
   return tonumber(calls.rope_search_text_lines(self.handle))
 end
 
--- The text, or its bytes from one place to another: nil and "range" where they aren't in the text,
--- or cut a character.
+-- Returns the text, or its bytes from one offset to another: nil and "range" if they aren't in the
+-- text, or split a character.
 function Session:text(start, stop)
   start, stop = start or 0, stop or self:text_len()
   local room = math.max(0, math.min(stop, self:text_len()) - start)
@@ -423,18 +428,19 @@ function Session:text(start, stop)
   return ffi.string(out, room)
 end
 
--- How many rows the report has: the text's lines, or 0 without a pattern.
+-- Returns the number of rows of the report: the text's lines, or 0 without a pattern.
 function Session:rows()
   return tonumber(calls.rope_search_rows(self.handle))
 end
 
--- How many matches the rows from one line to another have; all, where none are given.
+-- Returns the number of matches in the rows from one line up to, not including, another; by default in
+-- all.
 function Session:count_matches(start, stop)
   return tonumber(calls.rope_search_count_matches(self.handle, start or 0, stop or ALL))
 end
 
--- These matches, each with its line and its two columns in an encoding: "utf-16" where none is given,
--- and no match for another word.
+-- Returns these matches, each with its line and its two columns in an encoding, by default "utf-16";
+-- none for another word.
 function Session:matches(start, stop, encoding)
   local count = self:count_matches(start, stop)
   local out = ffi.new("rope_search_span[?]", math.max(1, count))
@@ -447,8 +453,8 @@ function Session:matches(start, stop, encoding)
   return spans(out, count)
 end
 
--- The groups of match `number` in row `line`, both from 0: [0] is the match, [1] to [9] are nil where
--- they take no part in it; each with its line and its two columns.
+-- Returns the groups of match `number` in row `line`, both from 0: [0] is the whole match, [1] to [9]
+-- are nil if they aren't in it; each with its line and its two columns.
 function Session:groups_at(line, number)
   local out = ffi.new("rope_search_group[10]")
   local status = calls.rope_search_groups_at(self.handle, line, number, out, 10)
@@ -473,8 +479,8 @@ local function listed(found, match)
   return copy
 end
 
--- The first match of the report that starts at a position or after it, and the last one that starts
--- before it: its line, its number in that row, from 0, and its two columns; or nil.
+-- Return the first match of the report that starts at a position or after it, and the last one that
+-- starts before it: its line, its number in that row, from 0, and its two columns; or nil.
 function Session:listed_from(at)
   local match = ffi.new("rope_search_listed")
   return listed(calls.rope_search_listed_from(self.handle, position(at), match), match)
@@ -485,8 +491,8 @@ function Session:listed_before(at)
   return listed(calls.rope_search_listed_before(self.handle, position(at), match), match)
 end
 
--- How many matches the report lists before match `number`, from 0, of a row, and how many in all; or
--- nil if there is no such match.
+-- Returns the number of matches that the report lists before match `number`, from 0, of a row, and the
+-- number of all; or nil if there is no such match.
 function Session:list_index(line, number)
   local index, count = ffi.new("size_t[1]"), ffi.new("size_t[1]")
   if not calls.rope_search_list_index(self.handle, line, number, index, count) then
@@ -495,15 +501,15 @@ function Session:list_index(line, number)
   return tonumber(index[0]), tonumber(count[0])
 end
 
--- Which rows the last accepted command on the chosen buffer replaced, of those that may: `removed`
--- rows made way from the first on, for `added` others.
+-- Returns which rows the last accepted command on the chosen buffer replaced: from row `first` on,
+-- `removed` old rows by `added` new ones.
 function Session:changed()
   local stretch = calls.rope_search_changed(self.handle)
   return { first = tonumber(stretch.first), removed = tonumber(stretch.removed), added = tonumber(stretch.added) }
 end
 
--- The ranges of bytes in which the last accepted call on the chosen buffer replaced its text: each
--- with the four offsets that C has, in ascending order.
+-- Returns the ranges of bytes that the last accepted call on the chosen buffer replaced in its text:
+-- each with the four offsets that C has, in ascending order.
 function Session:text_changes()
   local count = tonumber(calls.rope_search_text_changes(self.handle, ffi.new("rope_search_text_change[1]"), 0))
   local out = ffi.new("rope_search_text_change[?]", math.max(1, count))
@@ -521,14 +527,35 @@ function Session:text_changes()
   return changes
 end
 
+-- Begins a text that arrives in parts, and drops what arrived of one that was begun before. The text of the
+-- buffer stays until `end_text`.
+function Session:begin_text()
+  return told(calls.rope_search_begin_text(self.handle))
+end
+
+-- Adds the next bytes, which may end inside a character. Refused as soon as it is known that `end_text` will be.
+function Session:append_part(part)
+  return told(calls.rope_search_append_part(self.handle, part, #part))
+end
+
+-- Sets the text to the one that arrived, as `set_text` does. After this none arrives, also if it is refused.
+function Session:end_text()
+  return told(calls.rope_search_end_text(self.handle))
+end
+
+-- Drops the text that arrives, if one does.
+function Session:cancel_text()
+  return told(calls.rope_search_cancel_text(self.handle))
+end
+
 -- Makes a pattern pending: `advance` makes its report in slices. Until then the pattern and the report
 -- stay.
 function Session:begin_pattern(pattern)
   return told(calls.rope_search_begin_pattern(self.handle, pattern, #pattern))
 end
 
--- Searches up to so many further lines for the pending pattern, and returns whether all are done: then
--- it is the pattern, as if it had been set.
+-- Searches up to `max_lines` further lines for the pending pattern, and returns whether all are done:
+-- it is then the pattern, as set_pattern would have made it.
 function Session:advance(max_lines)
   local done = ffi.new("bool[1]")
   local status = calls.rope_search_advance(self.handle, max_lines, done)
@@ -540,14 +567,14 @@ function Session:cancel()
   return told(calls.rope_search_cancel(self.handle))
 end
 
--- How many lines are done for the pending pattern; nil without one.
+-- Returns the number of lines that are done for the pending pattern; nil without one.
 function Session:pending()
   local lines = ffi.new("size_t[1]")
   return calls.rope_search_pending(self.handle, lines) and tonumber(lines[0]) or nil
 end
 
--- How many matches the lines from one to another have that are done, and these matches; all, where no
--- lines are given.
+-- Return the number of matches of the pending pattern in the lines that are done, from one up to, not
+-- including, another, by default in all, and these matches.
 function Session:count_pending(start, stop)
   local count = ffi.new("size_t[1]")
   local status = calls.rope_search_count_pending(self.handle, start or 0, stop or ALL, count)
@@ -564,8 +591,8 @@ function Session:pending_matches(start, stop)
   return told(status, spans(out, room))
 end
 
--- The matches of the lines from one to another under the pending pattern. Those that are not done are
--- searched: once more, if there are more matches than `room`, 1024 where it isn't given.
+-- Returns the matches of the pending pattern in the lines from one up to, not including, another. Lines
+-- that are not done are searched: twice, if there are more matches than `room`, by default 1024.
 function Session:window(start, stop, room)
   room = math.max(1, room or 1024)
   local count = ffi.new("size_t[1]")
@@ -580,7 +607,7 @@ function Session:window(start, stop, room)
   end
 end
 
--- The rows that were made so far, and the searches of a whole text.
+-- Returns the counts of rows that were made so far, and of searches of a whole text.
 function Session:counted()
   local counts = calls.rope_search_counted(self.handle)
   return { rows = tonumber(counts.rows), wholes = tonumber(counts.wholes) }

@@ -6,13 +6,12 @@
         session.edit((1, 0), (1, 0), "no ")
         print(session.matches())
 
-Lines and columns begin at 0, a column counts UTF-16 code units. A call that is refused raises the class of its reason,
-and leaves the session as it was. A session stays on the thread that opened it. docs/protocol.md says what each command
-does, docs/patterns.md what patterns there are.
+Lines and columns count from 0; a column counts UTF-16 code units. A call that is refused raises the class of the reason, a
+Fault, and leaves the session as it was. A session stays on the thread that opened it; other threads may have their own.
+docs/protocol.md says what each command does, docs/patterns.md has the syntax of patterns.
 
-The library is the file that ROPE_SEARCH_LIBRARY names, else that of bin/ in this repository, or of lib/ where both were
-installed, else the system's. It is opened when the first session is. A number that C can't take, below 0 or above 64
-bits, raises ctypes.ArgumentError.
+The library is the file that ROPE_SEARCH_LIBRARY names, otherwise that in bin/ or lib/ above this file, otherwise the
+system's. It is loaded with the first session. A number below 0 or of more than 64 bits raises ctypes.ArgumentError.
 """
 import ctypes
 import ctypes.util
@@ -54,22 +53,22 @@ class Listed(NamedTuple):
 
 
 class PatternError(NamedTuple):
-    """Where and why a text is no pattern: the byte at which the first character begins that can't be there, the text's
-    length where it ends too early; and one of REASONS."""
+    """Where and why a text is no pattern: the byte offset of the first character that can't be there, or the text's length
+    if it ends too early; and one of REASONS."""
     place: int
     reason: str
 
 
 class Stretch(NamedTuple):
-    """Rows of a report that others took the place of: how many made way from the first on, and how many came. All before
-    them are as they were, and so are all behind them, which may have moved."""
+    """Rows of a report that were replaced: from row `first` on, `removed` old rows by `added` new ones. All rows before them
+    are unchanged, and so are all after them, which may have moved."""
     first: int
     removed: int
     added: int
 
 
 class TextChange(NamedTuple):
-    """A range of the old text and the range of the new text that took its place, in bytes. Either may be empty."""
+    """A range of the old text and the range of the new text that replaced it, in bytes. Either may be empty."""
     old_start: int
     old_end: int
     new_start: int
@@ -91,7 +90,7 @@ class Nothing(Fault):
 
 
 class Range(Fault):
-    """A position is nowhere in the text, or positions don't come in order."""
+    """A position is not in the text, or positions are not in order."""
 
 
 class Utf8(Fault):
@@ -99,7 +98,7 @@ class Utf8(Fault):
 
 
 class Pattern(Fault):
-    """It is no pattern."""
+    """The text is no pattern."""
 
 
 class Limit(Fault):
@@ -141,7 +140,7 @@ REASONS: Tuple[str, ...] = (
 
 
 def _fitting(number: int) -> int:
-    """The number, where C can take it: ctypes would keep its last bits and say nothing."""
+    """Returns the number, if C can take it: ctypes would silently keep its last bits."""
     number = operator.index(number)
     if not 0 <= number <= _ALL:
         raise ctypes.ArgumentError(f"{number} has no place in a size_t")
@@ -149,7 +148,7 @@ def _fitting(number: int) -> int:
 
 
 class _Number(ctypes.c_size_t):
-    """A number that is handed to C."""
+    """A number that is passed to C."""
 
     @classmethod
     def from_param(cls, number: int) -> "_Number":
@@ -258,6 +257,10 @@ _CALLS = {
     "list_index": (ctypes.c_bool, _HANDLE, _SIZE, _SIZE, ctypes.POINTER(_SIZE), ctypes.POINTER(_SIZE)),
     "changed": (_Stretch, _HANDLE),
     "text_changes": (_SIZE, _HANDLE, ctypes.POINTER(_TextChange), _SIZE),
+    "begin_text": (_STATUS, _HANDLE),
+    "append_part": (_STATUS, _HANDLE, _BYTES, _SIZE),
+    "end_text": (_STATUS, _HANDLE),
+    "cancel_text": (_STATUS, _HANDLE),
     "begin_pattern": (_STATUS, _HANDLE, _BYTES, _SIZE),
     "advance": (_STATUS, _HANDLE, _SIZE, ctypes.POINTER(ctypes.c_bool)),
     "cancel": (_STATUS, _HANDLE),
@@ -267,7 +270,7 @@ _CALLS = {
     "window": (_STATUS, _HANDLE, _SIZE, _SIZE, ctypes.POINTER(_Span), _SIZE, ctypes.POINTER(_SIZE)),
     "counted": (_Counts, _HANDLE),
 }
-# What is handed over where the header has such a number.
+# The types that are passed for such numbers of the header.
 _HANDED = {_SIZE: _Number, ctypes.c_uint64: _Number}
 # How C names what columns count.
 _BITS = {"utf-8": 8, "utf-16": 16, "utf-32": 32}
@@ -275,11 +278,11 @@ _library: Optional[ctypes.CDLL] = None
 
 
 def library_path() -> str:
-    """Where the library is."""
+    """Returns the path of the library, or nothing if there is none."""
     if named := os.environ.get("ROPE_SEARCH_LIBRARY"):
         return named
     top = os.path.dirname(os.path.dirname(os.path.dirname(os.path.abspath(__file__))))
-    # bin/ of the repository, or lib/ where both were installed.
+    # bin/ of the repository, or lib/ of an installation or release.
     for folder in ("bin", "lib"):
         if os.path.exists(path := os.path.join(top, folder, "librope_search.so")):
             return path
@@ -287,7 +290,7 @@ def library_path() -> str:
 
 
 def library() -> ctypes.CDLL:
-    """The library, with its calls declared. OSError where it isn't found, or has another version."""
+    """Returns the library, with its calls declared. Raises OSError if it isn't found, or has another version."""
     global _library
     if _library is None:
         path = library_path()
@@ -305,7 +308,7 @@ def library() -> ctypes.CDLL:
 
 
 def _bytes_of(text: Text) -> bytes:
-    """Its UTF-8. A lone surrogate has none, and is then refused as bytes that aren't UTF-8."""
+    """Returns the text's UTF-8. A lone surrogate has none; it makes bytes that are refused with Utf8."""
     return text if isinstance(text, bytes) else text.encode("utf-8", "surrogatepass")
 
 
@@ -319,16 +322,16 @@ def _check(status: int) -> None:
 
 
 def pattern_error(pattern: Text) -> Optional[PatternError]:
-    """Where and why a text is no pattern, so that set_pattern is refused with Pattern; None where it is one, or is refused
-    with Limit. No session takes part. Refused: Utf8, Memory."""
+    """Returns where and why a text is no pattern, if set_pattern raises Pattern for it, and otherwise None. Needs no session.
+    Raises Utf8, Memory."""
     pattern, told = _bytes_of(pattern), _PatternReason()
     _check(library().rope_search_pattern_error(pattern, len(pattern), told))
     return PatternError(told.place, REASONS[told.reason - 1]) if told.reason else None
 
 
 def escape(text: Text) -> str:
-    """A pattern that matches that text only: the text with a backslash before each character that has a meaning of its own
-    in a pattern. Needs no session. Refused: Utf8; Limit, if the pattern would have more than 65,536 bytes; Memory."""
+    """Returns a pattern that matches that text only: the text with a backslash before each character that has a special
+    meaning in patterns. Needs no session. Raises Utf8; Limit if the pattern would have more than 65,536 bytes; Memory."""
     text = _bytes_of(text)
     # A pattern never has more bytes than this.
     room = min(2 * len(text), 65_536)
@@ -338,7 +341,7 @@ def escape(text: Text) -> str:
 
 
 class Session:
-    """Buffers, of which one is chosen: all calls are about that one. Their texts have at most `limit` bytes."""
+    """Buffers, one of which is chosen: calls use that one. Texts have at most `limit` bytes."""
 
     def __init__(self, limit: int = 1 << 30) -> None:
         self._calls = library()
@@ -356,50 +359,50 @@ class Session:
             self.close()
 
     def close(self) -> None:
-        """Ends the session: all further calls are refused with Closed. It may be called again."""
+        """Ends the session: all further calls raise Closed. May be called again."""
         self._calls.rope_search_close(self._handle)
 
     @property
     def is_open(self) -> bool:
-        """Whether it wasn't closed."""
+        """Whether the session isn't closed."""
         return self._handle.is_open
 
     # ---- commands
 
     def set_text(self, text: Text) -> None:
-        """Sets the text, and empties its history. Refused: Utf8, Size, Memory."""
+        """Sets a new text and starts a new history. Raises Utf8, Size, Memory."""
         text = _bytes_of(text)
         _check(self._calls.rope_search_set_text(self._handle, text, len(text)))
 
     def edit(self, start: Tuple[int, int], stop: Tuple[int, int], text: Text) -> None:
-        """Replaces what stands from one position to another. Refused: Range, Utf8, Size, Memory."""
+        """Replaces the text between two positions. Raises Range, Utf8, Size, Memory."""
         text = _bytes_of(text)
         _check(self._calls.rope_search_edit(self._handle, _Position(*start), _Position(*stop), text, len(text)))
 
     def edit_all(self, edits: Iterable[Tuple[Tuple[int, int], Tuple[int, int], Text]]) -> None:
-        """Makes several edits as one, each (start, stop, text), all in terms of the text before any of them and in the
-        order in which they lie; two may touch. Refused: Range, Utf8, Size, Memory; then none is made."""
+        """Makes several edits as one undo step, each (start, stop, text), in ascending order, with positions in the text
+        before any of them; two may touch. Raises Range, Utf8, Size, Memory; then none is made."""
         edits = [(_Position(*start), _Position(*stop), _bytes_of(text)) for start, stop, text in edits]
         told = (_TextEdit * max(1, len(edits)))(*((start, stop, len(text)) for start, stop, text in edits))
         text = b"".join(text for _, _, text in edits)
         _check(self._calls.rope_search_edit_all(self._handle, told, len(edits), text, len(text)))
 
     def edit_bytes(self, start: int, stop: int, text: Text) -> None:
-        """Replaces the bytes from one offset to another. Refused: Range, where an offset is past the text, inside a character
-        or between a CR and its LF; Utf8, Size, Memory."""
+        """Replaces the bytes from one offset to another. Raises Range if an offset is past the text, inside a character or
+        between a CR and its LF; Utf8, Size, Memory."""
         text = _bytes_of(text)
         _check(self._calls.rope_search_edit_bytes(self._handle, start, stop, text, len(text)))
 
     def undo(self) -> None:
-        """Goes one text back. Refused: Nothing, Memory."""
+        """Goes one text back. Raises Nothing, Memory."""
         _check(self._calls.rope_search_undo(self._handle))
 
     def redo(self) -> None:
-        """Goes one text forward. Refused: Nothing, Memory."""
+        """Goes one text forward. Raises Nothing, Memory."""
         _check(self._calls.rope_search_redo(self._handle))
 
     def set_pattern(self, pattern: Text) -> None:
-        """Sets the pattern. Refused: Utf8, Pattern, Limit, Memory."""
+        """Sets the pattern. Raises Utf8, Pattern, Limit, Memory."""
         pattern = _bytes_of(pattern)
         _check(self._calls.rope_search_set_pattern(self._handle, pattern, len(pattern)))
 
@@ -408,49 +411,50 @@ class Session:
         _check(self._calls.rope_search_off(self._handle))
 
     def next(self, start: Tuple[int, int]) -> Optional[Match]:
-        """The first match in the whole text at a position or behind it. Refused: Nothing, Range, Memory."""
+        """Returns the first match in the whole text that starts at a position or after it, or None. Raises Nothing, Range,
+        Memory."""
         match = _Match()
         _check(self._calls.rope_search_next(self._handle, _Position(*start), match))
         return _match_of(match) if match.found else None
 
     def next_all(self, start: Tuple[int, int], room: int = 1_024) -> List[Match]:
-        """The first matches in the whole text at a position or after it, at most `room`: of those that `replace` replaces,
-        found from the text's start in one search. Refused: Nothing, Range, Memory."""
+        """Returns the first matches in the whole text that start at a position or after it, at most `room`: of those that
+        `replace` replaces, found from the text's start in one search. Raises Nothing, Range, Memory."""
         out, count = (_TextMatch * max(1, room))(), ctypes.c_size_t()
         _check(self._calls.rope_search_next_all(self._handle, _Position(*start), out, room, count))
         return [_match_of(match) for match in out[:count.value]]
 
     def replace(self, template: Text) -> int:
-        """Replaces all matches, and returns their number. Refused: Nothing, Utf8, Size, Memory."""
+        """Replaces all matches, and returns their number. Raises Nothing, Utf8, Size, Memory."""
         template, count = _bytes_of(template), ctypes.c_size_t()
         _check(self._calls.rope_search_replace(self._handle, template, len(template), count))
         return count.value
 
     def replace_match(self, line: int, number: int, template: Text) -> None:
         """Replaces one match of the report, by its line and its number in that row, with the groups that the search of the
-        line finds. Refused: Nothing, Range, where no such match is listed; Utf8, Size, Memory."""
+        line finds. Raises Nothing; Range if no such match is listed; Utf8, Size, Memory."""
         template = _bytes_of(template)
         _check(self._calls.rope_search_replace_match(self._handle, line, number, template, len(template)))
 
     def replace_listed(self, first: int, last: int, template: Text) -> int:
         """Replaces the matches that the report lists in the lines `first` up to, not including, `last`, with the groups that
-        the search of each line finds, and returns their number. Refused: Nothing, Utf8, Size, Memory."""
+        the search of each line finds, and returns their number. Raises Nothing, Utf8, Size, Memory."""
         template, count = _bytes_of(template), ctypes.c_size_t()
         _check(self._calls.rope_search_replace_listed(self._handle, first, last, template, len(template), count))
         return count.value
 
     def fork(self) -> int:
-        """Adds a buffer with this text alone, and tells its number. Refused: Memory."""
+        """Adds a buffer with the current text, no history and no pattern, and returns its number. Raises Memory."""
         number = ctypes.c_size_t()
         _check(self._calls.rope_search_fork(self._handle, number))
         return number.value
 
     def choose(self, number: int) -> None:
-        """Chooses a buffer by its number, from 0. Refused: Nothing."""
+        """Chooses a buffer by its number, from 0. Raises Nothing."""
         _check(self._calls.rope_search_choose(self._handle, number))
 
     def forget(self) -> None:
-        """Drops the history: the current text alone is left."""
+        """Drops the history: only the current text is left."""
         _check(self._calls.rope_search_forget(self._handle))
 
     def keep(self, steps: int) -> None:
@@ -458,19 +462,19 @@ class Session:
         _check(self._calls.rope_search_keep(self._handle, steps))
 
     def join(self, steps: int) -> None:
-        """Makes the last `steps` undo steps one. Refused: Nothing, where there are fewer; Memory."""
+        """Makes the last `steps` undo steps one. Raises Nothing if there are fewer; Memory."""
         _check(self._calls.rope_search_join(self._handle, steps))
 
     # ---- reading
 
     @property
     def buffers(self) -> int:
-        """How many buffers there are."""
+        """The number of buffers."""
         return self._calls.rope_search_buffers(self._open())
 
     @property
     def chosen(self) -> int:
-        """The number of the chosen one."""
+        """The number of the chosen buffer, from 0."""
         return self._calls.rope_search_chosen(self._open())
 
     @property
@@ -485,55 +489,55 @@ class Session:
 
     @property
     def undo_steps(self) -> int:
-        """How many texts there are to go back to."""
+        """The number of texts to go back to."""
         return self._calls.rope_search_undo_steps(self._open())
 
     @property
     def redo_steps(self) -> int:
-        """How many texts there are to go forward to."""
+        """The number of texts to go forward to."""
         return self._calls.rope_search_redo_steps(self._open())
 
     def byte_of(self, position: Tuple[int, int]) -> int:
-        """The byte of the text at which a position is. Refused: Range."""
+        """Returns the byte offset of a position. Raises Range."""
         byte = ctypes.c_size_t()
         _check(self._calls.rope_search_byte_of(self._handle, _Position(*position), byte))
         return byte.value
 
     def position_of(self, byte: int) -> Position:
-        """The position of a byte of the text. Refused: Range, where it begins no character."""
+        """Returns the position of a byte offset. Raises Range if no character starts there."""
         position = _Position()
         _check(self._calls.rope_search_position_of(self._handle, byte, position))
         return Position(position.line, position.column)
 
     def column_in(self, encoding: str, position: Tuple[int, int]) -> int:
-        """The column of a position in bytes, for "utf-8", in characters, for "utf-32", or in code units, for "utf-16".
-        Refused: Range."""
+        """Returns the column of a position, in bytes for "utf-8", in code units for "utf-16", in characters for "utf-32".
+        Raises Range."""
         column = ctypes.c_size_t()
         _check(self._calls.rope_search_column_in(self._handle, _BITS.get(encoding, 0), _Position(*position), column))
         return column.value
 
     def position_in(self, encoding: str, line: int, column: int) -> Position:
-        """The position of a line and a column in an encoding. Refused: Range, where they are nowhere."""
+        """Returns the position of a line and a column in an encoding. Raises Range if they are not in the text."""
         position = _Position()
         _check(self._calls.rope_search_position_in(self._handle, _BITS.get(encoding, 0), line, column, position))
         return Position(position.line, position.column)
 
     def clamp(self, line: int, column: int, encoding: str = "utf-16") -> Position:
-        """The position nearest to a line and a column in an encoding, which may be nowhere: for a column past the line's
-        text its end, for one inside a character or a surrogate pair the start of that, for a line past the last one the
-        text's end. Refused: Range, for another encoding."""
+        """Returns the position nearest to a line and a column in an encoding that need not be in the text: the end of the
+        line's text for a column past it, the start of a character or surrogate pair for a column inside, the text's end for
+        a line past the last one. Raises Range for another encoding."""
         position = _Position()
         _check(self._calls.rope_search_clamp(self._handle, _BITS.get(encoding, 0), line, column, position))
         return Position(position.line, position.column)
 
     def line_len(self, line: int, encoding: str = "utf-16") -> int:
-        """How long a line's text is in an encoding, its break left off. Refused: Range."""
+        """Returns the length of a line's text in an encoding, without its break. Raises Range."""
         length = ctypes.c_size_t()
         _check(self._calls.rope_search_line_len(self._handle, line, _BITS.get(encoding, 0), length))
         return length.value
 
     def line_text(self, line: int) -> str:
-        """A line's text, its break left off. Refused: Range."""
+        """Returns a line's text, without its break. Raises Range."""
         room = self.line_len(line, "utf-8")
         out = ctypes.create_string_buffer(max(1, room))
         if not self._calls.rope_search_copy_line(self._handle, line, out, room):
@@ -542,16 +546,16 @@ class Session:
 
     @property
     def text_len(self) -> int:
-        """How many bytes the text has."""
+        """The number of bytes of the text."""
         return self._calls.rope_search_text_len(self._open())
 
     @property
     def text_lines(self) -> int:
-        """How many lines the text has."""
+        """The number of lines of the text."""
         return self._calls.rope_search_text_lines(self._open())
 
     def text_bytes(self, start: int = 0, stop: Optional[int] = None) -> bytes:
-        """Bytes of the text. Refused: Range, where they aren't in the text, or cut a character."""
+        """Returns bytes of the text. Raises Range if they aren't in the text, or split a character."""
         stop = self.text_len if stop is None else stop
         room = max(0, min(stop, self.text_len) - start)
         out = ctypes.create_string_buffer(max(1, room))
@@ -566,15 +570,15 @@ class Session:
 
     @property
     def rows(self) -> int:
-        """How many rows the report has: the text's lines, or 0 without a pattern."""
+        """The number of rows of the report: the text's lines, or 0 without a pattern."""
         return self._calls.rope_search_rows(self._open())
 
     def count_matches(self, start: int = 0, stop: Optional[int] = None) -> int:
-        """How many matches the rows from one line to another have."""
+        """Returns the number of matches in the rows from `start` up to, not including, `stop`."""
         return self._calls.rope_search_count_matches(self._open(), start, _ALL if stop is None else stop)
 
     def matches(self, start: int = 0, stop: Optional[int] = None, encoding: str = "utf-16") -> List[Span]:
-        """The matches in the rows from one line to another, with columns in an encoding; none for another."""
+        """Returns the matches in these rows, with columns in an encoding; none if there is no such encoding."""
         stop = _ALL if stop is None else stop
         count = self.count_matches(start, stop)
         out = (_Span * max(1, count))()
@@ -585,35 +589,35 @@ class Session:
         return [Span(span.line, span.start, span.stop) for span in out[:count]]
 
     def groups_at(self, line: int, number: int) -> List[Optional[Span]]:
-        """The groups 0 to 9 of match `number`, from 0, of those in a row: the first is the match, and None stands for one
-        that takes no part in it. The line is searched once more, which is counted. Refused: Nothing, Range, Memory."""
+        """Returns the groups 0 to 9 of match `number`, from 0, in a row: the first is the whole match, and a group that isn't
+        in the match is None. The line is searched once more, which is counted. Raises Nothing, Range, Memory."""
         out = (_Group * 10)()
         _check(self._calls.rope_search_groups_at(self._handle, line, number, out, len(out)))
         return [Span(group.line, group.start, group.stop) if group.found else None for group in out]
 
     def listed_from(self, position: Tuple[int, int]) -> Optional[Listed]:
-        """The first match of the report that starts at a position or after it."""
+        """Returns the first match of the report that starts at a position or after it, or None."""
         match = _Listed()
         found = self._calls.rope_search_listed_from(self._open(), _Position(*position), match)
         return Listed(match.line, match.number, match.start, match.stop) if found else None
 
     def listed_before(self, position: Tuple[int, int]) -> Optional[Listed]:
-        """The last match of the report that starts before a position."""
+        """Returns the last match of the report that starts before a position, or None."""
         match = _Listed()
         found = self._calls.rope_search_listed_before(self._open(), _Position(*position), match)
         return Listed(match.line, match.number, match.start, match.stop) if found else None
 
     def list_index(self, line: int, number: int) -> Optional[Tuple[int, int]]:
-        """How many matches the report lists before match `number`, from 0, of a row, and how many in all; None where there
-        is no such match."""
+        """Returns the number of matches that the report lists before match `number`, from 0, of a row, and the number of all;
+        None if there is no such match."""
         index, count = ctypes.c_size_t(), ctypes.c_size_t()
         found = self._calls.rope_search_list_index(self._open(), line, number, index, count)
         return (index.value, count.value) if found else None
 
     @property
     def changed(self) -> Stretch:
-        """Which rows the last accepted command on the chosen buffer replaced, of those that may: the setters, edits, undo,
-        redo, off and replace."""
+        """The rows that the last accepted command on the chosen buffer replaced. Only set_text, set_pattern, edits, undo,
+        redo, off and replacements replace rows."""
         stretch = self._calls.rope_search_changed(self._open())
         return Stretch(stretch.first, stretch.removed, stretch.added)
 
@@ -627,17 +631,39 @@ class Session:
         self._calls.rope_search_text_changes(self._open(), out, count)
         return [TextChange(one.old_start, one.old_end, one.new_start, one.new_end) for one in out[:count]]
 
+    # ---- a text that arrives in parts
+
+    def begin_text(self) -> None:
+        """Begins a text that arrives in parts, and drops what arrived of one that was begun before. The text of the buffer
+        stays until end_text."""
+        _check(self._calls.rope_search_begin_text(self._handle))
+
+    def append_part(self, part: Text) -> None:
+        """Adds the next bytes to the text that arrives; they may end inside a character. Refused: Nothing, where no text was
+        begun; Utf8, Size, Memory, as soon as it is known that end_text will be refused."""
+        part = _bytes_of(part)
+        _check(self._calls.rope_search_append_part(self._handle, part, len(part)))
+
+    def end_text(self) -> None:
+        """Sets the text to the one that arrived, as set_text does. After this none arrives, also if it is refused: Nothing,
+        where no text was begun; Utf8, Size, Memory."""
+        _check(self._calls.rope_search_end_text(self._handle))
+
+    def cancel_text(self) -> None:
+        """Drops the text that arrives, if one was begun."""
+        _check(self._calls.rope_search_cancel_text(self._handle))
+
     # ---- a pending pattern
 
     def begin_pattern(self, pattern: Text) -> None:
-        """Makes a pattern pending: advance makes its report in slices. Until then the pattern and the report stay. Refused:
+        """Makes a pattern pending: advance makes its report in slices. Until then the pattern and the report stay. Raises
         Utf8, Pattern, Limit, Memory."""
         pattern = _bytes_of(pattern)
         _check(self._calls.rope_search_begin_pattern(self._handle, pattern, len(pattern)))
 
     def advance(self, max_lines: int) -> bool:
-        """Searches up to so many further lines for the pending pattern, and returns whether all are done: then it is the
-        pattern, as if it had been set. Refused: Nothing, Memory."""
+        """Searches up to `max_lines` further lines for the pending pattern, and returns whether all are done: it is then the
+        pattern, as set_pattern would have made it. Raises Nothing, Memory."""
         done = ctypes.c_bool()
         _check(self._calls.rope_search_advance(self._handle, max_lines, done))
         return done.value
@@ -653,13 +679,14 @@ class Session:
         return lines.value if self._calls.rope_search_pending(self._open(), lines) else None
 
     def count_pending(self, start: int = 0, stop: Optional[int] = None) -> int:
-        """How many matches the lines from one to another have that are done. Refused: Nothing."""
+        """Returns the number of matches of the pending pattern in the lines that are done, from `start` up to, not including,
+        `stop`. Raises Nothing."""
         count = ctypes.c_size_t()
         _check(self._calls.rope_search_count_pending(self._handle, start, _ALL if stop is None else stop, count))
         return count.value
 
     def pending_matches(self, start: int = 0, stop: Optional[int] = None) -> List[Span]:
-        """These matches. Refused: Nothing."""
+        """Returns these matches. Raises Nothing."""
         stop = _ALL if stop is None else stop
         room, count = self.count_pending(start, stop), ctypes.c_size_t()
         out = (_Span * max(1, room))()
@@ -667,8 +694,8 @@ class Session:
         return [Span(span.line, span.start, span.stop) for span in out[:room]]
 
     def window(self, start: int, stop: int, room: int = 1_024) -> List[Span]:
-        """The matches of the lines from one to another under the pending pattern. Those that are not done are searched: once
-        more, if there are more matches than `room`. Refused: Nothing, Memory."""
+        """Returns the matches of the pending pattern in the lines from `start` up to, not including, `stop`. Lines that are not
+        done are searched: twice, if there are more matches than `room`. Raises Nothing, Memory."""
         count = ctypes.c_size_t(room)
         while True:
             room = max(1, count.value)
@@ -679,12 +706,12 @@ class Session:
 
     @property
     def counted(self) -> Counts:
-        """What was counted so far."""
+        """The counts so far."""
         counts = self._calls.rope_search_counted(self._open())
         return Counts(counts.rows, counts.wholes)
 
     def _open(self) -> _Handle:
-        """The handle, of a session that is open: else Closed is raised."""
+        """Returns the handle. Raises Closed if the session isn't open."""
         if not self._handle.is_open:
             raise Closed()
         return self._handle

@@ -266,6 +266,17 @@ export class Session {
   changed(): Stretch;
   /** The ranges in which the last accepted command on the chosen buffer replaced its text. Refused: Memory. */
   textChanges(): TextChange[];
+  /** Begins a text that arrives in parts, such as a file read in slices. The buffer's text stays until `endText`. */
+  beginText(): void;
+  /**
+   * Adds the next bytes of the text that arrives, which may end inside a character. Refused: Nothing if no text was
+   * begun; Utf8, Size, Memory, as soon as it is known that `endText` will be.
+   */
+  appendPart(part: Text): void;
+  /** Sets the text to the one that arrived. After this none arrives. Refused: Nothing, Utf8, Size, Memory. */
+  endText(): void;
+  /** Drops the text that arrives, if one was begun. */
+  cancelText(): void;
   /** Makes a pattern pending: `advance` makes its report in slices. Refused: Utf8, Pattern, Limit, Memory. */
   beginPattern(pattern: Text): void;
   /** Searches further lines for the pending pattern, and returns whether all are done. Refused: Nothing, Memory. */

@@ -57,7 +57,7 @@ static void see(rope_search *s, struct seen *seen)
 }
 
 enum kind {
-    SET_TEXT, EDIT, EDIT_ALL, EDIT_BYTES, UNDO, REDO, SET_PATTERN, OFF, NEXT, NEXT_ALL, REPLACE,
+    SET_TEXT, PARTS, EDIT, EDIT_ALL, EDIT_BYTES, UNDO, REDO, SET_PATTERN, OFF, NEXT, NEXT_ALL, REPLACE,
     REPLACE_MATCH, REPLACE_LISTED, FORK, CHOOSE, FORGET, KEEP, JOIN, GROUPS_AT, PATTERN_ERROR, ESCAPE, BEGIN, ADVANCE, WINDOW, CANCEL
 };
 
@@ -91,6 +91,11 @@ static uint32_t carry_out(rope_search *s, const struct call *call)
     edits[1].len = len - len / 2;
     switch (call->kind) {
     case SET_TEXT: return rope_search_set_text(s, text, len);
+    case PARTS:
+        rope_search_begin_text(s);
+        rope_search_append_part(s, text, len / 2);
+        rope_search_append_part(s, text + len / 2, len - len / 2);
+        return rope_search_end_text(s);
     case EDIT: return rope_search_edit(s, from, to, text, len);
     case EDIT_ALL: return rope_search_edit_all(s, edits, 2, text, len);
     case EDIT_BYTES: return rope_search_edit_bytes(s, call->line, call->to_line, text, len);
@@ -123,7 +128,7 @@ static uint32_t carry_out(rope_search *s, const struct call *call)
 #define AT(kind, line, column) {kind, line, column, 0, 0, NULL}
 
 static const struct call calls[] = {
-    TEXT(SET_TEXT, "one two\none\r\nthree one\none one one\nnone\n"),
+    TEXT(PARTS, "one \360\237\220\270"), TEXT(SET_TEXT, "one two\none\r\nthree one\none one one\nnone\n"),
     TEXT(SET_PATTERN, "(?i)(o)n\\w|e$"),
     {EDIT, 1, 0, 2, 3, "ONE\nof many\none\n"},
     {EDIT_ALL, 0, 3, 2, 1, "a one\n\nand one"},

@@ -11,6 +11,7 @@ import shutil
 import subprocess
 import sys
 
+import library_parts
 from harness import LIBRARY, LIBRARY_FOLDER, PROGRAM, ROOM, SECONDS, SONAME, TOP, VERSION, example_rows, short, test
 from library import replies, reply, rope_search
 from library_changes import wrong_changes
@@ -18,6 +19,7 @@ from library_edits import wrong_many, wrong_with
 from library_escapes import wrong_matches, wrong_rooms, wrong_rows, wrong_singles
 from library_groups import wrong_groups
 from library_in_c import STRICT, test_stack, test_under_tools
+from library_kept_rows import wrong_kept_rows
 from library_lines import wrong_edits, wrong_long, wrong_numbers, wrong_small
 from library_listed import wrong_listed
 from library_pane import wrong_document
@@ -163,6 +165,12 @@ def test_explanations():
     same = numbers == list(range(len(numbers))) and reasons == in_lua == list(rope_search.REASONS)
     test("the header and the bindings have the same reasons", [] if same else [f"{reasons}, in Lua {in_lua}"])
     test("where and why texts are no patterns", wrong_explanations())
+
+
+def test_parts():
+    test("texts that arrive in parts, split in every way", library_parts.wrong_splits())
+    test("longer texts that arrive in parts", library_parts.wrong_long())
+    test("what other calls see while a text arrives", library_parts.wrong_until_the_end())
 
 
 def test_escapes():
@@ -357,6 +365,8 @@ def test_replacing():
     test(f"single matches replaced, in {GROUPED} texts at random, beside the model", wrong)
     wrong = [one for seed in range(GROUPED) for one in wrong_listed_replacements(seed)]
     test(f"the matches of some lines replaced, in {GROUPED} texts at random, beside the model", wrong)
+    wrong = [one for seed in range(GROUPED) for one in wrong_kept_rows(seed)]
+    test(f"rows kept for an undo and a redo, in {GROUPED} sessions at random, beside the model", wrong)
 
 
 def test_pending():
@@ -410,6 +420,7 @@ def test_closed():
         "forget": (), "keep": (1,), "join": (1,), "byte_of": (origin, ctypes.c_size_t(7)), "position_of": (0, rope_search._Position()),
         "groups_at": (0, 0, (rope_search._Group * 10)(), 10), "edit_bytes": (0, 0, b"a", 1),
         "replace_match": (0, 0, b"a", 1), "replace_listed": (0, 9, b"a", 1, ctypes.c_size_t(7)),
+        "begin_text": (), "append_part": (b"a", 1), "end_text": (), "cancel_text": (),
         "begin_pattern": (b"a", 1), "advance": (1, ctypes.c_bool(True)), "cancel": (),
         "window": (0, 9, (rope_search._Span * 1)(), 1, ctypes.c_size_t(7)), "count_pending": (0, 9, ctypes.c_size_t(7)),
         "copy_pending": (0, 9, (rope_search._Span * 1)(), 1, ctypes.c_size_t(7)),
@@ -521,7 +532,7 @@ def test_page():
     page = read("docs", "embedding.md")
     blocks = re.findall(r"```(c|python|lua|sh)\n(.*?)```\n\nIt prints\n\n```text\n(.*?)```", page, flags=re.S)
     kinds = [kind for kind, _, _ in blocks]
-    test("docs/embedding.md has code in four languages", [] if kinds == ["c", "python", "lua", "sh", "python", "c", "python", "c"] else [f"in {kinds}"])
+    test("docs/embedding.md has code in four languages", [] if kinds == ["c", "python", "lua", "sh", "python", "c", "python", "c", "python", "c"] else [f"in {kinds}"])
     for kind, code, due in blocks:
         file = os.path.join(ROOM, "embedded." + kind.replace("python", "py"))
         with open(file, "w", encoding="utf-8") as out:
@@ -610,6 +621,7 @@ def test_all():
     test_pending()
     test_explanations()
     test_escapes()
+    test_parts()
     test_programs()
     test_lua()
     test_neovim()

@@ -54,6 +54,13 @@ FAR_READING = (
     given("text", b"a" * 70 + b"\n" + b"a" * 40) + given("pattern", b"(a*b)|a") + b"list\nedit 0 1 1 1 1\naundo\nlist\n"
     + given("replace", b"$0$1-") + b"list\nundo\nredo\nlist\nprint\n"
 )
+# Long lines, so that the rows that a replacement takes out of the report take less than the text, and are kept: it is
+# undone and redone, also after an edit, and after one under another pattern.
+KEPT_ROWS = (
+    given("text", b"\n".join([b"ab" + b"-" * 300, b"b-b" + b"-" * 400, b"none"])) + given("pattern", b"b") + given("replace", b"<$0>")
+    + b"list\nundo\nlist\nredo\nlist\nedit 1 0 1 0 1\nbundo\nundo\nlist\nprint\n" + given("replace", b"") + b"fork\nundo\n"
+    + given("pattern", b"a|-b") + b"redo\nlist\n" + given("replace", b"b\n") + b"undo\nlist\nundo\nlist\nuse 1\nundo\nprint\n"
+)
 
 # A text of a megabyte, and how many of its lines are edited, each in a fork of its own and all in one buffer.
 LINES, LINE, EDITED = 20_000, b"a line of fifty bytes, which holds one mark: here\n", 50
@@ -74,6 +81,9 @@ LONG_TEXT, MANY_EDITS, MOST_KEPT = 20_000_000, 10_000, 5_000
 # The limit for a text while it is read, as a multiple of its bytes.
 MOST_FOR_A_TEXT = 1.2
 
+# The most requests for what a single thread keeps, which finds the groups of a replacement's matches.
+FOR_A_THREAD = 20
+
 # Inputs on which memory is refused. The payload of the second is as long as several reads and spells commands, which
 # must not be executed if it is lost.
 MEMORY_INPUTS = [
@@ -92,6 +102,7 @@ MEMORY_INPUTS = [
     REPLACED_IN_LONG,
     BACK_AND_FORWARD,
     FAR_READING,
+    KEPT_ROWS,
     b"pattern 2\nabtext 3063\n" + b"ab" * 1500 + b"\n" + b"ab\n" * 20 + b"abedit 0 1500 10 1 47\n" + b"\nab" * 15 + b"\r\n"
     + b"list\nundo\nlist\nredo\nprint\nedit 0 0 5 2 0\nlist\n",
     b"text 3\na\nbfork\nedit 0 1 1 0 1\n\ruse 1\nedit 0 0 0 1 2\n\xc3\xa9undo\nprint\nuse 0\nundo\nundo\nredo\nprint\n"
@@ -164,14 +175,19 @@ def answered(data, ended):
 
 
 def may_go_untold(commands):
-    """How many requests may be refused without effect: the list of a pattern's characters requests more room than it
-    needs at once, and if that is refused it requests room for one after the other."""
-    return sum(growths(len(payload)) for word, _, payload in commands if word == "pattern")
+    """By command, how many requests may be refused without effect. The list of a pattern's characters requests more room
+    than it needs at once, and if that is refused it requests room for one after the other. For the groups of a
+    replacement, what a single thread keeps may be refused: the PikeVM then searches."""
+    return {
+        "pattern": sum(growths(len(payload)) for word, _, payload in commands if word == "pattern"),
+        "replace": sum(FOR_A_THREAD for word, _, payload in commands if word == "replace" and b"$" in payload),
+    }
 
 
 def one_refused(data, places):
     """Each request refused alone: before the first command nothing is read, and afterwards the command that made the
-    request is the one that is out of memory. But for each pattern some requests may be refused without effect."""
+    request is the one that is out of memory. But for patterns and replacements some requests may be refused without
+    effect."""
     commands, _ = read_commands(data)
     untold, seen, whole = may_go_untold(commands), set(), answer(data)
     for number, place in enumerate(places, 1):
@@ -180,8 +196,9 @@ def one_refused(data, places):
             wrong = differences(ended, b"", 1, told(b"out of memory")) + ([f"{ended.read} bytes were read"] if ended.read else [])
         elif place == len(commands):
             wrong = differences(ended, *whole)
-        elif untold and commands[place][0] == "pattern" and not differences(ended, *whole):
-            untold, wrong = untold - 1, []
+        elif untold.get(commands[place][0]) and not differences(ended, *whole):
+            untold[commands[place][0]] -= 1
+            wrong = []
         else:
             wrong = differences(ended, *answer_without(data, frozenset({place})))
             seen.add(place)
@@ -225,8 +242,9 @@ def sent_again(data, places):
             given = respelled(commands[: place + 1] + commands[place:])
             ended, _ = session(given, at=number)
             wrong = differences(ended, *answer_without(given, frozenset({place})))
-            if wrong and untold and commands[place][0] == "pattern" and not differences(ended, *answer(given)):
-                untold, wrong = untold - 1, []
+            if wrong and untold.get(commands[place][0]) and not differences(ended, *answer(given)):
+                untold[commands[place][0]] -= 1
+                wrong = []
             yield from (f"request {number}, command {place}: {line}" for line in wrong)
 
 

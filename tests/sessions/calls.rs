@@ -11,6 +11,10 @@ pub enum Kind {
     Open,
     Close,
     SetText,
+    BeginText,
+    AppendPart,
+    EndText,
+    CancelText,
     /// Two positions.
     Edit,
     /// Two positions and a length for each edit.
@@ -137,6 +141,8 @@ impl Kind {
         matches!(
             self,
             Open | SetText
+                | AppendPart
+                | EndText
                 | Edit
                 | EditAll
                 | EditBytes
@@ -166,6 +172,10 @@ impl Kind {
             self,
             Open | Close
                 | SetText
+                | BeginText
+                | AppendPart
+                | EndText
+                | CancelText
                 | Edit
                 | EditAll
                 | EditBytes
@@ -200,6 +210,7 @@ impl Kind {
         matches!(
             self,
             SetText
+                | EndText
                 | Edit
                 | EditAll
                 | EditBytes

@@ -104,8 +104,12 @@ impl Checker {
         let got = self.session.carry_out(call);
         let is_refused = memory::was_refused();
         let lacks_memory = got.status == MEMORY && is_refused && may_lack;
-        let due =
-            if lacks_memory { Model::lacks_memory(call) } else { self.model.carry_out(call)? };
+        let due = if lacks_memory {
+            self.model.lose_text(call.kind);
+            Model::lacks_memory(call)
+        } else {
+            self.model.carry_out(call)?
+        };
         self.compare(call, &got, &due)?;
         let cost = if lacks_memory { None } else { Some(self.model.cost) };
         self.counts(call, was_counted, cost)?;

@@ -48,6 +48,10 @@ unsafe extern "C" {
     fn rope_search_open(limit: usize, s: *mut Handle) -> u32;
     fn rope_search_close(s: *mut Handle);
     fn rope_search_set_text(s: *mut Handle, text: *const u8, len: usize) -> u32;
+    fn rope_search_begin_text(s: *mut Handle) -> u32;
+    fn rope_search_append_part(s: *mut Handle, part: *const u8, len: usize) -> u32;
+    fn rope_search_end_text(s: *mut Handle) -> u32;
+    fn rope_search_cancel_text(s: *mut Handle) -> u32;
     fn rope_search_edit(
         s: *mut Handle,
         from: Position,
@@ -381,6 +385,10 @@ unsafe fn change_text(
     Some(unsafe {
         match call.kind {
             Kind::SetText => rope_search_set_text(s, text, len),
+            Kind::BeginText => rope_search_begin_text(s),
+            Kind::AppendPart => rope_search_append_part(s, text, len),
+            Kind::EndText => rope_search_end_text(s),
+            Kind::CancelText => rope_search_cancel_text(s),
             Kind::Edit => rope_search_edit(s, position(n), position(&n[2..]), text, len),
             Kind::EditAll => rope_search_edit_all(s, edits.as_ptr(), edits.len(), text, len),
             Kind::EditBytes => rope_search_edit_bytes(s, n[0] as usize, n[1] as usize, text, len),

@@ -10,6 +10,7 @@
 //! tests/sessions/sessions_by_calls.py writes the file UNICODE. `check` prints each session that fails as
 //! its least calls, with what is wrong then; its last line has the number of sessions, of those
 //! that failed, and of those that were compared in part, since the model would take too long.
+mod arriving;
 mod calls;
 mod check;
 mod escapes;

@@ -1,5 +1,6 @@
 //! A plain model of a session, by docs/protocol.md and include/rope_search.h: every text of a
 //! history is kept whole, and all that is asked of it is computed from it.
+use crate::arriving::Arriving;
 use crate::calls::*;
 use crate::patterns::{MOST_BYTES, Pattern, Patterns, Refused, Row, mistake_in};
 use crate::pending::Pending;
@@ -107,7 +108,8 @@ pub struct Cost {
 pub struct Open {
     pub buffers: Vec<Buffer>,
     pub chosen: usize,
-    limit: u64,
+    pub limit: u64,
+    pub arriving: Option<Arriving>,
 }
 
 impl Open {
@@ -153,6 +155,7 @@ impl Model {
             Kind::ReplaceListed => has_pattern && std::str::from_utf8(&call.bytes).is_ok(),
             Kind::Escape => std::str::from_utf8(&call.bytes).is_ok(),
             Kind::Join => call.numbers[0] > 1,
+            Kind::AppendPart | Kind::EndText => self.is_arriving(),
             kind => kind.may_need_memory(),
         }
     }
@@ -170,6 +173,10 @@ impl Model {
             Kind::Escape => return Ok(escape(&call.bytes, call.numbers[0])),
             _ if self.open.is_none() => CLOSED,
             Kind::SetText => self.set_text(&call.bytes),
+            Kind::BeginText => self.begin_text(),
+            Kind::AppendPart => self.append_part(&call.bytes),
+            Kind::EndText => self.end_text(),
+            Kind::CancelText => self.cancel_text(),
             Kind::Edit | Kind::EditAll | Kind::EditBytes => self.edit(call),
             Kind::Undo => self.turn(false),
             Kind::Redo => self.turn(true),
@@ -204,11 +211,11 @@ impl Model {
             return SIZE;
         }
         let buffers = vec![Buffer::new(Rc::new(Text::new(Vec::new())))];
-        self.open = Some(Open { buffers, chosen: 0, limit });
+        self.open = Some(Open { buffers, chosen: 0, limit, arriving: None });
         DONE
     }
 
-    fn set_text(&mut self, bytes: &[u8]) -> u64 {
+    pub fn set_text(&mut self, bytes: &[u8]) -> u64 {
         let limit = self.session().limit;
         let Some(text) = Text::read(bytes) else { return UTF8 };
         if text.byte_len() > limit {
@@ -328,8 +335,8 @@ impl Model {
         let none = |status| Ok(Answer::new(status, vec![0]));
         let Some(pattern) = buffer.pattern.clone() else { return none(NONE) };
         let Some(place) = text.place_of((n[0], n[1])) else { return none(RANGE) };
-        let matches = pattern.matches(&text.chars)?.into_iter();
-        let later = matches.filter(|slots| slots[0] >= Some(place)).take(n[2] as usize);
+        let matches = pattern.matches(&text.chars)?;
+        let later = matches.iter().filter(|slots| slots[0] >= Some(place)).take(n[2] as usize);
         let ends = later.flat_map(|slots| [slots[0], slots[1]]).flatten();
         let ends: Vec<u64> = ends.flat_map(|end| <[u64; 2]>::from(text.position_at(end))).collect();
         Ok(Answer::new(DONE, [vec![ends.len() as u64 / 4], ends].concat()))

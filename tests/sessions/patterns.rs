@@ -6,6 +6,7 @@ use crate::trees::pattern_weight;
 use crate::walks::{Search, Slots, TooLong};
 use std::cell::RefCell;
 use std::collections::HashMap;
+use std::hash::{BuildHasherDefault, Hasher};
 use std::rc::Rc;
 
 /// The most bytes that a pattern may have, and the most that it may weigh.
@@ -14,8 +15,35 @@ const MOST_WEIGHT: u64 = 262_144;
 /// Python may have an older Unicode than the library, by which letter classes have fewer ranges:
 /// above this, the model doesn't know whether a pattern is too heavy.
 const SURE_WEIGHT: u64 = MOST_WEIGHT / 10 * 9;
-/// How many patterns are kept, and how many lines of each.
+/// How many patterns are kept, how many contents that were searched for each of them, and the most
+/// characters of these contents together.
 const MOST_KNOWN: usize = 2_000;
+const MOST_CHARS: usize = 1 << 20;
+
+/// Hashes characters quickly, in place of the hash of the standard library.
+#[derive(Default)]
+pub struct Mixed(u64);
+
+impl Hasher for Mixed {
+    fn write(&mut self, bytes: &[u8]) {
+        bytes.iter().for_each(|&byte| self.write_u32(byte.into()));
+    }
+
+    fn write_u32(&mut self, number: u32) {
+        self.0 = (self.0 ^ u64::from(number)).wrapping_mul(0x9E37_79B9_7F4A_7C15).rotate_left(29);
+    }
+
+    fn write_usize(&mut self, number: usize) {
+        self.write_u32(number as u32);
+    }
+
+    fn finish(&self) -> u64 {
+        self.0
+    }
+}
+
+/// What is known of lists of characters.
+type Known<T> = HashMap<Rc<[char]>, T, BuildHasherDefault<Mixed>>;
 
 /// A match in a line: its bounds as places from the line's start, and as columns.
 #[derive(Debug, Clone, Copy)]
@@ -37,7 +65,15 @@ pub type Row = Rc<Vec<Span>>;
 pub struct Pattern {
     program: Program,
     unicode: Rc<Unicode>,
-    rows: RefCell<HashMap<Vec<char>, Row>>,
+    rows: RefCell<Known<Row>>,
+    found: RefCell<Found>,
+}
+
+/// The matches in contents that were searched, and the characters of these contents together.
+#[derive(Default)]
+struct Found {
+    matches: Known<Rc<Vec<Slots>>>,
+    chars: usize,
 }
 
 /// Why a pattern is refused.
@@ -47,12 +83,12 @@ pub enum Refused {
     Limit,
 }
 
-type Known = Result<Rc<Pattern>, Refused>;
+type Made = Result<Rc<Pattern>, Refused>;
 
-/// The patterns that were read, each with the lines that were searched for it.
+/// The patterns that were read, each with what was searched for it.
 pub struct Patterns {
     pub unicode: Rc<Unicode>,
-    known: RefCell<HashMap<Vec<char>, Known>>,
+    known: RefCell<Known<Made>>,
 }
 
 impl Patterns {
@@ -60,7 +96,7 @@ impl Patterns {
         Patterns { unicode: Rc::new(unicode), known: RefCell::default() }
     }
 
-    pub fn read(&self, chars: &[char]) -> Result<Known, TooLong> {
+    pub fn read(&self, chars: &[char]) -> Result<Made, TooLong> {
         if let Some(known) = self.known.borrow().get(chars) {
             return Ok(known.clone());
         }
@@ -69,7 +105,7 @@ impl Patterns {
         if known.len() >= MOST_KNOWN {
             known.clear();
         }
-        known.insert(chars.to_vec(), read.clone());
+        known.insert(chars.into(), read.clone());
         Ok(read)
     }
 }
@@ -86,7 +122,8 @@ impl Pattern {
             _ => {}
         }
         let (program, unicode) = (Program::new(&tree), Rc::clone(unicode));
-        Ok(Ok(Pattern { program, unicode, rows: RefCell::default() }))
+        let (rows, found) = (RefCell::default(), RefCell::default());
+        Ok(Ok(Pattern { program, unicode, rows, found }))
     }
 
     fn search<'a>(&'a self, chars: &'a [char]) -> Result<Search<'a>, TooLong> {
@@ -94,8 +131,18 @@ impl Pattern {
     }
 
     /// All matches in a text, with their groups.
-    pub fn matches(&self, chars: &[char]) -> Result<Vec<Slots>, TooLong> {
-        self.search(chars)?.matches()
+    pub fn matches(&self, chars: &[char]) -> Result<Rc<Vec<Slots>>, TooLong> {
+        if let Some(found) = self.found.borrow().matches.get(chars) {
+            return Ok(Rc::clone(found));
+        }
+        let matches = Rc::new(self.search(chars)?.matches()?);
+        let mut found = self.found.borrow_mut();
+        if found.matches.len() >= MOST_KNOWN || found.chars + chars.len() > MOST_CHARS {
+            *found = Found::default();
+        }
+        found.chars += chars.len();
+        found.matches.insert(chars.into(), Rc::clone(&matches));
+        Ok(matches)
     }
 
     /// The first match in a text that starts at a place or after it.
@@ -114,16 +161,16 @@ impl Pattern {
             place = to;
             column
         };
-        let span = |slots: Slots| {
+        let span = |slots: &Slots| {
             let (start, stop) = (slots[0]?, slots[1]?);
             Some(Span { start, stop, columns: (column_of(start), column_of(stop)) })
         };
-        let row: Row = Rc::new(self.matches(line)?.into_iter().filter_map(span).collect());
+        let row: Row = Rc::new(self.matches(line)?.iter().filter_map(span).collect());
         let mut rows = self.rows.borrow_mut();
         if rows.len() >= MOST_KNOWN {
             rows.clear();
         }
-        rows.insert(line.to_vec(), Rc::clone(&row));
+        rows.insert(line.into(), Rc::clone(&row));
         Ok(row)
     }
 }

@@ -1,5 +1,6 @@
 """The answers of the Python models to calls of the library, compared with those of the model in tests/sessions, which
 is in Rust, for the same sessions, so that each checks the other."""
+import codecs
 import functools
 
 from library_escapes import escaped
@@ -23,11 +24,11 @@ BITS = dict(zip((8, 16, 32), ENCODINGS.values()))
 MOST_CHARACTERS, MOST_OF_LITERALS = 150, 3_000  # of a text in which patterns are searched for
 COMMANDS = {"SetText": "text", "Edit": "edit", "Undo": "undo", "Redo": "redo", "SetPattern": "pattern", "Off": "off", "Next":
             "next", "Replace": "replace", "Fork": "fork", "Choose": "use"}
-CHANGING = ("SetText", "Edit", "EditAll", "EditBytes", "Undo", "Redo", "Replace", "ReplaceMatch", "ReplaceListed")
+CHANGING = ("SetText", "EndText", "Edit", "EditAll", "EditBytes", "Undo", "Redo", "Replace", "ReplaceMatch", "ReplaceListed")
 REFUSED_IF_CLOSED = (*COMMANDS, *CHANGING, "Forget", "Keep", "Join", "GroupsAt", "ByteOf", "PositionOf", "ColumnIn",
                      "PositionIn", "Clamp", "LineLen", "BeginPattern", "Advance", "Cancel", "CountPending", "CopyPending",
-                     "Window", "NextAll")
-WITH_PAYLOAD = ("EditAll", "EditBytes", "ReplaceMatch", "ReplaceListed", "BeginPattern")
+                     "Window", "NextAll", "BeginText", "AppendPart", "CancelText")
+WITH_PAYLOAD = ("AppendPart", "EditAll", "EditBytes", "ReplaceMatch", "ReplaceListed", "BeginPattern")
 
 
 class Unclear(Exception):
@@ -36,6 +37,14 @@ class Unclear(Exception):
 
 def refused(status):
     return status, [], b""
+
+
+def begins_text(payload):
+    try:
+        codecs.getincrementaldecoder("utf-8")().decode(payload)
+    except UnicodeDecodeError:
+        return False
+    return True
 
 
 @functools.lru_cache(maxsize=100_000)
@@ -49,6 +58,7 @@ class Plain:
 
     def __init__(self):
         self.mirror, self.limit = None, 0
+        self.arriving = None  # the bytes of the text that arrives, and why it will be refused, as far as that is known
         self.pending = {}  # the pending pattern of a buffer's number, and how many lines are done
 
     @property
@@ -99,7 +109,7 @@ class Plain:
     def open(self, limit):
         if limit >= 1 << 63:
             return refused(SIZE)
-        self.mirror, self.pending = Mirror(), {}
+        self.mirror, self.pending, self.arriving = Mirror(), {}, None
         self.model.limit = limit
         return refused(0)
 
@@ -220,6 +230,29 @@ class Plain:
             return SIZE, [0], b""
         self.add(new.decode(), ranges)
         return 0, [len(ranges)], b""
+
+    def BeginText(self):
+        self.arriving = b"", 0
+        return refused(0)
+
+    def AppendPart(self, payload):
+        if self.arriving is None:
+            return refused(1)
+        payload, status = self.arriving[0] + payload, self.arriving[1]
+        if status == 0:
+            status = SIZE if len(payload) > self.model.limit else 0 if begins_text(payload) else 3
+        self.arriving = payload, status
+        return refused(status)
+
+    def EndText(self):
+        if self.arriving is None:
+            return refused(1)
+        payload, self.arriving = self.arriving[0], None
+        return self.command("text", [], payload)
+
+    def CancelText(self):
+        self.arriving = None
+        return refused(0)
 
     def BeginPattern(self, payload):
         if not is_utf8(payload):

@@ -75,17 +75,18 @@ pub struct Reader<'a> {
 
 /// The tree of a pattern, or the mistake: of the grammar, whatever the depth, or else of the depth.
 pub fn read(text: &[char], unicode: &Unicode) -> Read<Tree> {
-    read_under(text, unicode, usize::MAX)?;
-    read_under(text, unicode, NEST_LIMIT)
+    let (tree, depth) = read_under(text, unicode, usize::MAX)?;
+    if depth <= NEST_LIMIT { Ok(tree) } else { Ok(read_under(text, unicode, NEST_LIMIT)?.0) }
 }
 
-fn read_under(text: &[char], unicode: &Unicode, limit: usize) -> Read<Tree> {
+/// The tree of a pattern with groups and repetitions up to a limit, and its depth.
+fn read_under(text: &[char], unicode: &Unicode, limit: usize) -> Read<(Tree, usize)> {
     let mut reader = Reader { text, at: 0, groups: 0, names: Vec::new(), limit, unicode };
-    let (tree, _) = reader.branches(Flags::default(), 0)?;
+    let read = reader.branches(Flags::default(), 0)?;
     if reader.at < text.len() {
         return reader.mistake(Reason::NoOpenGroup);
     }
-    Ok(tree)
+    Ok(read)
 }
 
 fn one_of(mut parts: Vec<Tree>, many: fn(Vec<Tree>) -> Tree) -> Tree {

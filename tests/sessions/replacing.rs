@@ -6,9 +6,10 @@ use crate::walks::{Slots, TooLong};
 
 /// Each match of the whole text as a part that the template's expansion replaces.
 pub fn replaced(text: &Text, pattern: &Pattern, template: &[char]) -> Result<Vec<Part>, TooLong> {
-    let parts = pattern.matches(&text.chars)?.into_iter().map(|slots| {
-        let (start, end) = bounds(&slots, 0).expect("a match has bounds");
-        (start, end, expanded(&text.chars, template, &slots))
+    let matches = pattern.matches(&text.chars)?;
+    let parts = matches.iter().map(|slots| {
+        let (start, end) = bounds(slots, 0).expect("a match has bounds");
+        (start, end, expanded(&text.chars, template, slots))
     });
     Ok(parts.collect())
 }
@@ -26,9 +27,9 @@ pub fn replaced_in_lines(
         let line = &text.chars[start..end];
         let matches = pattern.matches(line)?;
         lines += u64::from(!matches.is_empty());
-        parts.extend(matches.into_iter().map(|slots| {
-            let (first, last) = bounds(&slots, 0).expect("a match has bounds");
-            (start + first, start + last, expanded(line, template, &slots))
+        parts.extend(matches.iter().map(|slots| {
+            let (first, last) = bounds(slots, 0).expect("a match has bounds");
+            (start + first, start + last, expanded(line, template, slots))
         }));
     }
     Ok((parts, lines))

@@ -2,6 +2,7 @@
 //! model. The library counts what runs, and is what libFuzzer is guided by; this code counts nothing.
 //! The environment names the file of what Unicode says, UNICODE.
 #![no_main]
+mod arriving;
 mod calls;
 mod check;
 mod escapes;

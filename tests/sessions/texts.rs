@@ -17,11 +17,14 @@ pub struct Text {
 
 impl Text {
     pub fn new(chars: Vec<char>) -> Text {
-        let (mut bytes, mut units) = (vec![0], vec![0]);
-        for (place, c) in chars.iter().enumerate() {
-            bytes.push(bytes[place] + c.len_utf8() as u32);
-            units.push(units[place] + c.len_utf16() as u32);
-        }
+        let before = |len: fn(char) -> usize| {
+            let ends = chars.iter().scan(0, |end, &c| {
+                *end += len(c) as u32;
+                Some(*end)
+            });
+            [0].into_iter().chain(ends).collect()
+        };
+        let (bytes, units) = (before(char::len_utf8), before(char::len_utf16));
         let lines = lines_of(&chars);
         Text { chars, bytes, units, lines }
     }
@@ -111,6 +114,19 @@ impl Text {
         self.count(bits, 0, 0)?;
         let place = self.last_place_in(bits, line, column).unwrap_or(self.chars.len());
         Some(self.position_at(place))
+    }
+
+    /// The places at which a text that is set is cut, if no part may have more bytes than these: each
+    /// part but the last is as long as can be, and no CR LF is parted.
+    pub fn seams(&self, most: u64) -> Vec<usize> {
+        let (mut seams, mut at) = (Vec::new(), 0);
+        while self.byte_at(at) + most < self.byte_len() {
+            let end = self.byte_at(at) + most;
+            at = self.bytes.partition_point(|&byte| u64::from(byte) <= end) - 1;
+            at -= usize::from(self.parts_a_break(at));
+            seams.push(at);
+        }
+        seams
     }
 
     /// All places at which a position is.

@@ -34,6 +34,9 @@ pub struct Search<'a> {
     chars: &'a [char],
     tried: Vec<u64>,
     touched: Vec<usize>,
+    /// The slots of the walk that is tried: none is noted before and after.
+    slots: Slots,
+    tasks: Vec<Task>,
     /// How many steps are left.
     left: u64,
 }
@@ -48,8 +51,9 @@ impl<'a> Search<'a> {
         if pairs > MOST_PAIRS {
             return Err(TooLong);
         }
-        let tried = vec![0; pairs / 64 + 1];
-        Ok(Search { program, unicode, chars, tried, touched: Vec::new(), left: MOST_STEPS })
+        let (tried, slots) = (vec![0; pairs / 64 + 1], vec![None; program.slots]);
+        let (touched, tasks) = (Vec::new(), Vec::new());
+        Ok(Search { program, unicode, chars, tried, touched, slots, tasks, left: MOST_STEPS })
     }
 
     fn holds(&self, look: Look, place: usize) -> bool {
@@ -80,12 +84,11 @@ impl<'a> Search<'a> {
 
     /// The slots of the least walk from the start node at a place.
     fn walk_from(&mut self, start: usize) -> Result<Option<Slots>, TooLong> {
-        let mut slots = vec![None; self.program.slots];
-        let mut tasks = vec![Task::Try(self.program.start, start)];
-        while let Some(task) = tasks.pop() {
+        self.tasks.push(Task::Try(self.program.start, start));
+        while let Some(task) = self.tasks.pop() {
             let (node, place) = match task {
                 Task::Restore(slot, old) => {
-                    slots[slot] = old;
+                    self.slots[slot] = old;
                     continue;
                 }
                 Task::Try(node, place) => (node, place),
@@ -95,21 +98,25 @@ impl<'a> Search<'a> {
             }
             self.left = self.left.checked_sub(1).ok_or(TooLong)?;
             match &self.program.nodes[node] {
-                Node::Match => return Ok(Some(slots)),
+                Node::Match => {
+                    self.tasks.clear();
+                    let none = vec![None; self.program.slots];
+                    return Ok(Some(std::mem::replace(&mut self.slots, none)));
+                }
                 Node::Look(look, on) if self.holds(*look, place) => {
-                    tasks.push(Task::Try(*on, place));
+                    self.tasks.push(Task::Try(*on, place));
                 }
                 Node::Set(set, on) if self.chars.get(place).is_some_and(|&c| set.has(c)) => {
-                    tasks.push(Task::Try(*on, place + 1));
+                    self.tasks.push(Task::Try(*on, place + 1));
                 }
                 Node::Look(..) | Node::Set(..) => {}
                 Node::Note(slot, on) => {
-                    tasks.push(Task::Restore(*slot, slots[*slot]));
-                    slots[*slot] = Some(place);
-                    tasks.push(Task::Try(*on, place));
+                    self.tasks.push(Task::Restore(*slot, self.slots[*slot]));
+                    self.slots[*slot] = Some(place);
+                    self.tasks.push(Task::Try(*on, place));
                 }
                 Node::Pass(edges) => {
-                    tasks.extend(edges.iter().rev().map(|&edge| Task::Try(edge, place)));
+                    self.tasks.extend(edges.iter().rev().map(|&edge| Task::Try(edge, place)));
                 }
             }
         }

@@ -35,7 +35,7 @@ const QUICK: &[&str] = &[
 ];
 const PIECES: &[&str] =
     &["$0", "$0", "$1", "$2", "$9", "$$", "$", "$a", "\r", "\n", "\n\r", "a", "b", "é🐸", ""];
-/// The most bytes of a leaf of a rope: edits are made near multiples of it.
+/// The most bytes of a leaf of a rope: edits are made near the ends of leaves.
 const LEAF: usize = 984;
 const MOST: u64 = u64::MAX;
 const TEXT_LIMIT: u64 = 1 << 30;
@@ -78,6 +78,9 @@ struct Writer {
     random: Random,
     model: Model,
     calls: Vec<Call>,
+    /// The places between the leaves of the text that was last set, and its length.
+    seams: Vec<usize>,
+    set_len: usize,
     /// How many of 1,000 calls have requests refused.
     refused: u64,
     is_over: bool,
@@ -87,8 +90,7 @@ struct Writer {
 pub fn session(seed: u64, number: u64, patterns: &Rc<Patterns>) -> Vec<Call> {
     let mut random = Random::new(seed, number);
     let refused = if random.per_mille(120) { random.one_of(&[50, 300, 900]) } else { 0 };
-    let model = Model::new(patterns);
-    let mut writer = Writer { random, model, calls: Vec::new(), refused, is_over: false };
+    let mut writer = Writer::new(random, refused, patterns);
     match number % 10_000 {
         5_000 => writer.huge(),
         number if number % 1_000 == 500 => writer.many(),
@@ -105,8 +107,7 @@ pub fn session(seed: u64, number: u64, patterns: &Rc<Patterns>) -> Vec<Call> {
 pub fn session_of_bytes(bytes: &[u8], patterns: &Rc<Patterns>) -> Vec<Call> {
     let mut random = Random::of_bytes(bytes);
     let refused = random.one_of(&[0, 0, 300]);
-    let model = Model::new(patterns);
-    let mut writer = Writer { random, model, calls: Vec::new(), refused, is_over: false };
+    let mut writer = Writer::new(random, refused, patterns);
     while !writer.random.is_over() && !writer.is_over {
         match writer.random.below(5) {
             0 => writer.hostile(),
@@ -119,6 +120,11 @@ pub fn session_of_bytes(bytes: &[u8], patterns: &Rc<Patterns>) -> Vec<Call> {
 }
 
 impl Writer {
+    fn new(random: Random, refused: u64, patterns: &Rc<Patterns>) -> Writer {
+        let (model, calls, seams) = (Model::new(patterns), Vec::new(), Vec::new());
+        Writer { random, model, calls, seams, set_len: 0, refused, is_over: false }
+    }
+
     /// Adds a call, which the model carries out as if no memory were refused to it.
     fn write(&mut self, kind: Kind, numbers: &[u64], text: &[u8]) {
         if self.is_over || self.random.is_over() {
@@ -133,8 +139,13 @@ impl Writer {
         if kind.is_command() && !matches!(kind, Kind::GroupsAt | Kind::Window) {
             self.is_over = self.model.carry_out(&call).is_err();
         }
+        if kind == Kind::SetText {
+            let text = self.text();
+            (self.seams, self.set_len) = (text.seams(LEAF as u64), text.chars.len());
+        }
         self.calls.push(call);
         self.write_beside(kind);
+        self.write_parts(kind);
     }
 
     /// Adds the call that comes with each one of some kinds. It takes no choice at random, and has the
@@ -158,6 +169,33 @@ impl Writer {
             _ => return,
         };
         self.calls.push(beside);
+    }
+
+    /// Adds calls for a text that arrives in parts, besides those that set a text or edit it, also to
+    /// none that was begun. They take no choice at random either.
+    fn write_parts(&mut self, kind: Kind) {
+        let number = self.calls.len();
+        let call = self.calls[number - 1].clone();
+        let (first, last) = call.bytes.split_at(call.bytes.len() * (number % 4) / 3);
+        let part = |part: &[u8]| (Kind::AppendPart, part.to_vec());
+        let none = |kind| (kind, Vec::new());
+        let parts = match (kind, number % 3) {
+            (Kind::SetText, 0) => vec![none(Kind::BeginText), part(first)],
+            (Kind::SetText, 1) => {
+                vec![none(Kind::BeginText), part(first), part(last), none(Kind::EndText)]
+            }
+            (Kind::SetText, _) => vec![part(first), part(last), none(Kind::EndText)],
+            (Kind::Edit | Kind::EditBytes, 0) => vec![part(&call.bytes)],
+            (Kind::Choose | Kind::Fork, 0) => vec![none(Kind::EndText)],
+            (Kind::Off, 0) => vec![none(Kind::CancelText)],
+            _ => return,
+        };
+        for (kind, bytes) in parts {
+            let refusal = call.refusal.filter(|_| kind.may_need_memory());
+            let call = Call { kind, numbers: Vec::new(), bytes, refusal };
+            self.is_over |= self.model.carry_out(&call).is_err();
+            self.calls.push(call);
+        }
     }
 
     fn say(&mut self, kind: Kind, text: &str) {
@@ -358,13 +396,23 @@ impl Writer {
         }
     }
 
-    /// A place of a text: one near a multiple of a leaf's size, at an end of a line, or any.
+    /// A place between two leaves of a text. Edits move those behind them, so in the back half of the
+    /// text it is counted from the end.
+    fn seam(&self, text: &Text, number: usize) -> usize {
+        match self.seams.get(number) {
+            Some(seam) if number < self.seams.len() / 2 => *seam,
+            Some(seam) => (text.chars.len() + seam).saturating_sub(self.set_len),
+            None => LEAF * number,
+        }
+    }
+
+    /// A place of a text: one near an end of a leaf, at an end of a line, or any.
     fn some_place(&mut self, text: &Text) -> usize {
         let len = text.chars.len();
         let place = match self.random.below(4) {
             0 if len > LEAF => {
-                let seam = LEAF * self.random.between(0, len / LEAF);
-                (seam + self.random.between(0, 4)).saturating_sub(2)
+                let number = self.random.between(0, len / LEAF);
+                (self.seam(text, number) + self.random.between(0, 4)).saturating_sub(2)
             }
             1 => {
                 let (start, end) = self.random.one_of(&text.lines);

@@ -72,6 +72,23 @@ session.choose(0);
 session.off();
 same([session.rows(), session.matches(), Object.keys(session.counted())], [0, [], ["rows", "wholes"]]);
 
+// ---- a text that arrives in parts
+const before = session.text();
+session.beginText();
+session.appendPart("a ");
+for (const part of [[0xf0, 0x9f], [], [0x90, 0xb8]]) {
+  session.appendPart(new Uint8Array(part));
+}
+same(session.text(), before);
+session.endText();
+same(session.text(), "a 🐸");
+session.beginText();
+refused("Utf8", () => session.appendPart(new Uint8Array([0xff])));
+session.cancelText();
+refused("Nothing", () => session.appendPart("a"));
+refused("Nothing", () => session.endText());
+same(session.text(), "a 🐸");
+
 // ---- results and texts that no cell has room for
 session.setText("ab ".repeat(50_000));
 session.setPattern("a");

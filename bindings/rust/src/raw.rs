@@ -223,6 +223,10 @@ extern "C" {
         out: *mut TextChange,
         out_len: usize,
     ) -> usize;
+    fn rope_search_begin_text(session: *mut RawSession) -> u32;
+    fn rope_search_append_part(session: *mut RawSession, part: *const u8, len: usize) -> u32;
+    fn rope_search_end_text(session: *mut RawSession) -> u32;
+    fn rope_search_cancel_text(session: *mut RawSession) -> u32;
     fn rope_search_begin_pattern(session: *mut RawSession, pattern: *const u8, len: usize) -> u32;
     fn rope_search_advance(session: *mut RawSession, max_lines: usize, done: *mut bool) -> u32;
     fn rope_search_cancel(session: *mut RawSession) -> u32;
@@ -537,6 +541,22 @@ impl Handle {
 
     pub fn text_changes(&self, out: &mut [TextChange]) -> usize {
         unsafe { rope_search_text_changes(self.ptr(), out.as_mut_ptr(), out.len()) }
+    }
+
+    pub fn begin_text(&mut self) -> Result<()> {
+        check(unsafe { rope_search_begin_text(self.ptr()) })
+    }
+
+    pub fn append_part(&mut self, part: &[u8]) -> Result<()> {
+        check(unsafe { rope_search_append_part(self.ptr(), part.as_ptr(), part.len()) })
+    }
+
+    pub fn end_text(&mut self) -> Result<()> {
+        check(unsafe { rope_search_end_text(self.ptr()) })
+    }
+
+    pub fn cancel_text(&mut self) -> Result<()> {
+        check(unsafe { rope_search_cancel_text(self.ptr()) })
     }
 
     pub fn begin_pattern(&mut self, pattern: &[u8]) -> Result<()> {

@@ -739,6 +739,55 @@ impl Session {
         out
     }
 
+    /// Begins a text that arrives in parts, and drops what arrived of one that was begun before. The text and the
+    /// report of the buffer stay until [`Session::end_text`].
+    ///
+    /// ```
+    /// use rope_search::{Error, Session};
+    ///
+    /// let mut session = Session::with_limit(100)?;
+    /// session.begin_text();
+    /// // A part may end inside a character.
+    /// for part in "a frog 🐸".as_bytes().chunks(3) {
+    ///     session.append_part(part)?;
+    /// }
+    /// assert_eq!(session.text(..)?, "");
+    /// session.end_text()?;
+    /// assert_eq!(session.text(..)?, "a frog 🐸");
+    /// assert_eq!(session.end_text(), Err(Error::Nothing));
+    /// # Ok::<(), Error>(())
+    /// ```
+    pub fn begin_text(&mut self) {
+        let done = self.handle.begin_text();
+        debug_assert_eq!(done, Ok(()));
+    }
+
+    /// Adds the next bytes to the text that arrives. They may end inside a character.
+    ///
+    /// # Errors
+    ///
+    /// [`Error::Nothing`] if no text was begun; [`Error::Utf8`], [`Error::Size`] or [`Error::Memory`] as soon as it
+    /// is known that [`Session::end_text`] will be refused. What arrived is then dropped.
+    pub fn append_part(&mut self, part: impl AsRef<[u8]>) -> Result<()> {
+        self.handle.append_part(part.as_ref())
+    }
+
+    /// Sets the text to the one that arrived, as [`Session::set_text`] does. After this none arrives, also if it is
+    /// refused.
+    ///
+    /// # Errors
+    ///
+    /// [`Error::Nothing`] if no text was begun; [`Error::Utf8`], [`Error::Size`], [`Error::Memory`].
+    pub fn end_text(&mut self) -> Result<()> {
+        self.handle.end_text()
+    }
+
+    /// Drops the text that arrives, if one was begun.
+    pub fn cancel_text(&mut self) {
+        let done = self.handle.cancel_text();
+        debug_assert_eq!(done, Ok(()));
+    }
+
     /// Makes a pattern pending, in place of any other that is: [`Session::advance`] makes its report in slices, so
     /// that no call takes longer than one. Until all lines are done, the pattern and the report stay, and follow
     /// all edits.

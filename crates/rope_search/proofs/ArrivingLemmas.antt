@@ -5,7 +5,8 @@ use Rattle.rope_search_io.specs.declared.faults.Fault.{Fault}
 use Rattle.rope_search_io.specs.declared.faults.Fault.TheVariants.{Nothing, Range, Utf8, Pattern, Limit, Size, Memory}
 use Rattle.rope_search_io.specs.Faults.{rank_of}
 use Rattle.rope_search_texts.specs.declared.arriving.ArrivingText.{ArrivingText}
-use Rattle.rope_search_texts.specs.Arriving.{Arrives, Finishes}
+use Rattle.rope_search_texts.specs.Arriving.{ArrivesWithin, FinishesWithin}
+use Rattle.rope_search_texts.proofs.GrowingLemmas.{Arrives-within}
 use Rattle.rope_search_reports.specs.Ticks.{Ticks, MakesAtMost}
 use Rattle.rope_search.specs.Cost.{SearchesFor, rows_anew}
 use Rattle.rope_search.specs.Order.{Order, SetText}
@@ -35,7 +36,7 @@ none_before_size limit s bytes utf8 Size below r = omega (arith, below)
 none_before_size limit s bytes utf8 Memory below r = r
 
 -- what arrived is no text
-pub Step-no_text : (limit : ℕ) (s : State) (bytes : List ℕ) (fault : Fault) → Finishes limit bytes (Err fault) → Step limit s (SetText bytes) (Err fault) s
+pub Step-no_text : (limit : ℕ) (s : State) (bytes : List ℕ) (fault : Fault) → FinishesWithin limit bytes (Err fault) → Step limit s (SetText bytes) (Err fault) s
 Step-no_text limit s bytes Utf8 h = (record { refuses = h; none_before = none_before_utf8 limit s bytes }, refl)
 Step-no_text limit s bytes Size h = (record { refuses = h.0; none_before = none_before_size limit s bytes h.1 }, refl)
 Step-no_text limit s bytes Memory h = (tt, refl)
@@ -63,9 +64,11 @@ searches_for_text items k limit old bytes s text t u c is made = record {
 
 -- ---- the command that a text belongs to
 pub text_step : (limit : ℕ) (text : ArrivingText) (s s' : State) (answer : Answer) (order : Order) → IsTextOf limit text order
-    → ((bytes : List ℕ) → Arrives limit (length bytes) text bytes → Step limit s (SetText bytes) answer s') → Step limit s order answer s'
-text_step limit text s s' answer order is step = subst (λ (o : Order). Step limit s o answer s') (sym is.sets) (step is.payload is.arrived)
+    → ((bytes : List ℕ) → ArrivesWithin limit text bytes → Step limit s (SetText bytes) answer s') → Step limit s order answer s'
+text_step limit text s s' answer order is step =
+    subst (λ (o : Order). Step limit s o answer s') (sym is.sets) (step is.payload (Arrives-within limit text is.payload is.arrived))
 
 pub text_searches : (limit : ℕ) (text : ArrivingText) (s : State) (t u : Ticks) (order : Order) → IsTextOf limit text order
-    → ((bytes : List ℕ) → Arrives limit (length bytes) text bytes → SearchesFor limit s (SetText bytes) t u) → SearchesFor limit s order t u
-text_searches limit text s t u order is searches = subst (λ (o : Order). SearchesFor limit s o t u) (sym is.sets) (searches is.payload is.arrived)
+    → ((bytes : List ℕ) → ArrivesWithin limit text bytes → SearchesFor limit s (SetText bytes) t u) → SearchesFor limit s order t u
+text_searches limit text s t u order is searches =
+    subst (λ (o : Order). SearchesFor limit s o t u) (sym is.sets) (searches is.payload (Arrives-within limit text is.payload is.arrived))

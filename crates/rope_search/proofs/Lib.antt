@@ -65,3 +65,6 @@ pub mod MatchEditLemmas
 pub mod MatchAnswerLemmas
 pub mod ListedReplacingLemmas
 pub mod ListedSessions
+pub mod WholeLemmas
+pub mod SwapLemmas
+pub mod KeptRowLemmas

@@ -4,14 +4,15 @@ use Rattle.std.specs.Prelude.{Some}
 use Rattle.std.proofs.lemmas.List.{length-map}
 use Rattle.str_indices.specs.Text.{byte_len}
 use Rattle.rope_search_reports.specs.Laws.{HasOneListOfGroups}
-use Rattle.rope_search_reports.specs.Matches.{AreGroups, IsMatches, groups_of}
+use Rattle.rope_search_reports.specs.Matches.{AreFirstGroups, AreGroups, IsMatches, groups_of}
 use Rattle.rope_search_reports.specs.Pattern.{span_of}
 use Rattle.rope_search_reports.specs.Changes.{AreChanges}
 use Rattle.rope_search_changes.specs.declared.Change.{Change}
 use Rattle.rope_search_reports.specs.Replacement.{Groups, AreMatchesIn, ReplacementsAreChanges, alone, whole, changes_of, replaced, searched}
 use Rattle.rope_search_reports.specs.Text.{IsText, bytes_of}
-use Rattle.rope_search_templates.specs.Laws.{ReplaceAlike, SpansAreEnough}
-use Rattle.rope_search_templates.specs.Templates.{names_explicit_groups}
+use Rattle.rope_search_changes.specs.FirstGroups.{first_groups}
+use Rattle.rope_search_templates.specs.Laws.{FirstGroupsAreEnough, ReplaceAlike, SpansAreEnough}
+use Rattle.rope_search_templates.specs.Templates.{NeedsGroups, names_explicit_groups}
 use Rattle.rope_search.specs.Session.{BufferState, current_text}
 use Rattle.rope_search.specs.Histories.{AreReplacements}
 use Rattle.rope_search.specs.Replacing.{AreMatchesOfBuffer, AreEnough, GetsTooLongWith, RowsOfReplacement, GetsTooLongIn, RowsOfReplacementIn}
@@ -88,15 +89,15 @@ enough_spans law text pattern template spans none are stand =
       alike = subst (λ ss. ReplaceAlike (bytes_of text) template (map alone ss) groups) same (law (bytes_of text) template groups none);
     }
 
--- and all groups are for each template
-pub enough_groups : (text pattern template : List ℕ) (groups : List Groups) → AreGroups pattern (bytes_of text) groups → AreMatchesIn (bytes_of text) groups
-    → AreEnough text pattern template groups
-enough_groups text pattern template groups are stand = record {
-  groups = groups;
-  are = are;
-  counted = refl;
+-- and the groups up to the last one that it names are
+pub enough_groups : FirstGroupsAreEnough → (text pattern template : List ℕ) (count : ℕ) (groups : List Groups) → NeedsGroups template count
+    → AreFirstGroups count pattern (bytes_of text) groups → AreMatchesIn (bytes_of text) groups → AreEnough text pattern template groups
+enough_groups law text pattern template count groups needs are stand = record {
+  groups = are.all;
+  are = are.are;
+  counted = ap length are.first ∙ length-map are.all (first_groups count);
   stand = stand;
-  alike = record { text = refl; changes = refl; lines = refl };
+  alike = subst (λ gs. ReplaceAlike (bytes_of text) template gs are.all) (sym are.first) (law (bytes_of text) template count are.all needs);
 }
 
 -- ---- the buffer's text, and its pattern

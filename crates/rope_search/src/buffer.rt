@@ -1,10 +1,10 @@
 //! A buffer: a text with its history, and perhaps a pattern, and one that is pending.
-ghost use Rattle.std.specs.Prelude.{◌≡◌, ℕ, ◌+◌, ◌^◌, ◌<◌, ◌≤◌, ◌↔◌, ◌⊎◌, [], ◌∷◌, ◌++◌, take, drop, length, map, chars, None, Some, Err, IsTrue, OnOk, OnErr, IfOk, IfErr, IfSome};
+ghost use Rattle.std.specs.Prelude.{◌≡◌, ℕ, ◌+◌, ◌^◌, ◌<◌, ◌≤◌, ◌↔◌, ◌⊎◌, [], ◌∷◌, ◌++◌, take, drop, length, map, chars, None, Some, Err, OnOk, OnErr, IfOk, IfErr, IfSome};
 ghost use Rattle.ropey.specs.Chunks.{text_of};
 ghost use Rattle.std.specs.Str.{IsCharBoundary};
 ghost use Rattle.rope_search_reports.specs.Text.{bytes_of, line_count};
 ghost use Rattle.rope_search_reports.specs.Report.{match_count};
-ghost use Rattle.rope_search.specs.Session.{current_text, fresh_buffer, with_text, undone, redone, with_pattern, IsReportIn};
+ghost use Rattle.rope_search.specs.Session.{current_text, fresh_buffer, with_text, redone, with_pattern, IsReportIn};
 ghost use Rattle.rope_search.specs.Places.{HasNoneBetween, GetsTooLong, TellsRangeOr, IsEdit, IsMarkedBetween, with_replaced};
 ghost use Rattle.str_indices.specs.Text.{byte_len};
 ghost use Rattle.rope_search_reports.specs.Pattern.{IsPattern, IsTooHeavy, SpellsNone, pattern_limit};
@@ -13,22 +13,20 @@ ghost use Rattle.rope_search_reports.specs.Ticks.{MakesAsMany, MakesAtMost, Neve
 ghost use Rattle.rope_search.specs.Pending.{KeepsPending, patterned};
 ghost use Rattle.rope_search.specs.Replacing.{IsReplacement, GetsTooLongWith, RowsOfReplacement};
 ghost use Rattle.rope_search.specs.Cost.{rows_anew};
-ghost use Rattle.rope_search.specs.Histories.{LeadOn, KeepsEdit, KeepsReplacement, changes_at, rows_back, rows_on};
-ghost use Rattle.rope_search.specs.Stretches.{lines_spanned};
+ghost use Rattle.rope_search.specs.Histories.{LeadOn, KeepsEdit, KeepsReplacement};
 ghost use Rattle.rope_search.specs.Changed.{Replaces, SpansMatches};
-ghost use Rattle.rope_search_reports.specs.Turned.{turned_changes};
-ghost use Rattle.rope_search.specs.TextsKept.{TellsText, TellsAllText, TellsForward, TellsBack};
-ghost use Rattle.rope_search.specs.UndoSteps.{changes_with_steps, redo_count, undo_count, with_steps};
-ghost use Rattle.rope_search.specs.JoinedSteps.{JoinsChanges, with_joined};
+ghost use Rattle.rope_search.specs.TextsKept.{TellsText, TellsAllText};
 ghost use Rattle.rope_search.specs.Edits.{AcceptsEdits, AreEdits, IsFirstAgainst, KeepsEdits, RefusesEdits, SpansEdits, in_full, rows_of_edits};
 
 mod listed_edits;
 mod pending;
 mod searches;
+mod undo_steps;
 
 use self::pending::keep_before_change;
 use crate::edits::{Edit, edited};
 use crate::history::History;
+use crate::kept_rows::{KeptRows, keep_before};
 use crate::limits::Limits;
 use crate::parts::Part;
 use crate::search::{Search, row_count};
@@ -51,6 +49,8 @@ pub struct Buffer {
     search: Option<Search>,
     // The pattern that is to replace that one, with the rows of the first lines.
     pending: Option<Search>,
+    // The rows that the last replacement of matches took out of the report.
+    kept: Option<KeptRows>,
     // Which rows of the report were replaced last.
     changed: Stretch,
 }
@@ -59,6 +59,7 @@ impl Model for Buffer {
     ghost use Rattle.std.specs.Prelude.{◌+◌, ◌^◌, ◌<◌, option_map, IfSome};
     ghost use Rattle.rope_search.specs.Session.{LimitedBuffer};
     ghost use Rattle.rope_search.specs.Histories.{text_at};
+    ghost use Rattle.rope_search.specs.KeptRows.{HoldsKept};
     ghost use Rattle.rope_search.specs.Searched.{HoldsPending, shown_pending};
     ghost use Rattle.rope_search.specs.TextChanges.{ranges_in};
     ghost use Rattle.rope_search_reports.specs.Report.{IsReport, match_count};
@@ -81,7 +82,9 @@ impl Model for Buffer {
     ghost invariant = { λ b. IfSome b.search (λ s.
         IsReport (text_at b.history.texts b.history.current) s.finder s.rows.items
         × (match_count s.rows.items < 2 ^ 64))
-        × HoldsPending (text_at b.history.texts b.history.current) b.pending };
+        × HoldsPending (text_at b.history.texts b.history.current) b.pending
+        × HoldsKept b.history.texts b.history.current (option_map (λ s. s.finder) b.search)
+        b.kept };
 }
 
 impl Buffer {
@@ -101,6 +104,7 @@ impl Buffer {
             history,
             search: None,
             pending: None,
+            kept: None,
             changed: Stretch::none(),
         })
     }
@@ -197,6 +201,7 @@ impl Buffer {
             search.rows = report_of(tick, self.alloc, &mut search.finder, history.current())?;
         }
         self.history = history;
+        self.kept = None;
         self.changed = Stretch::whole(removed, added);
         keep_before_change(&mut self.pending, &self.history);
         Ok(())
@@ -265,6 +270,7 @@ impl Buffer {
         self.history.add(new, Changes::One(change))?;
         self.changed = patches.changed;
         search.apply(patches);
+        keep_before(&mut self.kept, self.history.undo_steps());
         keep_before_change(&mut self.pending, &self.history);
         Ok(())
     }
@@ -324,6 +330,7 @@ impl Buffer {
         self.history.add(text, Changes::Many(changes))?;
         self.changed = patches.changed;
         search.apply(patches);
+        keep_before(&mut self.kept, self.history.undo_steps());
         keep_before_change(&mut self.pending, &self.history);
         Ok(())
     }
@@ -364,215 +371,6 @@ impl Buffer {
             None => Fault::Range,
             Some(_) => other,
         }
-    }
-
-    /// Goes back to the text before the last edit or replacement. The pattern stays, and of the
-    /// report only the rows of the lines that come back are rebuilt.
-    ///
-    /// # Errors
-    ///
-    /// They leave the buffer as it was: `Fault::Nothing` if there is no such text; with a pattern,
-    /// `Fault::Memory`.
-    ///
-    /// # Complexity
-    ///
-    /// Without a pattern `O(1)`, and nothing is allocated. With one, `O(log n)` for each change,
-    /// and linear in the lines that come back. If the number of lines changes, the rows after them
-    /// are moved.
-    pub fn undo(&mut self, tick: &mut Lines) -> Result<(), Fault>
-        ensures ok { OnOk result (self.new.state ≡ undone self.old.state) }
-        ensures changed { OnOk result (Replaces self.old.state self.new.state self.new.changed) }
-        ensures added { OnOk result (self.new.changed.added ≤ lines_spanned
-            (bytes_of (current_text (undone self.old.state)))
-            (turned_changes 0 0 (changes_at self.old.changes self.old.state.current))) }
-        ensures limit { self.new.limit ≡ self.old.limit }
-        ensures changes { self.new.changes ≡ self.old.changes }
-        ensures text_changes { OnOk result (TellsText self.old self.new) }
-        ensures pending { OnOk result (KeepsPending self.old self.new) }
-        ensures back_ranges { OnOk result (TellsBack self.old self.new) }
-        ensures nothing { (result ≡ Err Fault.Nothing) ↔ (self.old.state.current ≡ 0) }
-        ensures memory { result ≡ Err Fault.Memory → self.old.state.pattern ≡ None → ⊥ }
-        ensures fault { IfErr result (λ fault.
-            (fault ≡ Fault.Nothing) ⊎ (fault ≡ Fault.Memory)) }
-        ensures err { OnErr result (self.new ≡ self.old) }
-
-        // At most one row is made for each line that comes back, and never more than the text has
-        // lines.
-        ensures unsearched { result ≡ Err Fault.Nothing → tick.new ≡ tick.old }
-        ensures back { tick.new.count ≤ tick.old.count + rows_back self.old }
-        ensures rows { MakesAtMost
-            (rows_anew self.old.state (current_text (undone self.old.state))) tick.old tick.new }
-    {
-        let Some(text) = self.history.previous() else {
-            return Err(Fault::Nothing);
-        };
-        let Some(search) = &mut self.search else {
-            self.history.step_back();
-            self.changed = Stretch::none();
-            keep_before_change(&mut self.pending, &self.history);
-            return Ok(());
-        };
-        // A law, for the proof alone.
-        rope_search_reports::laws::changes_lead_back();
-        let current = self.history.current();
-        let changes = self.history.last_changes().turned(self.alloc)?;
-        self.changed = search.follow(tick, self.alloc, current, text, changes.as_slice())?;
-        self.history.step_back();
-        keep_before_change(&mut self.pending, &self.history);
-        Ok(())
-    }
-
-    /// Goes forward to the text that was undone last.
-    ///
-    /// # Errors
-    ///
-    /// Those of `undo`.
-    ///
-    /// # Complexity
-    ///
-    /// That of `undo`.
-    pub fn redo(&mut self, tick: &mut Lines) -> Result<(), Fault>
-        ensures ok { OnOk result (self.new.state ≡ redone self.old.state) }
-        ensures changed { OnOk result (Replaces self.old.state self.new.state self.new.changed) }
-        ensures added { OnOk result (self.new.changed.added ≤ lines_spanned
-            (bytes_of (current_text (redone self.old.state)))
-            (changes_at self.old.changes (self.old.state.current + 1))) }
-        ensures limit { self.new.limit ≡ self.old.limit }
-        ensures changes { self.new.changes ≡ self.old.changes }
-        ensures text_changes { OnOk result (TellsText self.old self.new) }
-        ensures pending { OnOk result (KeepsPending self.old self.new) }
-        ensures forward { OnOk result (TellsForward self.old self.new) }
-        ensures nothing { (result ≡ Err Fault.Nothing)
-            ↔ (length self.old.state.texts ≤ self.old.state.current + 1) }
-        ensures memory { result ≡ Err Fault.Memory → self.old.state.pattern ≡ None → ⊥ }
-        ensures fault { IfErr result (λ fault.
-            (fault ≡ Fault.Nothing) ⊎ (fault ≡ Fault.Memory)) }
-        ensures err { OnErr result (self.new ≡ self.old) }
-
-        // At most one row is made for each line that comes back, and never more than the text has
-        // lines.
-        ensures unsearched { result ≡ Err Fault.Nothing → tick.new ≡ tick.old }
-        ensures on { tick.new.count ≤ tick.old.count + rows_on self.old }
-        ensures rows { MakesAtMost
-            (rows_anew self.old.state (current_text (redone self.old.state))) tick.old tick.new }
-    {
-        let Some(version) = self.history.next() else {
-            return Err(Fault::Nothing);
-        };
-        let Some(search) = &mut self.search else {
-            self.history.step_forward();
-            self.changed = Stretch::none();
-            keep_before_change(&mut self.pending, &self.history);
-            return Ok(());
-        };
-        let current = self.history.current();
-        let changes = version.changes.as_slice();
-        self.changed = search.follow(tick, self.alloc, current, &version.text, changes)?;
-        self.history.step_forward();
-        keep_before_change(&mut self.pending, &self.history);
-        Ok(())
-    }
-
-    /// Returns whether `undo` can go back to a text. `O(1)`.
-    pub fn can_undo(&self) -> bool
-        ensures { IsTrue result ↔ (0 < self.now.state.current) }
-    {
-        self.history.previous().is_some()
-    }
-
-    /// Returns whether `redo` can go forward to a text. `O(1)`.
-    pub fn can_redo(&self) -> bool
-        ensures { IsTrue result ↔ (self.now.state.current + 1 < length self.now.state.texts) }
-    {
-        self.history.next().is_some()
-    }
-
-    /// Drops the history, as `keep(0)` does: all texts but the current one, and the changes between
-    /// them. The current text, the pattern and its report stay.
-    pub fn forget(&mut self)
-        ensures state { self.new.state
-            ≡ with_text self.old.state (current_text self.old.state) }
-        ensures changes { self.new.changes ≡ [] ∷ [] }
-        ensures changed { self.new.changed ≡ self.old.changed }
-        ensures text_changes { self.new.text_changes ≡ self.old.text_changes }
-        ensures pending { self.new.pending ≡ self.old.pending }
-        ensures limit { self.new.limit ≡ self.old.limit }
-    {
-        // The text's facts, for the proof alone.
-        let _ = self.text();
-        self.keep(0);
-    }
-
-    /// Drops all but the last `steps` undo steps, and what could be redone. The current text, the
-    /// pattern, its report and the result of `text_changes` stay. It is never refused: the list of
-    /// texts moves to a smaller allocation if memory for it is granted, and otherwise keeps its
-    /// own.
-    ///
-    /// # Complexity
-    ///
-    /// Linear in the number of texts.
-    pub fn keep(&mut self, steps: usize)
-        ensures state { self.new.state ≡ with_steps self.old.state steps }
-        ensures changes { self.new.changes
-            ≡ changes_with_steps self.old.changes self.old.state.current steps }
-        ensures changed { self.new.changed ≡ self.old.changed }
-        ensures text_changes { self.new.text_changes ≡ self.old.text_changes }
-        ensures pending { self.new.pending ≡ self.old.pending }
-        ensures limit { self.new.limit ≡ self.old.limit }
-    {
-        self.history.keep(self.alloc, steps);
-    }
-
-    /// Joins the last `steps` undo steps into one: the `steps - 1` texts directly before the
-    /// current one leave the history, so that one `undo` goes back to the text before all of them.
-    /// `join(0)` and `join(1)` change nothing. The current text, what can be redone, the pattern,
-    /// its report and the results of `text_changes` and `changed` stay.
-    ///
-    /// The changes of the steps are composed: a byte that stays through all of them also stays in
-    /// the joined step, and changes that touch become one. An `undo` or `redo` of the joined step
-    /// rebuilds the rows of these changes, and `text_changes` then returns their ranges.
-    ///
-    /// # Errors
-    ///
-    /// They leave the buffer as it was: `Fault::Nothing` if there are fewer undo steps; for two
-    /// steps or more, `Fault::Memory`.
-    ///
-    /// # Complexity
-    ///
-    /// Linear, for each step, in the changes of the steps; and linear in the texts that can be
-    /// redone.
-    pub fn join(&mut self, steps: usize) -> Result<(), Fault>
-        ensures state { OnOk result (self.new.state ≡ with_joined self.old.state steps) }
-        ensures changes { OnOk result (JoinsChanges self.old.changes self.old.state.current steps
-            self.new.changes) }
-        ensures changed { self.new.changed ≡ self.old.changed }
-        ensures text_changes { self.new.text_changes ≡ self.old.text_changes }
-        ensures pending { self.new.pending ≡ self.old.pending }
-        ensures limit { self.new.limit ≡ self.old.limit }
-        ensures nothing { (result ≡ Err Fault.Nothing) ↔ (undo_count self.old.state < steps) }
-        ensures memory { result ≡ Err Fault.Memory → 2 ≤ steps }
-        ensures fault { IfErr result (λ fault.
-            (fault ≡ Fault.Nothing) ⊎ (fault ≡ Fault.Memory)) }
-        ensures err { OnErr result (self.new ≡ self.old) }
-    {
-        if self.history.undo_steps() < steps {
-            return Err(Fault::Nothing);
-        }
-        self.history.join(self.alloc, steps)
-    }
-
-    /// Returns the number of texts to which `undo` can go back. `O(1)`.
-    pub fn undo_steps(&self) -> usize
-        ensures { result ≡ undo_count self.now.state }
-    {
-        self.history.undo_steps()
-    }
-
-    /// Returns the number of texts to which `redo` can go forward. `O(1)`.
-    pub fn redo_steps(&self) -> usize
-        ensures { result ≡ redo_count self.now.state }
-    {
-        self.history.redo_steps()
     }
 
     /// Returns the number of ranges that the last accepted call of `set_text`, `edit`, `edit_all`,
@@ -676,6 +474,7 @@ impl Buffer {
         let text = self.history.current();
         self.changed = Stretch::whole(row_count(&self.search, text), text.len_lines());
         self.search = Some(Search { finder, rows });
+        self.kept = None; // They are rows of the pattern before.
         self.pending = None;
         Ok(())
     }
@@ -693,6 +492,7 @@ impl Buffer {
         rope_search_reports::laws::a_row_a_line();
         self.changed = Stretch::whole(row_count(&self.search, self.history.current()), 0);
         self.search = None;
+        self.kept = None;
         self.pending = None;
     }
 
@@ -766,11 +566,16 @@ impl Buffer {
             return Err(Fault::Size);
         }
         let old = self.history.current();
+        let bytes = old.len_bytes();
         // Everything that can be refused comes before the first change.
         let replaced = search.replaced(tick, self.alloc, self.limits, old, template)?;
         self.history.add(replaced.text, replaced.changes)?;
         self.changed = replaced.patches.changed;
-        search.apply(replaced.patches);
+        // Laws, for the proof alone.
+        rope_search_reports::laws::a_row_a_line();
+        rope_search_reports::laws::one_report();
+        let step = self.history.undo_steps();
+        self.kept = search.apply_and_keep(replaced.patches, step, bytes);
         keep_before_change(&mut self.pending, &self.history);
         Ok(replaced.count)
     }
@@ -793,6 +598,7 @@ impl Buffer {
             history: History::new(self.alloc, text)?,
             search: None, // The patterns stay with this buffer.
             pending: None,
+            kept: None,
             changed: Stretch::none(),
         })
     }

@@ -316,6 +316,13 @@ impl History {
         self.current
     }
 
+    /// Returns the number of the text to which the next step forward leads, or would lead.
+    pub fn next_step(&self) -> usize
+        ensures { result ≡ self.now.current + 1 }
+    {
+        self.current + 1
+    }
+
     /// Returns the number of texts after the current one.
     pub fn redo_steps(&self) -> usize
         ensures { result ≡ length self.now.texts - (self.now.current + 1) }

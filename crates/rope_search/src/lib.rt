@@ -13,6 +13,7 @@ mod escapes;
 mod headers;
 mod history;
 mod joins;
+mod kept_rows;
 pub mod laws;
 mod limits;
 mod line_columns;

@@ -1,36 +1,32 @@
 //! Writes reports.
-ghost use Rattle.std.specs.Prelude.{◌≡◌, ◌<◌, ◌^◌, [], ◌++◌, flat_map, OnOk, MatchResult};
+ghost use Rattle.std.specs.Prelude.{◌≡◌, ◌<◌, ◌≤◌, ◌^◌, [], ◌++◌, drop, flat_map, OnOk, MatchResult};
 ghost use Rattle.rope_search_io.specs.WriteBuffer.{Puts, Writes, WritesUntil};
 ghost use Rattle.rope_search_reports.specs.Report.{match_count};
 ghost use Rattle.rope_search.specs.Shows.{shown_found, shown_match, shown_report};
 
-use itoa::Buffer as Digits;
+use itoa::{Buffer as Digits, write_digits};
 use rope_search_io::{Broken, Sink, WriteBuffer};
 use rope_search_reports::{Position, Row};
 
-/// Appends a match to the buffered bytes: the number of its line, and its two columns. After an
-/// error, a prefix of the buffered bytes and the match was written.
-fn put_match<W: Sink>(
-    line: usize,
-    span: (usize, usize),
-    write_buffer: &mut WriteBuffer,
-    sink: &mut W,
-) -> Result<(), Broken>
-    ensures written { MatchResult result
-        (λ _. Puts write_buffer.old write_buffer.new (W.state sink.old) (W.state sink.new)
-        (shown_match line span))
-        (λ broken. WritesUntil broken (W.state sink.old) (W.state sink.new)
-        (write_buffer.old ++ shown_match line span)) }
+/// The length of the longest match as it is shown: three numbers of at most 20 digits, and five
+/// bytes around them.
+const MATCH_LEN: usize = 65;
+
+/// Writes a match at the end of an array: the number of its line, and its two columns. Returns
+/// where it begins.
+fn format_match(line: usize, span: (usize, usize), shown: &mut [u8; MATCH_LEN]) -> usize
+    ensures inside { result ≤ 65 }
+    ensures written { drop result shown.new ≡ shown_match line span }
 {
-    let (mut line_digits, mut start_digits, mut end_digits) = (
-        Digits::new(),
-        Digits::new(),
-        Digits::new(),
-    );
-    let line = line_digits.format(line).as_bytes();
-    let start = start_digits.format(span.0).as_bytes();
-    let end = end_digits.format(span.1).as_bytes();
-    write_buffer.put_parts(sink, &[b"m ", line, b" ", start, b" ", end, b"\n"])
+    shown[MATCH_LEN - 1] = b'\n';
+    let end = write_digits(span.1 as u64, shown, MATCH_LEN - 1);
+    shown[end - 1] = b' ';
+    let start = write_digits(span.0 as u64, shown, end - 1);
+    shown[start - 1] = b' ';
+    let number = write_digits(line as u64, shown, start - 1);
+    shown[number - 1] = b' ';
+    shown[number - 2] = b'm';
+    number - 2
 }
 
 /// Writes a match: the line and the column where it starts, and those where it ends. After an
@@ -70,11 +66,12 @@ pub fn write_found<W: Sink>(
     )
 }
 
-/// Appends the matches of a line to the buffered bytes. After an error, a prefix of the buffered
-/// bytes and these was written.
+/// Appends the matches of a line to the buffered bytes; each is formatted in `shown`. After an
+/// error, a prefix of the buffered bytes and these was written.
 fn put_row<W: Sink>(
     line: usize,
     matches: &[(usize, usize)],
+    shown: &mut [u8; MATCH_LEN],
     write_buffer: &mut WriteBuffer,
     sink: &mut W,
 ) -> Result<(), Broken>
@@ -85,7 +82,8 @@ fn put_row<W: Sink>(
         (write_buffer.old ++ flat_map (shown_match line) matches.now)) }
 {
     for span in matches {
-        put_match(line, *span, write_buffer, sink)?;
+        let start = format_match(line, *span, shown);
+        write_buffer.put(sink, &shown[start..])?;
     }
     Ok(())
 }
@@ -105,11 +103,12 @@ pub fn write_report<W: Sink>(
         (λ broken. WritesUntil broken (W.state sink.old) (W.state sink.new)
         (shown_report rows.now)) }
 {
+    let mut shown = [0; MATCH_LEN];
     let mut line = 0;
     let mut count = 0;
     for row in rows {
         let matches = row.matches();
-        put_row(line, matches, write_buffer, sink)?;
+        put_row(line, matches, &mut shown, write_buffer, sink)?;
         line += 1;
         count += matches.len();
     }

@@ -22,8 +22,9 @@ use crate::limits::Limits;
 use crate::stretches::{Stretch, stretch_by};
 use rope_search_io::Fault;
 use rope_search_reports::{
-    Change, Changes, Finder, Groups, Lines, Patch, Position, Row, find_all, find_from, find_spans,
-    groups_at, growth, patches_of, place_of, position_of, put_in_place, put_patches, shift_once,
+    Change, Changes, Finder, Groups, Lines, Patch, Position, Row, find_from, find_groups,
+    find_spans, groups_at, growth, patches_of, place_of, position_of, put_in_place, put_patches,
+    shift_once,
 };
 use rope_search_templates::{Matches, Replacement, Template, is_over, replace_all};
 use ropey::Rope;
@@ -98,9 +99,9 @@ fn room_for(
     Ok(Some(room))
 }
 
-/// Returns all matches in a text, with the groups that a template needs: if it names no group
-/// except the whole match, only spans. Counts one search of a whole text. Errors: `Fault::Memory`
-/// only.
+/// Returns all matches in a text, with the groups that a template needs: up to the last one that it
+/// names; if it names no group except the whole match, only spans. Counts one search of a whole
+/// text. Errors: `Fault::Memory` only.
 fn matches_for(
     tick: &mut Lines,
     finder: &mut Finder,
@@ -115,10 +116,11 @@ fn matches_for(
     ensures wholes { tick.new.wholes ≤ tick.old.wholes + 1 }
     ensures grows { tick.old.wholes ≤ tick.new.wholes }
 {
-    // For the proof: a law.
+    // For the proof: laws.
     rope_search_templates::laws::spans_are_enough();
+    rope_search_templates::laws::first_groups_are_enough();
     if template.names_explicit_groups() {
-        let groups = find_all(tick, finder, text)?;
+        let groups = find_groups(tick, finder, text, template.group_count())?;
         return Ok(Matches::Grouped(groups));
     }
     let spans = find_spans(tick, finder, text)?;

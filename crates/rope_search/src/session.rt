@@ -5,7 +5,7 @@ ghost use Rattle.rope_search.specs.Session.{opened_session, chosen_in, fresh, fr
 ghost use Rattle.rope_search_reports.specs.Pattern.{pattern_limit};
 ghost use Rattle.rope_search.specs.Laws.{HasCurrent, AllHoldTexts};
 ghost use Rattle.rope_search.specs.Step.{Step};
-ghost use Rattle.rope_search_texts.specs.Arriving.{Arrives};
+ghost use Rattle.rope_search_texts.specs.Arriving.{Arrives, ArrivesWithin};
 ghost use Rattle.rope_search.specs.Stands.{ForOrders, StandsFor, kept_of};
 ghost use Rattle.rope_search.specs.Cost.{Costs, SearchesFor};
 ghost use Rattle.rope_search_reports.specs.Ticks.{MakesAtMost, NeverFall, SearchesOneWhole};
@@ -210,8 +210,8 @@ impl Session {
         self.buffer().alloc()
     }
 
-    /// Returns the limits that the session was created with.
-    pub(crate) fn limits(&self) -> Limits
+    /// Returns the limits that the session was created with. `O(1)`.
+    pub fn limits(&self) -> Limits
         ensures { result.text ≡ self.now.limit }
     {
         self.buffer().limits()
@@ -343,14 +343,15 @@ impl Session {
     }
 
     /// Sets the chosen buffer's text to one that arrived whole, as `Command::Text` does to one that
-    /// was kept as bytes. The limit on its bytes is the one that it was created with.
+    /// was kept as bytes. The text's limit is the session's, as `limits` returns it, whether `new`
+    /// or `open` of `ArrivingText` began it.
     ///
     /// # Errors
     ///
     /// They leave the session as it was: those of `ArrivingText::finish`; `Fault::Memory`.
     pub fn set_arrived(&mut self, tick: &mut Lines, text: ArrivingText) -> Result<Reply, Fault>
         // The reply and the new state are a step, for the bytes that arrived.
-        ensures step { (bytes : List ℕ) → Arrives self.old.limit (length bytes) text bytes
+        ensures step { (bytes : List ℕ) → ArrivesWithin self.old.limit text bytes
             → Step self.old.limit self.old.state (SetText bytes) result self.new.state }
 
         // `Fault::Memory` is returned if the text was lost, and never because it is too long.
@@ -361,16 +362,16 @@ impl Session {
         ensures limit { self.new.limit ≡ self.old.limit }
 
         // It searches no more than the command costs.
-        ensures searches { (bytes : List ℕ) → Arrives self.old.limit (length bytes) text bytes
+        ensures searches { (bytes : List ℕ) → ArrivesWithin self.old.limit text bytes
             → SearchesFor self.old.limit self.old.state (SetText bytes) tick.old tick.new }
 
         // The chosen buffer returns which rows of its report were replaced.
-        ensures changed { (bytes : List ℕ) → Arrives self.old.limit (length bytes) text bytes
+        ensures changed { (bytes : List ℕ) → ArrivesWithin self.old.limit text bytes
             → TellsAfter self.old.state (SetText bytes) result self.new.state
             self.old.changed self.new.changed }
 
         // It keeps no changes, and returns the range that was replaced.
-        ensures kept { (bytes : List ℕ) → Arrives self.old.limit (length bytes) text bytes
+        ensures kept { (bytes : List ℕ) → ArrivesWithin self.old.limit text bytes
             → KeepsAfter self.old (SetText bytes) result self.new }
     {
         let rope = text.finish()?;

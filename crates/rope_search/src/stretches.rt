@@ -89,7 +89,7 @@ fn lines_by(old: &Rope, new: &Rope, change: Change) -> Stretch
 /// Returns the rows of a report that changes replace: those of the lines from where the first
 /// change starts to where the last ends. Requires changes that lead from the old text to the new
 /// one. `O(log n)`.
-fn stretch_of(old: &Rope, new: &Rope, changes: &[Change]) -> Stretch
+pub(crate) fn stretch_of(old: &Rope, new: &Rope, changes: &[Change]) -> Stretch
     requires { Lead changes.now (text_of old.now) (text_of new.now) }
     ensures rows { (pattern : List ℕ)
         → ReplacesIn (text_of old.now) (text_of new.now) pattern result }

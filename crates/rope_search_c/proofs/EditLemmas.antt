@@ -24,6 +24,7 @@ refused-edits old edits bytes fault status (inl range) apart told = record {
   told = told;
   fit = λ fit. absurd (apart range fit);
   unfit = λ no. (inl (told ∙ ap rank_of range), refl);
+  arriving = refl;
 }
 refused-edits old edits bytes fault status (inr memory) apart told = record {
   answer = Err fault;
@@ -40,4 +41,5 @@ refused-edits old edits bytes fault status (inr memory) apart told = record {
         still = refl;
       });
   unfit = λ no. (inr (told ∙ ap rank_of memory), refl);
+  arriving = refl;
 }

@@ -8,3 +8,4 @@ pub mod PatternErrorLemmas
 pub mod TextLemmas
 pub mod EditLemmas
 pub mod LineLemmas
+pub mod TextPartLemmas

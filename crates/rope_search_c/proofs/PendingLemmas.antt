@@ -79,8 +79,8 @@ has-pending (Some p) some = (p, refl)
 -- what is answered where nothing is shown
 pub window-refused : (old new : CountingSession) (from to : ℕ) (out : List Span) (result : Result (Vec (List (ℕ × ℕ))) Fault) (fault : Fault) → result ≡ Err fault
     → (fault ≡ Nothing) ⊎ (fault ≡ Memory) → ((result ≡ Err Nothing) ↔ (pending_in old ≡ None)) → new.session ≡ old.session → (result ≡ Err Nothing → new.lines ≡ old.lines)
-    → MakesAtMost (min (to - from) (lines_left (chosen_in old.session))) old.lines new.lines → CopiesWindow old from to (rank_of fault) 0 out out new
-window-refused old new from to out result fault is (inl e) nothing same unsearched rows = record {
+    → MakesAtMost (min (to - from) (lines_left (chosen_in old.session))) old.lines new.lines → new.arriving ≡ old.arriving → CopiesWindow old from to (rank_of fault) 0 out out new
+window-refused old new from to out result fault is (inl e) nothing same unsearched rows arriving = record {
   shown = λ zero. absurd (omega (arith, zero, ap rank_of e));
   refused = λ not. (refl, refl);
   nothing = (λ one. nothing.0 (is ∙ ap Err e), λ none. ap rank_of e);
@@ -88,8 +88,9 @@ window-refused old new from to out result fault is (inl e) nothing same unsearch
   same = same;
   unsearched = λ one. unsearched (is ∙ ap Err e);
   rows = rows;
+  arriving = arriving;
 }
-window-refused old new from to out result fault is (inr e) nothing same unsearched rows = record {
+window-refused old new from to out result fault is (inr e) nothing same unsearched rows arriving = record {
   shown = λ zero. absurd (omega (arith, zero, ap rank_of e));
   refused = λ not. (refl, refl);
   nothing = (λ one. absurd (omega (arith, one, ap rank_of e)), λ none. absurd (let told = nothing.1 none in let both = sym is ∙ told in cc));
@@ -97,11 +98,12 @@ window-refused old new from to out result fault is (inr e) nothing same unsearch
   same = same;
   unsearched = λ one. absurd (omega (arith, one, ap rank_of e));
   rows = rows;
+  arriving = arriving;
 }
 
 pub window-shown : (old new : CountingSession) (from to count : ℕ) (out out' : List Span) → (pending_in old ≡ None → ⊥) → new.session ≡ old.session
-    → MakesAtMost (min (to - from) (lines_left (chosen_in old.session))) old.lines new.lines → PutsWindow old from to count out out' → CopiesWindow old from to 0 count out out' new
-window-shown old new from to count out out' some same rows puts = record {
+    → MakesAtMost (min (to - from) (lines_left (chosen_in old.session))) old.lines new.lines → new.arriving ≡ old.arriving → PutsWindow old from to count out out' → CopiesWindow old from to 0 count out out' new
+window-shown old new from to count out out' some same rows arriving puts = record {
   shown = λ zero. puts;
   refused = λ not. absurd (not refl);
   nothing = (λ one. absurd (omega (arith, one)), λ none. absurd (some none));
@@ -109,6 +111,7 @@ window-shown old new from to count out out' some same rows puts = record {
   same = same;
   unsearched = λ one. absurd (omega (arith, one));
   rows = rows;
+  arriving = arriving;
 }
 
 -- the matches that are put are those of the lines

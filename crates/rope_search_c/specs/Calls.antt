@@ -30,8 +30,8 @@ TellsFound answer told = told.found ≡ false
 
 -- the command leads from one session to another by a step with this answer, and makes at most the
 -- rows, and searches at most the whole texts, of its cost; undo and redo make at most as many rows
--- as the text that comes back has lines; the limit stays, and the buffers report the replaced rows,
--- and the replaced ranges of their texts
+-- as the text that comes back has lines; the limit and the text that arrives stay, and the buffers
+-- report the replaced rows, and the replaced ranges of their texts
 pub record Carries (old : CountingSession) (order : Order) (answer : Answer)
     (new : CountingSession) : Type 0 where
   pub step : Step old.session.limit old.session.state order answer new.session.state
@@ -41,6 +41,7 @@ pub record Carries (old : CountingSession) (order : Order) (answer : Answer)
       old.session.changed new.session.changed
   pub kept : KeepsAfter old.session order answer new.session
   pub few : MakesFew (chosen_in old.session) order old.lines new.lines
+  pub arriving : new.arriving ≡ old.arriving
 
 -- it does, and the status is that of the answer
 pub record DoesOrder (old : CountingSession) (order : Order) (status : ℕ)
@@ -73,7 +74,8 @@ LeadsHandle old status new P =
     MatchOption old ((status ≡ 8) × (new ≡ None)) (λ before. MatchOption new ⊥ (λ after. P before after))
 
 -- the chosen buffer's history is dropped: only the current one of its texts is left; its pattern,
--- the other buffers, the limit, the rows that the buffers report as replaced, and the counts stay
+-- the other buffers, the limit, the rows that the buffers report as replaced, the counts, and the
+-- text that arrives stay
 pub record Forgets (old : CountingSession) (status : ℕ) (new : CountingSession) : Type 0 where
   pub state : new.session.state ≡ with_chosen old.session.state
       (with_text (chosen_buffer old.session.state) (current_text (chosen_buffer old.session.state)))
@@ -81,4 +83,5 @@ pub record Forgets (old : CountingSession) (status : ℕ) (new : CountingSession
   pub changed : new.session.changed ≡ old.session.changed
   pub kept : ChangesChosen (KeepsSteps 0) old.session new.session
   pub lines : new.lines ≡ old.lines
+  pub arriving : new.arriving ≡ old.arriving
   pub told : status ≡ 0

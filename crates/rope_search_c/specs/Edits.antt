@@ -40,10 +40,12 @@ pub record CarriesEdits (old : CountingSession) (edits : List FullEdit)
   pub still : OnErr answer (new.session.buffers ≡ old.session.buffers)
 
 -- They do, if the number of bytes is the sum of theirs; otherwise they are refused with 2, like
--- edits that are nowhere, or with 7 if out of memory. The status is that of the answer.
+-- edits that are nowhere, or with 7 if out of memory. The status is that of the answer, and the text
+-- that arrives stays.
 pub record MakesEdits (old : CountingSession) (edits : List TextEdit) (bytes : List ℕ)
     (status : ℕ) (new : CountingSession) : Type 0 where
   pub answer : Result Unit Fault
   pub told : status ≡ status_of answer
   pub fit : Fit edits bytes → CarriesEdits old (cut edits bytes) answer new
   pub unfit : (Fit edits bytes → ⊥) → ((status ≡ 2) ⊎ (status ≡ 7)) × (new ≡ old)
+  pub arriving : new.arriving ≡ old.arriving

@@ -30,4 +30,5 @@ pub record CopiesGroups (old : CountingSession) (line number status : ℕ)
   pub told : status ≡ status_of answer
   pub put : PutsGroups line answer out out'
   pub session : new.session ≡ old.session
+  pub arriving : new.arriving ≡ old.arriving
   pub searches : SearchesRow (chosen_buffer old.session.state) line old.lines new.lines

@@ -66,9 +66,10 @@ CopiesMatchesIn session bits from to count old new =
     ⊎ (NamesNone bits × (count ≡ 0) × (new ≡ old))
 
 -- the session makes the edit between the positions of two offsets; or no two positions are at them
--- in order, with status 2, and nothing changes
+-- in order, with status 2, and nothing changes; the text that arrives stays
 pub record EditsBytes (old : CountingSession) (from to : ℕ) (bytes : List ℕ) (status : ℕ)
     (new : CountingSession) : Type 0 where
   pub edits : (start stop : Position) → AreAtBytes (text_in old) from to start stop
       → DoesOrder old (EditText start stop bytes) status new
   pub nowhere : AreNoRange (text_in old) from to → (status ≡ 2) × (new ≡ old)
+  pub arriving : new.arriving ≡ old.arriving

@@ -14,8 +14,8 @@ count_of (Err fault) = 0
 
 -- The matches that are listed in the lines from one up to another are replaced by a step, which is
 -- answered so, and the status and the number are those of the answer. It makes no more rows than are
--- counted for groups and for the expansions; the limit stays, and the buffers report which rows, and
--- which ranges of their texts, were replaced.
+-- counted for groups and for the expansions; the limit and the text that arrives stay, and the
+-- buffers report which rows, and which ranges of their texts, were replaced.
 pub record ReplacesListed (old : CountingSession) (from to : ℕ) (template : List ℕ)
     (status count : ℕ) (new : CountingSession) : Type 0 where
   pub answer : Result ℕ Fault
@@ -36,3 +36,4 @@ pub record ReplacesListed (old : CountingSession) (from to : ℕ) (template : Li
       → new.lines.count ≤ old.lines.count + n
   pub grows : old.lines.count ≤ new.lines.count
   pub wholes : new.lines.wholes ≡ old.lines.wholes
+  pub arriving : new.arriving ≡ old.arriving

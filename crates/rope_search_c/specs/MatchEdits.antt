@@ -33,7 +33,7 @@ pub record CarriesMatch (old : CountingSession) (template : List ℕ) (order : O
 
 -- The session makes the edit that replaces match `number` in a line by the expansion of the
 -- template; or there is no pattern, with status 1, or no such match, with status 2, or the template
--- isn't UTF-8, with status 3, and nothing changes.
+-- isn't UTF-8, with status 3, and nothing changes. The text that arrives stays.
 pub record ReplacesOne (old : CountingSession) (line number : ℕ) (template : List ℕ) (status : ℕ)
     (new : CountingSession) : Type 0 where
   pub edits : IsUtf8 template → (from to : Position) (inserted : List ℕ)
@@ -45,3 +45,4 @@ pub record ReplacesOne (old : CountingSession) (line number : ℕ) (template : L
   pub broken : ((chosen_buffer old.session.state).pattern ≡ None → ⊥)
       → (ListsNoMatch (chosen_buffer old.session.state) line number → ⊥)
       → ¬ (IsUtf8 template) → (status ≡ 3) × (new ≡ old)
+  pub arriving : new.arriving ≡ old.arriving

@@ -32,6 +32,7 @@ pub record BeginsPattern (old : CountingSession) (pattern : List ℕ) (status : 
   pub limit : new.session.limit ≡ old.session.limit
   pub err : OnErr answer (new.session ≡ old.session)
   pub lines : new.lines ≡ old.lines
+  pub arriving : new.arriving ≡ old.arriving
 
 -- whether all lines are done; not where this is refused
 abbrev pub is_done : Result Bool Fault → Bool
@@ -56,6 +57,7 @@ pub record AdvancesPending (old : CountingSession) (lines status : ℕ) (done : 
   pub rows : MakesAtMost lines old.lines new.lines
   pub each : OnOk answer
       (MakesAsMany (min lines (lines_left (chosen_in old.session))) old.lines new.lines)
+  pub arriving : new.arriving ≡ old.arriving
 
 -- Nothing is pending, and all else is as before.
 pub record CancelsPending (old : CountingSession) (status : ℕ) (new : CountingSession)
@@ -65,6 +67,7 @@ pub record CancelsPending (old : CountingSession) (status : ℕ) (new : Counting
   pub state : new.session.state ≡ old.session.state
   pub limit : new.session.limit ≡ old.session.limit
   pub lines : new.lines ≡ old.lines
+  pub arriving : new.arriving ≡ old.arriving
 
 -- how many lines are done, if a pattern is pending; else the number is as before
 abbrev pub TellsPending : CountingSession → Bool → ℕ → ℕ → Type 0
@@ -113,3 +116,4 @@ pub record CopiesWindow (old : CountingSession) (from to status count : ℕ) (ou
   pub unsearched : status ≡ 1 → new.lines ≡ old.lines
   pub rows : MakesAtMost (min (to - from) (lines_left (chosen_in old.session)))
       old.lines new.lines
+  pub arriving : new.arriving ≡ old.arriving

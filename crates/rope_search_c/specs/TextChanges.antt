@@ -21,6 +21,7 @@ pub record KeepsLast (old : CountingSession) (steps status : ℕ)
   pub changed : new.session.changed ≡ old.session.changed
   pub kept : ChangesChosen (KeepsSteps steps) old.session new.session
   pub lines : new.lines ≡ old.lines
+  pub arriving : new.arriving ≡ old.arriving
   pub told : status ≡ 0
 
 -- the chosen buffer's last steps are joined into one, if there are that many, otherwise nothing
@@ -34,6 +35,7 @@ pub record JoinsLast (old : CountingSession) (steps status : ℕ)
   pub limit : new.session.limit ≡ old.session.limit
   pub changed : new.session.changed ≡ old.session.changed
   pub lines : new.lines ≡ old.lines
+  pub arriving : new.arriving ≡ old.arriving
   pub nothing : (answer ≡ Err Nothing) ↔ (undo_count (chosen_buffer old.session.state) < steps)
   pub memory : answer ≡ Err Memory → 2 ≤ steps
   pub fault : IfErr answer (λ fault. (fault ≡ Nothing) ⊎ (fault ≡ Memory))

@@ -19,4 +19,5 @@ pub record CopiesTextMatches (old : CountingSession) (from : Position) (status c
   pub told : status ≡ status_of answer
   pub counted : count ≡ count_of answer
   pub session : new.session ≡ old.session
+  pub arriving : new.arriving ≡ old.arriving
   pub searches : SearchesOneWhole old.lines new.lines

@@ -26,7 +26,7 @@ pub extern "C" fn rope_search_open(
 ) -> u32
     ensures ok { result ≡ 0 → MatchOption handle.new.held ⊥ (λ new.
         (new.session ≡ opened_session limit)
-        × (new.lines.count ≡ 0) × (new.lines.wholes ≡ 0)) }
+        × (new.lines.count ≡ 0) × (new.lines.wholes ≡ 0) × (new.arriving ≡ None)) }
     ensures size { (result ≡ 6) ↔ (2 ^ 63 ≤ limit) }
     ensures status { (result ≡ 0) ⊎ ((result ≡ 6) ⊎ (result ≡ 7)) }
     ensures refused { (result ≡ 0 → ⊥) → handle.new.held ≡ handle.old.held }

@@ -1,5 +1,5 @@
 //! A session that counts its searches, and its commands, which return a status.
-ghost use Rattle.std.specs.Prelude.{◌≡◌, ◌^◌, ◌≤◌, ◌↔◌, ◌⊎◌, Err, IfOk, IfErr};
+ghost use Rattle.std.specs.Prelude.{◌≡◌, ◌^◌, ◌≤◌, ◌↔◌, ◌⊎◌, Err, None, IfOk, IfErr};
 ghost use Rattle.rope_search.specs.declared.commands.CommandOf.TheVariants.{Text as SetText, Edit as EditText, Undo as UndoEdit, Redo as RedoEdit, Fork as ForkBuffer, Pattern as SetPattern, Off as DropPattern, Next as FindNext, Replace as ReplaceAll, Use as UseBuffer};
 ghost use Rattle.rope_search.specs.Session.{opened_session};
 ghost use Rattle.rope_search.specs.Stands.{ForOrders};
@@ -9,14 +9,17 @@ ghost use Rattle.rope_search_c.specs.Edits.{MakesEdits};
 
 use crate::edits::{TextEdit, edits_of};
 use crate::matches::Match;
-use rope_search::{CallerInC, Command, Fault, Limits, Lines, Payload, Position, Reply, Session};
+use rope_search::{
+    ArrivingText, CallerInC, Command, Fault, Limits, Lines, Payload, Position, Reply, Session,
+};
 use std::alloc::Global;
 
-/// A session, and the counts of its searches.
+/// A session, the counts of its searches, and a text that arrives in parts, if one does.
 #[derive(Drop)]
 pub struct CountingSession {
     pub(crate) session: Session,
     pub(crate) lines: Lines,
+    pub(crate) arriving: Option<ArrivingText>,
 }
 
 /// Returns 0 for success, otherwise the rank of the fault.
@@ -72,6 +75,7 @@ impl CountingSession {
         ensures session { IfOk result (λ new. new.value.session ≡ opened_session limit) }
         ensures rows { IfOk result (λ new. new.value.lines.count ≡ 0) }
         ensures wholes { IfOk result (λ new. new.value.lines.wholes ≡ 0) }
+        ensures arriving { IfOk result (λ new. new.value.arriving ≡ None) }
         ensures size { (result ≡ Err Fault.Size) ↔ (2 ^ 63 ≤ limit) }
         ensures fault { IfErr result (λ fault. (fault ≡ Fault.Size) ⊎ (fault ≡ Fault.Memory)) }
     {
@@ -80,7 +84,12 @@ impl CountingSession {
         }
         let session = Session::new(alloc, Limits { text: limit })?;
         let lines = Lines::for_caller_in_c(caller);
-        let Ok(counting) = Box::new(alloc, CountingSession { session, lines }) else {
+        let counting = CountingSession {
+            session,
+            lines,
+            arriving: None,
+        };
+        let Ok(counting) = Box::new(alloc, counting) else {
             return Err(Fault::Memory);
         };
         Ok(counting)

@@ -25,6 +25,7 @@ mod pending_calls;
 mod reading;
 mod text_changes;
 mod text_matches;
+mod text_parts;
 mod version;
 
 pub use commands::{
@@ -65,4 +66,7 @@ pub use text_changes::{
     rope_search_undo_steps,
 };
 pub use text_matches::rope_search_next_all;
+pub use text_parts::{
+    rope_search_append_part, rope_search_begin_text, rope_search_cancel_text, rope_search_end_text,
+};
 pub use version::rope_search_version;

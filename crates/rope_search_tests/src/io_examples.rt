@@ -111,6 +111,26 @@ fn an_arriving_text(rt: HostRuntime) -> Result<(), Fail> {
     Ok(())
 }
 
+/// So does one whose number of bytes isn't known in advance; whether it is over the limit is known
+/// at once.
+#[test]
+fn an_arriving_text_of_any_length(rt: HostRuntime) -> Result<(), Fail> {
+    let mut text = ArrivingText::open(rt.alloc());
+    text.append_within(b"a \xF0\x9F", 6);
+    text.append_within(b"\x90\xB8", 6);
+    assert!(rt; text.check() == Ok(()));
+    assert!(rt; text.finish()?.eq_str("a 🐸"));
+    let mut text = ArrivingText::open(rt.alloc());
+    text.append_within(b"a", 1);
+    text.append_within(b"\xC3", 1);
+    assert!(rt; text.check() == Err(Fault::Size));
+    assert!(rt;
+        text.finish().is_err_and(|fault| fault == Fault::Utf8),
+        "no text, however long"
+    );
+    Ok(())
+}
+
 /// A fault is shown by its word. Of the faults that apply to a command, the one with the least rank
 /// is reported.
 #[test]

@@ -1,19 +1,20 @@
 -- Texts that grow by bytes, the last of which may be a part of a character.
-use Rattle.std.proofs.Common.{◌≡◌, ◌↔◌, ℕ, ◌+◌, ◌<◌, Bool, true, false, ◌==◌, IsTrue, List, [], ◌∷◌, ◌++◌, length, take, drop, get_or, refl, sym, ap, ◌∙◌, subst, arith, append_assoc, append-nil, take-append-drop, IsUtf8}
+use Rattle.std.proofs.Common.{◌≡◌, ◌↔◌, ℕ, ◌+◌, ◌-◌, ◌<◌, ◌≤◌, Bool, true, false, ◌==◌, IsTrue, List, [], ◌∷◌, ◌++◌, length, take, drop, get_or, refl, sym, ap, ◌∙◌, subst, arith, append_assoc, append-nil, length-append, take-append-drop, IsUtf8}
 use Rattle.std.specs.Prelude.{encode_utf8_all}
 use Rattle.std.specs.Str.{all_scalars, chars}
 use Rattle.std.proofs.Math.Seq.{drop-append_seam}
 use Rattle.std.proofs.lemmas.Bool.Decides.{nat_tests}
 use Rattle.std.proofs.lemmas.List.{take_more}
-use Rattle.std.proofs.lemmas.Str.{encodes-append, encodes-chars, scalars-chars}
+use Rattle.std.proofs.lemmas.Str.{IsUtf8-append, encodes-append, encodes-chars, scalars-chars}
 use Rattle.std.proofs.lemmas.Bool.{and_parts, and_from}
 use Rattle.ropey.specs.Reading.{BeginsText, IsCutAt}
 use Rattle.rope_search_io.proofs.Utf8Lemmas.{IsUtf8-after}
 use Rattle.rope_search_io.specs.declared.faults.Fault.{Fault}
 use Rattle.rope_search_io.specs.declared.faults.Fault.TheVariants.{Nothing, Range, Utf8, Pattern, Limit, Size, Memory}
 use Rattle.rope_search_io.specs.Utf8Judge.{Judging, Continues, Feeds}
-use Rattle.rope_search_texts.specs.declared.arriving.ArrivingText.TheVariants.{Judged}
-use Rattle.rope_search_texts.specs.Arriving.{Arrives, ArrivesMore, StopsText}
+use Rattle.rope_search_texts.specs.declared.arriving.ArrivingText.{ArrivingText}
+use Rattle.rope_search_texts.specs.declared.arriving.ArrivingText.TheVariants.{Growing, Judged, Refused, Lost}
+use Rattle.rope_search_texts.specs.Arriving.{Arrives, ArrivesMore, ArrivesMoreWithin, ArrivesWithin, StopsText}
 
 scalars-append : (s t : List ℕ) → all_scalars s ≡ true → all_scalars t ≡ true → all_scalars (s ++ t) ≡ true
 scalars-append [] t one other = other
@@ -125,3 +126,50 @@ judged_text limit bytes judge utf8 h told is = (h.0, subst IsUtf8 (append-nil by
 pub judged_none : (limit : ℕ) (bytes : List ℕ) (judge : Judging) (utf8 : Bool) → Arrives limit (length bytes) (Judged judge) bytes → (IsTrue utf8 ↔ Continues judge []) → utf8 ≡ false → IsUtf8 bytes → ⊥
 judged_none limit bytes judge true h told is text = cc
 judged_none limit bytes judge false h told is text = let wrong = told.1 ((h.1 []).0 (subst IsUtf8 (sym (append-nil bytes)) text)) in cc
+
+-- the judge of a text and of what follows it is one of the part of a character alone
+pub judges_part : (text part now more : List ℕ) (old new : Judging) → all_scalars text ≡ true → encode_utf8_all text ++ part ≡ now
+    → ((rest : List ℕ) → Continues old rest ↔ IsUtf8 rest) → Feeds old new part → Continues new more ↔ IsUtf8 (now ++ more)
+judges_part text part now more old new valid seen fresh fed =
+    let front = IsUtf8-bytes text valid in
+    let whole : encode_utf8_all text ++ (part ++ more) ≡ now ++ more = sym (append_assoc (encode_utf8_all text) part more) ∙ ap (λ l. l ++ more) seen in (
+      λ h. subst IsUtf8 whole (IsUtf8-append (encode_utf8_all text) (part ++ more) front ((fresh (part ++ more)).0 ((fed more).1 h))),
+      λ h. (fed more).0 ((fresh (part ++ more)).1 (IsUtf8-after (encode_utf8_all text) (part ++ more) front (subst IsUtf8 (sym whole) h))),
+    )
+
+-- ---- a text of which nobody said how many bytes it has
+pub Arrives-within : (limit : ℕ) (text : ArrivingText) (bytes : List ℕ) → Arrives limit (length bytes) text bytes → ArrivesWithin limit text bytes
+Arrives-within limit (Growing text) bytes h = h
+Arrives-within limit (Judged judge) bytes h = h
+Arrives-within limit Refused bytes h = h.1
+Arrives-within limit Lost bytes h = tt
+
+-- bytes with which it stays within its limit
+pub stays_within : (limit : ℕ) (text : List ℕ) (new : ArrivingText) (bytes : List ℕ) → length bytes ≤ limit - length text → ArrivesMore (Growing text) new bytes
+    → ArrivesMoreWithin limit (Growing text) new bytes
+stays_within limit text new bytes fits more before h =
+    let fits' : length (before ++ bytes) ≤ limit = omega (arith, fits, h.0, ap length h.1, length-append before bytes) in
+    Arrives-within limit new (before ++ bytes) (more limit (length (before ++ bytes)) before (fits', h.1))
+
+-- bytes with which it goes over it
+pub goes_over : (limit : ℕ) (text : List ℕ) (judge new : Judging) (bytes : List ℕ) → limit < length text + length bytes
+    → ((more : List ℕ) → Continues judge more ↔ IsUtf8 (text ++ more)) → Feeds judge new bytes → ArrivesMoreWithin limit (Growing text) (Judged new) bytes
+goes_over limit text judge new bytes over told fed before h =
+    let over' : limit < length (before ++ bytes) = omega (arith, over, ap length h.1, length-append before bytes) in
+    judged_more judge new bytes fed limit (length (before ++ bytes)) before (
+      over',
+      λ more. (
+        λ utf8. (told more).1 (subst (λ (t : List ℕ). IsUtf8 (t ++ more)) (sym h.1) utf8),
+        λ judged. subst (λ (t : List ℕ). IsUtf8 (t ++ more)) h.1 ((told more).0 judged),
+      ),
+    )
+
+-- bytes of one that is over it
+pub stays_over : (limit : ℕ) (old : Judging) (new : ArrivingText) (bytes : List ℕ) → ArrivesMore (Judged old) new bytes → ArrivesMoreWithin limit (Judged old) new bytes
+stays_over limit old new bytes more before h =
+    let over : limit < length (before ++ bytes) = omega (arith, h.0, length-append before bytes) in
+    Arrives-within limit new (before ++ bytes) (more limit (length (before ++ bytes)) before (over, h.1))
+
+-- and of one that no text begins
+pub stays_refused : (limit : ℕ) (bytes : List ℕ) → ArrivesMoreWithin limit Refused Refused bytes
+stays_refused limit bytes before h = λ begun. h (begins_front before bytes begun)

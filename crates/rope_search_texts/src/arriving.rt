@@ -1,6 +1,6 @@
 //! Texts that arrive in parts, under a limit.
 ghost use Rattle.std.specs.Prelude.{◌≡◌, List, ℕ, [], length, Err};
-ghost use Rattle.rope_search_texts.specs.Arriving.{Arrives, ArrivesMore, Finishes};
+ghost use Rattle.rope_search_texts.specs.Arriving.{Arrives, ArrivesMore, ArrivesMoreWithin, ArrivesWithin, Finishes, FinishesWithin, refusal_so_far};
 
 use crate::growing::GrowingText;
 use rope_search_io::{Fault, Utf8Judge};
@@ -35,7 +35,15 @@ impl ArrivingText {
         }
     }
 
-    /// Adds the next bytes. `O(n)` in their number.
+    /// Returns a text of a number of bytes that isn't known, before the first of them:
+    /// `append_within` adds them. Allocates nothing.
+    pub fn open(alloc: Global) -> ArrivingText
+        ensures { (limit : ℕ) → ArrivesWithin limit result [] }
+    {
+        ArrivingText::Growing(GrowingText::new(alloc))
+    }
+
+    /// Adds the next bytes of a text that was announced by `new`. `O(n)` in their number.
     pub fn append(&mut self, bytes: &[u8])
         ensures { ArrivesMore self.old self.new bytes.now }
     {
@@ -50,6 +58,44 @@ impl ArrivingText {
         }
     }
 
+    /// Adds the next bytes of a text that `open` began. If the bytes so far are then more than
+    /// `limit`, they are dropped, and from then on it is only checked whether all are UTF-8. `O(n)`
+    /// in their number.
+    pub fn append_within(&mut self, bytes: &[u8], limit: usize)
+        ensures { ArrivesMoreWithin limit self.old self.new bytes.now }
+    {
+        match self {
+            ArrivingText::Growing(text) => {
+                if bytes.len() > limit.saturating_sub(text.len()) {
+                    let mut judge = text.judge();
+                    judge.feed(bytes);
+                    *self = ArrivingText::Judged(judge);
+                } else {
+                    self.append(bytes);
+                }
+            }
+            ArrivingText::Judged(_) => self.append(bytes),
+            ArrivingText::Refused | ArrivingText::Lost => {}
+        }
+    }
+
+    /// Returns a reason to refuse the text whatever follows, if one is known. `O(1)`.
+    ///
+    /// # Errors
+    ///
+    /// `Fault::Utf8` if no text begins with the bytes so far; `Fault::Size` if they are more than
+    /// the limit; `Fault::Memory`.
+    pub fn check(&self) -> Result<(), Fault>
+        ensures { result ≡ refusal_so_far self.now }
+    {
+        match self {
+            ArrivingText::Growing(_) => Ok(()),
+            ArrivingText::Judged(_) => Err(Fault::Size),
+            ArrivingText::Refused => Err(Fault::Utf8),
+            ArrivingText::Lost => Err(Fault::Memory),
+        }
+    }
+
     /// Returns the rope of the text, after all its bytes arrived.
     ///
     /// # Errors
@@ -59,6 +105,8 @@ impl ArrivingText {
     pub fn finish(self) -> Result<Rope, Fault>
         ensures finishes { (limit : ℕ) (bytes : List ℕ) → Arrives limit (length bytes) self bytes
             → Finishes limit bytes result }
+        ensures within { (limit : ℕ) (bytes : List ℕ) → ArrivesWithin limit self bytes
+            → FinishesWithin limit bytes result }
         ensures lost { self ≡ ArrivingText.Lost → result ≡ Err Fault.Memory }
     {
         match self {

@@ -1,12 +1,14 @@
 //! A rope that grows by bytes.
-ghost use Rattle.std.specs.Prelude.{◌≡◌, ◌≤◌, ◌<◌, ◌⊎◌, ◌++◌, ◌∷◌, [], List, ℕ, length, chars, Err, IsUtf8, OnOk, OnErr, IfOk, IfErr};
+ghost use Rattle.std.specs.Prelude.{◌≡◌, ◌≤◌, ◌<◌, ◌⊎◌, ◌↔◌, ◌++◌, ◌∷◌, [], List, ℕ, length, chars, Err, IsUtf8, OnOk, OnErr, IfOk, IfErr};
 ghost use Rattle.ropey.specs.Chunks.{text_of};
 ghost use Rattle.ropey.specs.Reading.{BeginsText, IsCutAt};
+ghost use Rattle.rope_search_io.specs.Utf8Judge.{Continues};
 ghost use Rattle.rope_search_texts.specs.Arriving.{StopsText};
 
+use crate::boxed_builder::BoxedBuilder;
 use arrayvec::ArrayVec;
-use rope_search_io::Fault;
-use ropey::{Rope, RopeBuilder};
+use rope_search_io::{Fault, Utf8Judge};
+use ropey::Rope;
 use simdutf8::compat::from_utf8;
 use std::alloc::Global;
 use std::marker::Model;
@@ -19,7 +21,7 @@ type Part = ArrayVec<u8, 4>;
 /// Contracts see the bytes so far.
 #[derive(Drop)]
 pub struct GrowingText {
-    text: RopeBuilder,
+    text: BoxedBuilder,
     // The bytes after the text: those of a character that isn't whole yet.
     part: Part,
 }
@@ -57,7 +59,7 @@ fn longest_text(bytes: &[u8]) -> Result<&str, Fault>
 
 /// Appends the longest text at the front of these bytes, and returns what follows it: a part of a
 /// character, or nothing. After an error the text is as it was.
-fn append_text(text: &mut RopeBuilder, bytes: &[u8]) -> Result<Part, Fault>
+fn append_text(text: &mut BoxedBuilder, bytes: &[u8]) -> Result<Part, Fault>
     ensures text { IfOk result (λ rest. (front : List ℕ) × IsCutAt bytes.now front rest.items
         × (text.new ≡ text.old ++ chars front)) }
     ensures kept { OnErr result (text.new ≡ text.old) }
@@ -116,9 +118,26 @@ impl GrowingText {
         ensures { result ≡ [] }
     {
         GrowingText {
-            text: RopeBuilder::new(alloc),
+            text: BoxedBuilder::new(alloc),
             part: ArrayVec::new(),
         }
+    }
+
+    /// Returns the number of bytes so far. `O(1)`.
+    pub fn len(&self) -> usize
+        ensures { result ≡ length self.now }
+    {
+        self.text.len_bytes() + self.part.len()
+    }
+
+    /// Returns a judge of the bytes so far, which checks whether they and those that follow are
+    /// UTF-8. `O(1)`.
+    pub fn judge(&self) -> Utf8Judge
+        ensures { (more : List ℕ) → Continues result more ↔ IsUtf8 (self.now ++ more) }
+    {
+        let mut judge = Utf8Judge::new();
+        judge.feed(self.part.as_slice());
+        judge
     }
 
     /// Appends bytes. `O(n)` in their number.

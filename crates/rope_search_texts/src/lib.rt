@@ -2,6 +2,7 @@
 #![tactic(auto)]
 
 mod arriving;
+mod boxed_builder;
 mod growing;
 
 pub use arriving::ArrivingText;

@@ -73,13 +73,18 @@ impl Buffer {
         };
         let (alloc, limits) = (self.alloc, self.limits);
         let old = self.history.current();
+        let bytes = old.len_bytes();
         // All that may be refused comes before the first change.
         let replaced = search.replaced_listed(
             tick, alloc, limits, old, from_line, to_line, template,
         )?;
         self.history.add(replaced.text, replaced.changes)?;
         self.changed = replaced.patches.changed;
-        search.apply(replaced.patches);
+        // Laws, for the proof alone.
+        rope_search_reports::laws::a_row_a_line();
+        rope_search_reports::laws::one_report();
+        let step = self.history.undo_steps();
+        self.kept = search.apply_and_keep(replaced.patches, step, bytes);
         keep_before_change(&mut self.pending, &self.history);
         Ok(replaced.count)
     }

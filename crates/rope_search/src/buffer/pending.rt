@@ -202,6 +202,7 @@ impl Buffer {
         }
         self.changed = Stretch::whole(row_count(&self.search, text), text.len_lines());
         self.search = self.pending.take();
+        self.kept = None; // They are rows of the pattern before.
         Ok(true)
     }
 

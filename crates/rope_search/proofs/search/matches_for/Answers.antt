@@ -4,7 +4,7 @@ use Rattle.rope_search.proofs.MatchLemmas.{enough_groups, enough_spans}
 use Rattle.rope_search.proofs.search.matches_for.Goals as goal
 
 pub returns-then-names_explicit_groups-clause-found : goal.returns-then-names_explicit_groups-clause-found
-returns-then-names_explicit_groups-clause-found c = enough_groups _ _ _ _ c.in_ok-groups.ensures.found c.in_ok-groups.ensures.stand
+returns-then-names_explicit_groups-clause-found c = enough_groups c.first_groups_are_enough.ensures _ _ _ _ _ c.group_count.ensures c.in_ok-groups.ensures.found c.in_ok-groups.ensures.stand
 
 pub returns-clause-found : goal.returns-clause-found
 returns-clause-found c =

@@ -27,4 +27,5 @@ invariant_of-self-2 c =
     omega (arith, c.few_matches.ensures text s.finder s.rows.items report, c.len_bytes.ensures.bytes, c.len_bytes.ensures.fits, ap byte_len there) in (
       subst (λ o. IfSome o (λ (x : Search). IsReport text x.finder x.rows.items × (match_count x.rows.items < 2 ^ 64))) (sym c.take.ensures.value) (report, few),
       subst (HoldsPending text) (sym c.take.ensures.after) tt,
+      λ own made set is. absurd cc,
     )

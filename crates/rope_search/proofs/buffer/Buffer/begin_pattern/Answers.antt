@@ -17,4 +17,5 @@ invariant_of-self c =
     let spelled = scalars-chars c.args.pattern.now c.utf8.pattern in (
       c.self.invariant.0,
       holds-begun _ c.in_ok-finder.finder c.new-rows.result.items (subst IsText (sym c.in_ok-finder.ensures.ok) spelled) c.in_ok-finder.ensures.is_pattern c.new-rows.ensures.items,
+      c.self.invariant.2,
     )

@@ -13,8 +13,9 @@ use Rattle.rope_search.proofs.buffer.Buffer.keep.Goals as goal
 pub invariant_of-self : goal.invariant_of-self
 invariant_of-self c =
     let history = c.self.inside.history in
-    subst (λ t. IfSome c.self.inside.search (λ (s : Search). IsReport t s.finder s.rows.items × (match_count s.rows.items < 2 ^ 64)) × HoldsPending t c.self.inside.pending)
-    (sym (ap (λ (t : Texts). text_at t.texts t.current) c.keep.ensures ∙ kept_current history.texts history.current c.args.steps)) c.self.invariant
+    let both = subst (λ t. IfSome c.self.inside.search (λ (s : Search). IsReport t s.finder s.rows.items × (match_count s.rows.items < 2 ^ 64)) × HoldsPending t c.self.inside.pending)
+    (sym (ap (λ (t : Texts). text_at t.texts t.current) c.keep.ensures ∙ kept_current history.texts history.current c.args.steps)) (c.self.invariant.0, c.self.invariant.1) in
+    (both.0, both.1, λ own rows set is. absurd cc)
 
 pub returns-clause-state : goal.returns-clause-state
 returns-clause-state c =

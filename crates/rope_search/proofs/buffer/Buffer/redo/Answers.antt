@@ -8,10 +8,12 @@ use Rattle.std.specs.Prelude.{Option, Some, option_map}
 use Rattle.rope_search.specs.declared.search.Search.{Search}
 use Rattle.rope_search.specs.Session.{BufferState, LimitedBuffer, current_text}
 use Rattle.rope_search.proofs.ChangedLemmas.{replaces-told}
+use Rattle.rope_search.proofs.KeptRowLemmas.{kept-forward, turns-forward}
+use Rattle.rope_search_reports.specs.Report.{IsReport}
 use Rattle.rope_search.proofs.buffer.Buffer.redo.Goals as goal
 
-pub follow-requires-clause-led : goal.follow-requires-clause-led
-follow-requires-clause-led c =
+pub step_over-requires-clause-led : goal.step_over-requires-clause-led
+step_over-requires-clause-led c =
     let history = c.self.inside.history in
     let k = history.current in
     let past : length history.texts ≤ k + 1 → ⊥ = λ none. absurd (let e = c.next.ensures.none.1 none in let is = c.in-Some.is in cc) in
@@ -36,7 +38,33 @@ returns-clause-changed c =
     ∙ ap (λ (v : LimitedBuffer). v.state) c.self.view_is in
     let is : c.args.self.now.state.pattern ≡ Some finder = ap (λ (b : BufferState). b.pattern) (sym same) in
     let here : text_of c.current-current.result.now ≡ current_text c.args.self.now.state = c.current-current.ensures.text ∙ ap current_text same in
-    let after : BufferState = record { texts = c.step_forward-2.new.self.texts; current = c.step_forward-2.new.self.current; pattern = Some c.follow.new.self.finder } in
+    let after : BufferState = record { texts = c.step_forward-2.new.self.texts; current = c.step_forward-2.new.self.current; pattern = Some c.step_over.new.self.finder } in
     let there : text_of c.in-Some.version.now.text ≡ current_text after = c.in-Some.ensures.text ∙ sym (ap (λ (t : Texts). text_at t.texts t.current) c.step_forward-2.ensures.texts) in
     replaces-told c.args.self.now.state after finder (text_of c.current-current.result.now) (text_of c.in-Some.version.now.text) c.in_ok-self-inside.field-0
-    is (ap Some c.follow.ensures.finder) here there c.in_ok-self-inside.ensures.changed
+    is (ap Some c.step_over.ensures.finder) here there c.in_ok-self-inside.ensures.changed
+
+pub step_over-requires-clause-kept : goal.step_over-requires-clause-kept
+step_over-requires-clause-kept c =
+    let history = c.self.inside.history in
+    let set : option_map (λ (s : Search). s.finder) c.self.inside.search ≡ Some c.in-Some-search.search.finder = ap (option_map (λ (s : Search). s.finder)) c.in-Some-search.is in
+    turns-forward history (text_of c.current-current.result.now) (text_of c.in-Some.version.now.text) c.in-Some-search.search.finder _ c.self.inside.kept c.next_step-step.result c.next_step-step.ensures set c.self.invariant.2
+    c.current-current.ensures.text c.in-Some.ensures.text
+
+pub invariant_of-self-2 : goal.invariant_of-self-2
+invariant_of-self-2 c =
+    let history = c.self.inside.history in
+    let rows = c.step_over.new.self.rows.items in
+    let there : text_of c.in-Some.version.now.text ≡ text_at c.step_forward-2.new.self.texts c.step_forward-2.new.self.current =
+    c.in-Some.ensures.text ∙ sym (ap (λ (t : Texts). text_at t.texts t.current) c.step_forward-2.ensures.texts) in
+    let report : IsReport (text_at c.step_forward-2.new.self.texts c.step_forward-2.new.self.current) c.in-Some-search.search.finder rows =
+    subst (λ t. IsReport t c.in-Some-search.search.finder rows) there c.in_ok-self-inside.ensures.report in
+    let set : option_map (λ (s : Search). s.finder) c.self.inside.search ≡ Some c.in-Some-search.search.finder = ap (option_map (λ (s : Search). s.finder)) c.in-Some-search.is in (
+      (
+        subst (λ f. IsReport (text_at c.step_forward-2.new.self.texts c.step_forward-2.new.self.current) f rows) (sym c.step_over.ensures.finder) report,
+        c.in_ok-self-inside.ensures.few,
+      ),
+      c.keep_before_change-2.ensures.holds,
+      kept-forward history c.step_forward-2.new.self (text_of c.current-current.result.now) (text_of c.in-Some.version.now.text) c.in-Some-search.search.finder c.step_over.new.self.finder _ c.self.inside.kept
+          c.step_over.new.kept c.next_step-step.result c.next_step-step.ensures set c.self.invariant.2 c.current-current.ensures.text c.in-Some.ensures.text c.in_ok-self-inside.ensures.kept
+          (ap (λ (t : Texts). t.texts) c.step_forward-2.ensures.texts) (ap (λ (t : Texts). t.current) c.step_forward-2.ensures.texts) c.step_over.ensures.finder,
+    )

@@ -1,5 +1,5 @@
-use Rattle.std.proofs.Common.{◌≡◌, sym, ap, ◌∙◌, subst}
-use Rattle.std.specs.Prelude.{Option, Some, option_map}
+use Rattle.std.proofs.Common.{◌≡◌, sym, ap, ◌∙◌, subst, ◌^◌, ◌<◌}
+use Rattle.std.specs.Prelude.{Option, Some, option_map, IfSome}
 use Rattle.std.specs.Str.{chars}
 use Rattle.ropey.specs.Chunks.{text_of}
 use Rattle.rope_search.specs.declared.search.Search.{Search}
@@ -7,13 +7,16 @@ use Rattle.rope_search.specs.Session.{BufferState, LimitedBuffer, current_text}
 use Rattle.rope_search.proofs.MatchLemmas.{rows_of, long_with}
 use Rattle.rope_search.specs.Replacing.{GetsTooLongWith}
 use Rattle.rope_search.proofs.ChangedLemmas.{replaces-told}
-use Rattle.rope_search.specs.Histories.{Texts, with_changes}
+use Rattle.rope_search.specs.Histories.{Texts, with_changes, text_at}
 use Rattle.rope_search.specs.TextChanges.{ranges_in, ranges_of}
 use Rattle.rope_search_reports.specs.Text.{bytes_of}
 use Rattle.rope_search_reports.specs.Matches.{AreGroups}
 use Rattle.rope_search_reports.specs.Replacement.{changes_of}
 use Rattle.rope_search_reports.specs.Turned.{listed}
 use Rattle.rope_search.proofs.TextChangeLemmas.{tells-ranges}
+use Rattle.rope_search.proofs.KeptRowLemmas.{kept-made, put-back}
+use Rattle.rope_search_reports.specs.Report.{IsReport, match_count}
+use Rattle.rope_search_reports.specs.Patches.{patched}
 use Rattle.rope_search.proofs.buffer.Buffer.replace.Goals as goal
 
 pub returns-in_err-replaced-clause-rows : goal.returns-in_err-replaced-clause-rows
@@ -66,9 +69,9 @@ returns-clause-changed c =
     ∙ ap (λ (v : LimitedBuffer). v.state) c.self.view_is in
     let is : c.args.self.now.state.pattern ≡ Some finder = ap (λ (b : BufferState). b.pattern) (sym same) in
     let here : text_of c.current-old.result.now ≡ current_text c.args.self.now.state = c.current-old.ensures.text ∙ ap current_text same in
-    let after : BufferState = record { texts = c.add.new.self.texts; current = c.add.new.self.current; pattern = Some c.apply.new.self.finder } in
+    let after : BufferState = record { texts = c.add.new.self.texts; current = c.add.new.self.current; pattern = Some c.apply_and_keep.new.self.finder } in
     replaces-told c.args.self.now.state after finder (text_of c.current-old.result.now) (text_of c.in_ok-replaced.replaced.text) c.in_ok-replaced.replaced.patches.changed
-    is (ap Some (c.apply.ensures.finder ∙ c.replaced.ensures.finder)) here (sym c.in_ok-add.ensures.current) c.in_ok-replaced.ensures.changed
+    is (ap Some (c.apply_and_keep.ensures.finder ∙ c.replaced.ensures.finder)) here (sym c.in_ok-add.ensures.current) c.in_ok-replaced.ensures.changed
 
 pub returns-clause-unmade : goal.returns-clause-unmade
 returns-clause-unmade c = λ over.
@@ -113,3 +116,25 @@ returns-clause-kept c =
           ∙ ap (with_changes c.args.self.now) changes;
       ranges = ap (λ (t : Texts). ranges_in t.is_back t.last) c.in_ok-add.ensures.ok ∙ ap ranges_of changes;
     }
+
+pub invariant_of-self-2 : goal.invariant_of-self-2
+invariant_of-self-2 c =
+    let history = c.self.inside.history in
+    let finder = c.in-Some.search.finder in
+    let held = subst (λ o. IfSome o (λ (s : Search). IsReport (text_at history.texts history.current) s.finder s.rows.items × (match_count s.rows.items < 2 ^ 64))) c.in-Some.is c.self.invariant.0 in
+    let same : c.apply_and_keep.new.self.finder ≡ finder = c.apply_and_keep.ensures.finder ∙ c.replaced.ensures.finder in
+    let rows : c.apply_and_keep.new.self.rows.items ≡ patched 0 c.in-Some.search.rows.items c.in_ok-replaced.replaced.patches.patches.items =
+    c.apply_and_keep.ensures.rows ∙ ap (λ rs. patched 0 rs c.in_ok-replaced.replaced.patches.patches.items) c.replaced.ensures.rows in
+    let report : IsReport (text_at c.add.new.self.texts c.add.new.self.current) finder c.apply_and_keep.new.self.rows.items =
+    subst (IsReport (text_at c.add.new.self.texts c.add.new.self.current) finder) (sym rows)
+    (subst (λ t. IsReport t finder (patched 0 c.in-Some.search.rows.items c.in_ok-replaced.replaced.patches.patches.items)) (sym c.in_ok-add.ensures.current) c.in_ok-replaced.ensures.report) in (
+      (
+        subst (λ f. IsReport (text_at c.add.new.self.texts c.add.new.self.current) f c.apply_and_keep.new.self.rows.items) (sym same) report,
+        subst (λ rs. match_count rs < 2 ^ 64) (sym rows) c.in_ok-replaced.ensures.few,
+      ),
+      c.keep_before_change.ensures.holds,
+      kept-made c.one_report.ensures c.a_row_a_line.ensures history c.add.new.self (text_of c.in_ok-replaced.replaced.text) finder c.apply_and_keep.new.self.finder c.in-Some.search.rows.items
+          c.apply_and_keep.new.self.rows.items c.apply_and_keep.result c.undo_steps-step.result c.current-old.ensures.inside
+          (ap (λ (t : Texts). t.texts) c.in_ok-add.ensures.ok) (ap (λ (t : Texts). t.current) c.in_ok-add.ensures.ok) c.undo_steps-step.ensures held.0 report
+          c.apply_and_keep.ensures.step (put-back _ _ _ _ c.replaced.ensures.rows c.apply_and_keep.ensures.back) same,
+    )

@@ -1,5 +1,5 @@
-use Rattle.std.proofs.Common.{◌≡◌, ◌≤◌, Err, sym, ap, ◌∙◌, subst}
-use Rattle.std.specs.Prelude.{Option, Some, option_map}
+use Rattle.std.proofs.Common.{◌≡◌, ◌≤◌, Err, sym, ap, ◌∙◌, subst, ◌^◌, ◌<◌}
+use Rattle.std.specs.Prelude.{Option, Some, option_map, IfSome}
 use Rattle.std.specs.Str.{chars}
 use Rattle.std.proofs.lemmas.Result.{err_from_is_err_and}
 use Rattle.ropey.specs.Chunks.{text_of}
@@ -8,7 +8,7 @@ use Rattle.rope_search_reports.specs.LineGroups.{joined}
 use Rattle.rope_search_reports.specs.Replacement.{changes_of, replaced}
 use Rattle.rope_search_reports.specs.Text.{bytes_of}
 use Rattle.rope_search_reports.specs.Turned.{listed}
-use Rattle.rope_search.specs.Histories.{Texts, with_changes}
+use Rattle.rope_search.specs.Histories.{Texts, with_changes, text_at}
 use Rattle.rope_search.specs.ListedReplacing.{GetsTooLongListed}
 use Rattle.rope_search.specs.Replacing.{text_with}
 use Rattle.rope_search.specs.Session.{BufferState, LimitedBuffer, current_text, with_edit}
@@ -18,6 +18,9 @@ use Rattle.rope_search.specs.declared.search.Search.{Search}
 use Rattle.rope_search.proofs.ChangedLemmas.{replaces-told}
 use Rattle.rope_search.proofs.ListedReplacingLemmas.{listed-here, long-here, long-there, rows-there}
 use Rattle.rope_search.proofs.TextChangeLemmas.{tells-ranges}
+use Rattle.rope_search.proofs.KeptRowLemmas.{kept-made, put-back}
+use Rattle.rope_search_reports.specs.Report.{IsReport, match_count}
+use Rattle.rope_search_reports.specs.Patches.{patched}
 use Rattle.rope_search.proofs.buffer.Buffer.replace_listed.Goals as goal
 
 pub returns-in_err-replaced-clause-rows : goal.returns-in_err-replaced-clause-rows
@@ -108,7 +111,7 @@ returns-clause-ok c =
     let new = text_of c.in_ok-replaced.replaced.text in
     let text : new ≡ text_with c.args.self.now.state template (joined told.lists) =
     told.text_is ∙ ap (λ t. replaced (bytes_of t) template 0 (joined told.lists)) here in
-    let finder_is : Some c.apply.new.self.finder ≡ Some finder = ap Some (c.apply.ensures.finder ∙ c.replaced_listed.ensures.finder) in
+    let finder_is : Some c.apply_and_keep.new.self.finder ≡ Some finder = ap Some (c.apply_and_keep.ensures.finder ∙ c.replaced_listed.ensures.finder) in
     record {
       lists = told.lists;
       are = listed-here c.args.self.now.state finder (text_of c.current-old.result.now) is here c.args.from_line c.args.to_line told.lists told.are;
@@ -130,9 +133,9 @@ returns-clause-changed c =
     ∙ ap (λ (v : LimitedBuffer). v.state) c.self.view_is in
     let is : c.args.self.now.state.pattern ≡ Some finder = ap (λ (b : BufferState). b.pattern) (sym same) in
     let here : text_of c.current-old.result.now ≡ current_text c.args.self.now.state = c.current-old.ensures.text ∙ ap current_text same in
-    let after : BufferState = record { texts = c.add.new.self.texts; current = c.add.new.self.current; pattern = Some c.apply.new.self.finder } in
+    let after : BufferState = record { texts = c.add.new.self.texts; current = c.add.new.self.current; pattern = Some c.apply_and_keep.new.self.finder } in
     replaces-told c.args.self.now.state after finder (text_of c.current-old.result.now) (text_of c.in_ok-replaced.replaced.text) c.in_ok-replaced.replaced.patches.changed
-    is (ap Some (c.apply.ensures.finder ∙ c.replaced_listed.ensures.finder)) here (sym c.in_ok-add.ensures.current) c.in_ok-replaced.ensures.changed
+    is (ap Some (c.apply_and_keep.ensures.finder ∙ c.replaced_listed.ensures.finder)) here (sym c.in_ok-add.ensures.current) c.in_ok-replaced.ensures.changed
 
 pub returns-clause-text_changes : goal.returns-clause-text_changes
 returns-clause-text_changes c =
@@ -184,3 +187,25 @@ returns-clause-added c =
           ≤ lines_spanned (bytes_of t) (changes_of (bytes_of (current_text c.args.self.now.state)) template 0 0 (joined told.lists))) (sym c.in_ok-add.ensures.current)
           (subst (λ cs. c.in_ok-replaced.replaced.patches.changed.added ≤ lines_spanned (bytes_of (text_of c.in_ok-replaced.replaced.text)) cs) changes c.in_ok-replaced.ensures.added);
     }
+
+pub invariant_of-self-2 : goal.invariant_of-self-2
+invariant_of-self-2 c =
+    let history = c.self.inside.history in
+    let finder = c.in-Some.search.finder in
+    let held = subst (λ o. IfSome o (λ (s : Search). IsReport (text_at history.texts history.current) s.finder s.rows.items × (match_count s.rows.items < 2 ^ 64))) c.in-Some.is c.self.invariant.0 in
+    let same : c.apply_and_keep.new.self.finder ≡ finder = c.apply_and_keep.ensures.finder ∙ c.replaced_listed.ensures.finder in
+    let rows : c.apply_and_keep.new.self.rows.items ≡ patched 0 c.in-Some.search.rows.items c.in_ok-replaced.replaced.patches.patches.items =
+    c.apply_and_keep.ensures.rows ∙ ap (λ rs. patched 0 rs c.in_ok-replaced.replaced.patches.patches.items) c.replaced_listed.ensures.rows in
+    let report : IsReport (text_at c.add.new.self.texts c.add.new.self.current) finder c.apply_and_keep.new.self.rows.items =
+    subst (IsReport (text_at c.add.new.self.texts c.add.new.self.current) finder) (sym rows)
+    (subst (λ t. IsReport t finder (patched 0 c.in-Some.search.rows.items c.in_ok-replaced.replaced.patches.patches.items)) (sym c.in_ok-add.ensures.current) c.in_ok-replaced.ensures.report) in (
+      (
+        subst (λ f. IsReport (text_at c.add.new.self.texts c.add.new.self.current) f c.apply_and_keep.new.self.rows.items) (sym same) report,
+        subst (λ rs. match_count rs < 2 ^ 64) (sym rows) c.in_ok-replaced.ensures.few,
+      ),
+      c.keep_before_change.ensures.holds,
+      kept-made c.one_report.ensures c.a_row_a_line.ensures history c.add.new.self (text_of c.in_ok-replaced.replaced.text) finder c.apply_and_keep.new.self.finder c.in-Some.search.rows.items
+          c.apply_and_keep.new.self.rows.items c.apply_and_keep.result c.undo_steps-step.result c.current-old.ensures.inside
+          (ap (λ (t : Texts). t.texts) c.in_ok-add.ensures.ok) (ap (λ (t : Texts). t.current) c.in_ok-add.ensures.ok) c.undo_steps-step.ensures held.0 report
+          c.apply_and_keep.ensures.step (put-back _ _ _ _ c.replaced_listed.ensures.rows c.apply_and_keep.ensures.back) same,
+    )

@@ -16,7 +16,7 @@ use Rattle.rope_search.proofs.session.Session.set_arrived.Goals as goal
 pub returns-in_err-rope-clause-step : goal.returns-in_err-rope-clause-step
 returns-in_err-rope-clause-step c = λ bytes arrives.
     let p = err_from_is_err_and c.from_residual.result c.from_residual.ensures.1 in
-    rw (p.1, p.2) (Step-no_text c.args.self.now.limit c.args.self.now.state bytes _ (c.in_err-rope.ensures.finishes c.args.self.now.limit bytes arrives))
+    rw (p.1, p.2) (Step-no_text c.args.self.now.limit c.args.self.now.state bytes _ (c.in_err-rope.ensures.within c.args.self.now.limit bytes arrives))
 
 pub returns-in_err-rope-clause-searches : goal.returns-in_err-rope-clause-searches
 returns-in_err-rope-clause-searches c = λ bytes arrives. SearchesFor-nothing c.args.self.now.limit c.args.self.now.state bytes c.args.tick.now
@@ -27,7 +27,7 @@ returns-clause-step c = λ bytes arrives.
     let old = c.index_mut.result.now in
     let chosen : Chosen inside.buffers.items inside.chosen (limit_in inside.buffers.items inside.chosen) old c.args.self.now =
     record { inside = omega (arith, inside.buffers.ok.0); is = c.index_mut.ensures.value; all = c.self.invariant.1.0; seen = c.self.view_is } in
-    let is = c.in_ok-rope.ensures.finishes c.args.self.now.limit bytes arrives in
+    let is = c.in_ok-rope.ensures.within c.args.self.now.limit bytes arrives in
     let text : c.set_rope.new.self.state ≡ with_text old.state (chars bytes) = c.in_ok-set_rope.ensures.ok ∙ ap (λ t. with_text old.state t) is.2 in
     Step-take_text inside.buffers.items inside.chosen (limit_in inside.buffers.items inside.chosen) old c.set_rope.new.self bytes c.args.self.now
     chosen is.1 (omega (arith, is.0, Chosen-limit inside.buffers.items inside.chosen (limit_in inside.buffers.items inside.chosen) old c.args.self.now chosen)) text
@@ -38,7 +38,7 @@ returns-in_err-set_rope-clause-searches c = λ bytes arrives.
     let old = c.index_mut.result.now in
     let chosen : Chosen inside.buffers.items inside.chosen (limit_in inside.buffers.items inside.chosen) old c.args.self.now =
     record { inside = omega (arith, inside.buffers.ok.0); is = c.index_mut.ensures.value; all = c.self.invariant.1.0; seen = c.self.view_is } in
-    let is = c.in_ok-rope.ensures.finishes c.args.self.now.limit bytes arrives in
+    let is = c.in_ok-rope.ensures.within c.args.self.now.limit bytes arrives in
     let told = c.set_rope.ensures in
     searches_for_text inside.buffers.items inside.chosen (limit_in inside.buffers.items inside.chosen) old bytes c.args.self.now _ c.args.tick.now c.set_rope.new.tick chosen is told.rows
 
@@ -48,7 +48,7 @@ returns-clause-searches c = λ bytes arrives.
     let old = c.index_mut.result.now in
     let chosen : Chosen inside.buffers.items inside.chosen (limit_in inside.buffers.items inside.chosen) old c.args.self.now =
     record { inside = omega (arith, inside.buffers.ok.0); is = c.index_mut.ensures.value; all = c.self.invariant.1.0; seen = c.self.view_is } in
-    let is = c.in_ok-rope.ensures.finishes c.args.self.now.limit bytes arrives in
+    let is = c.in_ok-rope.ensures.within c.args.self.now.limit bytes arrives in
     let told = c.set_rope.ensures in
     searches_for_text inside.buffers.items inside.chosen (limit_in inside.buffers.items inside.chosen) old bytes c.args.self.now _ c.args.tick.now c.set_rope.new.tick chosen is told.rows
 

@@ -1,3 +1,4 @@
+use Rattle.std.proofs.Common.{refl}
 use Rattle.rope_search_c.proofs.counting.CountingSession.advance.Goals as goal
 
 pub returns : goal.returns
@@ -16,4 +17,5 @@ returns c =
       unsearched = told.unsearched;
       rows = told.rows;
       each = told.each;
+      arriving = refl;
     }

@@ -14,4 +14,5 @@ returns c =
       limit = told.limit;
       err = told.err;
       lines = refl;
+      arriving = refl;
     }

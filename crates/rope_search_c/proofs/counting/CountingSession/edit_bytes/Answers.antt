@@ -1,4 +1,4 @@
-use Rattle.std.proofs.Common.{◌≡◌, ap, ◌∙◌}
+use Rattle.std.proofs.Common.{◌≡◌, refl, ap, ◌∙◌}
 use Rattle.rope_search_c.specs.Calls.{status_of}
 use Rattle.rope_search_c.specs.declared.counting.CountingSession.{CountingSession}
 use Rattle.rope_search_c.proofs.counting.CountingSession.edit_bytes.Goals as goal
@@ -16,12 +16,14 @@ returns c =
           changed = told.changed start stop at;
           kept = told.kept start stop at;
           few = tt;
+          arriving = refl;
         };
         told = c.status_of.ensures;
       };
       nowhere = λ none. (
         c.status_of.ensures ∙ ap status_of (told.range none),
-        ap (λ s. record { session = s; lines = c.edit_bytes.new.tick }) (told.same none)
-            ∙ ap (λ t. record { session = c.args.self.now.session; lines = t }) (told.unsearched none),
+        ap (λ s. record { session = s; lines = c.edit_bytes.new.tick; arriving = c.args.self.now.arriving }) (told.same none)
+            ∙ ap (λ t. record { session = c.args.self.now.session; lines = t; arriving = c.args.self.now.arriving }) (told.unsearched none),
       );
+      arriving = refl;
     }

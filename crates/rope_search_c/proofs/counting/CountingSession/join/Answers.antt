@@ -11,6 +11,7 @@ returns c =
       limit = told.limit;
       changed = told.changed;
       lines = refl;
+      arriving = refl;
       nothing = told.nothing;
       memory = told.memory;
       fault = told.fault;

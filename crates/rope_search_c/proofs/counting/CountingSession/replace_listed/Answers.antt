@@ -1,3 +1,4 @@
+use Rattle.std.proofs.Common.{refl}
 use Rattle.rope_search_c.proofs.counting.CountingSession.replace_listed.Goals as goal
 
 pub returns : goal.returns
@@ -16,4 +17,5 @@ returns c =
       rows = told.rows;
       grows = told.grows;
       wholes = told.wholes;
+      arriving = refl;
     }

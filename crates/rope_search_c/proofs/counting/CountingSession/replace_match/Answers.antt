@@ -1,4 +1,4 @@
-use Rattle.std.proofs.Common.{◌≡◌, ◌⊎◌, ap, subst, ◌∙◌, inl, inr, Err, IsUtf8, OnErr}
+use Rattle.std.proofs.Common.{◌≡◌, ◌⊎◌, ap, subst, ◌∙◌, inl, inr, refl, Err, IsUtf8, OnErr}
 use Rattle.rope_search_io.specs.declared.faults.Fault.{Fault}
 use Rattle.rope_search.specs.MatchEdits.{ListsNoMatch}
 use Rattle.rope_search.specs.Session.{chosen_buffer}
@@ -13,10 +13,10 @@ returns c =
     let kept : (fault : Fault) → c.replace_match.result ≡ Err fault → c.replace_match.new.self ≡ old.session =
     λ fault is. subst (λ r. OnErr r (c.replace_match.new.self ≡ old.session)) is told.err in
     let same : (fault : Fault) → c.replace_match.result ≡ Err fault → c.replace_match.new.tick ≡ old.lines
-    → record { session = c.replace_match.new.self; lines = c.replace_match.new.tick } ≡ old =
+    → record { session = c.replace_match.new.self; lines = c.replace_match.new.tick; arriving = old.arriving } ≡ old =
     λ fault is unsearched.
-    ap (λ s. record { session = s; lines = c.replace_match.new.tick }) (kept fault is)
-    ∙ ap (λ t. record { session = old.session; lines = t }) unsearched in
+    ap (λ s. record { session = s; lines = c.replace_match.new.tick; arriving = old.arriving }) (kept fault is)
+    ∙ ap (λ t. record { session = old.session; lines = t; arriving = old.arriving }) unsearched in
     record {
       edits = λ utf8 from to inserted is. record {
         answer = c.replace_match.result;
@@ -41,4 +41,5 @@ returns c =
         c.status_of.ensures ∙ ap status_of (told.utf8 some there broken),
         same _ (told.utf8 some there broken) (told.unsearched (inr (inr broken))),
       );
+      arriving = refl;
     }

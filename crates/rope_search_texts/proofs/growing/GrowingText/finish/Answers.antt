@@ -17,4 +17,4 @@ returns-in-Ok-clause-text c =
     let inside = c.self.inside in
     let none = none_from inside.part.items c.is_empty.result c.is_empty.ensures c.if-not-is_empty.false in
     let whole : encode_utf8_all inside.text ≡ c.args.self = sym (append-nil (encode_utf8_all inside.text)) ∙ ap (λ l. encode_utf8_all inside.text ++ l) (sym none) ∙ c.self.view_is in
-    c.in-Ok.ensures.text ∙ sym (chars-encodes inside.text c.self.invariant.0) ∙ ap chars whole
+    c.in-Ok.ensures ∙ sym (chars-encodes inside.text c.self.invariant.0) ∙ ap chars whole
