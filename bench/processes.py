@@ -8,6 +8,7 @@ import re
 import statistics
 import subprocess
 import tempfile
+import threading
 import time
 
 from texts import TOP
@@ -39,6 +40,29 @@ def written(folder, name, *commands):
     return path
 
 
+def asked(process, commands):
+    """The last lines of the replies of a program to commands. They are read while the commands are sent, if there are more
+    than fit into a pipe."""
+    if len(commands) > 10_000:
+        threading.Thread(target=sent, args=(process, commands)).start()
+    else:
+        sent(process, commands)
+    return b"".join(last_line(process.stdout) for _ in commands)
+
+
+def last_line(replies):
+    """The last line of the next reply: those before it, of `list`, are matches, with three numbers."""
+    line = replies.readline()
+    while line.startswith(b"m ") and line.count(b" ") == 3:
+        line = replies.readline()
+    return line
+
+
+def sent(process, commands):
+    process.stdin.write(b"".join(commands))
+    process.stdin.flush()
+
+
 class Session:
     """A program at the other end of pipes. If it ended early, it answers nothing."""
 
@@ -60,13 +84,10 @@ class Session:
         return time.clock_gettime_ns(~self.process.pid << 3 | 2)
 
     def ask(self, commands):
-        """The nanoseconds that commands take, and the replies, of a line each. Nobody reads a reply before the last
-        command is sent, so the replies have to fit into a pipe: 20,000 times `ok` do."""
+        """The nanoseconds that commands take, and the replies, of a line each."""
         try:
             start = self.spent()
-            self.process.stdin.write(b"".join(commands))
-            self.process.stdin.flush()
-            said = b"".join(self.process.stdout.readline() for _ in commands)
+            said = asked(self.process, commands)
             return self.spent() - start, said
         except OSError:
             return 0, b""
@@ -128,13 +149,10 @@ def tells_peak():
 
 
 def instructions(program, *commands):
-    """The number of instructions of a program up to its last reply, of a line each: nearly the same each time, whatever
+    """The number of instructions of a program up to the last line of its last reply: nearly the same each time, whatever
     the load of the machine. It is stopped there, so what it frees at its end isn't counted."""
     words = ["valgrind", "--tool=callgrind", "--callgrind-out-file=/dev/null", program]
     with subprocess.Popen(words, stdin=subprocess.PIPE, stdout=subprocess.PIPE, stderr=subprocess.PIPE) as ran:
-        ran.stdin.write(b"".join(commands))
-        ran.stdin.flush()
-        for _ in commands:
-            ran.stdout.readline()
+        asked(ran, commands)
         ran.terminate()
         return int(re.search(rb"Collected : (\d+)", ran.stderr.read())[1])

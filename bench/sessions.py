@@ -354,6 +354,10 @@ def counted(lines, program, edits):
     bare, in_fifth = ((set_up[pattern] - alone) / len(lines) for pattern in ("found nowhere", "TODO"))
     yield "a line's report without a match", f"{bare:.0f}", ""
     yield "a line's report with a `TODO`", f"{5 * in_fifth - 4 * bare:.0f}", ""
+    listed = of(*text_and_pattern(text, "e"), b"list\n")
+    yield "`list` of `e`", f"{(listed - set_up['e']) / 1e6:.1f}", "million"
+    first = of(*text_and_pattern(b"", r"\w+")) - of(command("text", b""))
+    yield r"report of `\w+` in an empty text", f"{first / 1e6:.1f}", "million"
     for pattern, template in REWRITTEN:
         replaced = of(*text_and_pattern(text, pattern), command("replace", template.encode()))
         yield f"`replace` of {by_template(pattern, template)}", f"{(replaced - set_up[pattern]) / 1e6:.1f}", "million"

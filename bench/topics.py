@@ -155,8 +155,9 @@ TOPICS = {
         "of `replace` in them, and of `edit` of a letter; of many scripts are lines of which three in five end in a word "
         "that is not ASCII; the plain Rust program's number is the aim of other reports and replacements",
         [sessions.count_instructions],
-        in_the_way="of a line with a `TODO` the looks through the four lines before it; of a letter the copy "
-        "of the path to it, with 13 requests for memory, and counts of short leaves",
+        in_the_way="of a line with a `TODO` the look at a chunk's end, and the search after its match, which finds nothing; "
+        r"of reports of `e` and `(\w+) (\w+)` what each match and each line cost beside their bytes; of `replace` of `e` "
+        "the lists of matches and patches; of a letter the copy of the path to it",
     ),
     "growth": Topic(
         "a letter put in a random line under the pattern `let`, as the text of 50 bytes a line grows",
@@ -219,11 +220,14 @@ TOPICS = {
         left_out=r"plain Rust|: 100,000 letters|: 10,000 letters",
     ),
     "proportion": Topic(
-        "whether the worst inputs known take instructions, as valgrind's callgrind counts them, time and memory in proportion "
-        "to their size: each beside one of a quarter of the size; patterns weigh up to 262,144, and the size is that of the "
-        "text, or the number of lines, buffers, steps or edits",
-        [proportion.grow_worst, proportion.grow_edits, proportion.time_largest],
+        "whether the worst inputs known take instructions, as valgrind's callgrind counts them, and memory in proportion to "
+        "their size, the largest ones time: each beside one of a quarter of the size, which is that of the text, or a number of "
+        "lines, matches, buffers, steps or edits; patterns weigh up to 262,144",
+        [proportion.grow_worst, proportion.grow_calls, proportion.time_largest],
+        left_out=r"`(\.\*\?x\|a|\.\*x\|\.|\(a\|b\)\*c\|a)`[a-z ]*, (200|40),000 bytes",
         built=("bin/librope_search.a",),
+        in_the_way="under a pattern that is longer than the text each letter is a step of as many states as there are letters "
+        "before it; `join` takes time in proportion to the steps times the ranges that they change",
     ),
     "indices": Topic(
         "counts and conversions of `str_indices`, beside plain loops",
