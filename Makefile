@@ -1,6 +1,9 @@
 # make          builds bin/rope-search, the proved program
 # make demo     runs it on the commands of examples/first.session, and shows each with its reply; if it
 #               isn't built, rt runs it with checks instead of proofs, within two minutes
+# make quick CRATES=NAME
+#               during a change: formats and proves the crate, after those below it, and runs the test functions of the
+#               nearest crate of tests above it, compiled with checks
 # make check    before a commit: formats, proves and tests the crates that changed and every crate above
 #               them, using results of earlier runs, with the programs, and the gate's must-fail edits of
 #               the files that changed. CRATES='NAME ..' adds crates
@@ -48,7 +51,7 @@ need_rt = $(if $(shell command -v $(RT) 2>/dev/null),,$(error $(missing)))
 news := sed -unE -e 's/^rt: chose .* for (.*)/\1/p' -e 's/^so far: ([0-9]+ of [0-9]+ functions).*/    \1/p' \
 	-e 's/^(logic=[^ ]+ functions=[0-9]+).*/    \1/p'
 
-.PHONY: all programs lib web demo check test gate edits bench install release clean
+.PHONY: all programs lib web demo quick check test gate edits bench install release clean
 .DELETE_ON_ERROR:
 
 all: $(program)
@@ -164,6 +167,11 @@ release: $(program) lib web
 demo:
 	@$(if $(wildcard $(program)),,:$(need_rt))
 	@RT='$(RT)' examples/demo.py $(session)
+
+quick:
+	@:$(need_rt)
+	@$(if $(CRATES),,$(error name the crate, as make quick CRATES=rope_search))
+	@RT='$(RT)' JOBS='$(JOBS)' tools/check --quick $(CRATES)
 
 check:
 	@:$(need_rt)

@@ -228,8 +228,8 @@ def test_length():
     written = {os.path.join(TOP, "docs", name) for name in ("meaning.md", "definitions.md")}
     pages = {results, *(os.path.join(TOP, name) for name in ("README.md", "CONTRIBUTING.md")), *glob.glob(os.path.join(TOP, "docs", "*.md"))}
     readmes = glob.glob(os.path.join(TOP, "crates", "*", "README.md"))
-    for what, count, most in (("bench/RESULTS.md has", words(results), 3_200), ("the pages have", words(*pages - written), 22_000),
-                              ("the READMEs of crates have", words(*readmes), 6_000)):
+    for what, count, most in (("bench/RESULTS.md has", words(results), 4_700), ("the pages have", words(*pages - written), 23_200),
+                              ("the READMEs of crates have", words(*readmes), 7_200)):
         test(f"{what} {most:,} words at most", [] if count <= most else [f"it is {count:,}"])
 
 

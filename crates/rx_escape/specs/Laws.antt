@@ -10,7 +10,7 @@ use Rattle.rx_program.specs.Code.{program_of}
 use Rattle.rx_escape.specs.Escaped.{escaped, text_tree}
 
 -- the escaped text is a pattern, whose tree is that of the text, unless it is too long, or the
--- setting `i` makes each character stand for others too
+-- setting `i` makes each character match others too
 abbrev pub SpellsItsText : List ℕ → Settings → Type 0
 SpellsItsText text settings = all_scalars text ≡ true → settings.case_insensitive ≡ false
     → length (encode_utf8_all (escaped text)) ≤ 65536

@@ -57,7 +57,7 @@ IsFoundOnward p s q len from i None =
 IsFoundOnward p s q len from i (Some t) = begins_from s from i
     × Follows (machine_in p s) i [] ((no_slots len, first_node q) ∷ []) (Some t)
 
--- where a list goes on from an offset: after it, unless that was the last one; or at the end of a
+-- where a list continues from an offset: after it, unless that was the last one; or at the end of a
 -- match
 abbrev pub IsTaken : ByteProgram → Search → ℕ → ℕ → ℕ → List Listed → Bool → ℕ → Option ℕ → Type 0
 IsTaken p s q len i found after from None = (after ≡ false) × (from ≤ i + 1)

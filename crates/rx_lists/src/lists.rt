@@ -103,7 +103,7 @@ struct Walking {
 /// Returns the end of the match that starts at the input's position, if there is one, in a find
 /// that began at `from`; the walk has its slots then. The input's position may be another one
 /// afterwards. The current block must reach back to the position, and then reaches back to where
-/// the list goes on. Reads the offset and, if a match starts there, those of its walk, plus those
+/// the list continues. Reads the offset and, if a match starts there, those of its walk, plus those
 /// of recomputed blocks.
 fn find_at<C: Cursor>(
     walk: &mut Walk,

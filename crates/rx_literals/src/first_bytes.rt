@@ -1,4 +1,4 @@
-//! The bytes that needles begin with, where there are few.
+//! The bytes that needles begin with, if they are few.
 
 ghost use Rattle.std.specs.Prelude.{◌≡◌, ◌≤◌, ℕ, true, length, map, IfSome};
 ghost use Rattle.memchr.specs.Find.{IsFirst, IsFirstByte, Passes};
@@ -12,12 +12,13 @@ pub(crate) const COMMON: &[u8] = b" etaoinsr";
 /// The maximum number of needles if one of the bytes is common in texts.
 const FEW: usize = 3;
 
-/// Whether a byte is common in texts.
+/// Returns whether a byte is common in texts.
 pub(crate) fn is_common(byte: u8) -> bool {
     COMMON.contains(&byte)
 }
 
-/// One byte or more with which needles begin: as many as `memchr` looks for at once.
+/// The bytes that needles begin with, at least one and at most as many as `memchr` searches for at
+/// once.
 #[derive(Clone, Copy, Debug)]
 pub(crate) enum FirstBytes {
     One(u8),
@@ -26,7 +27,7 @@ pub(crate) enum FirstBytes {
 }
 
 impl FirstBytes {
-    /// These bytes and one more, which may be among them; `None` where they would be four.
+    /// Adds a byte, which may be among them. Returns `None` if there would be four.
     fn with(self, byte: u8) -> Option<FirstBytes>
         ensures has { IfSome result (λ more. is_among more byte ≡ true) }
         ensures keeps { IfSome result (λ more. (x : ℕ) → is_among self x ≡ true
@@ -42,7 +43,7 @@ impl FirstBytes {
         }
     }
 
-    /// The bytes that these needles begin with; `None` where there are more than three, or no
+    /// Returns the bytes that these needles begin with; `None` if there are more than three, no
     /// needle, or an empty one.
     pub(crate) fn of(needles: &[&[u8]]) -> Option<FirstBytes>
         ensures { IfSome result
@@ -55,7 +56,7 @@ impl FirstBytes {
         Some(first)
     }
 
-    /// Whether one of them is common in texts.
+    /// Returns whether one of them is common in texts.
     fn has_common(&self) -> bool {
         match *self {
             FirstBytes::One(a) => is_common(a),
@@ -64,7 +65,7 @@ impl FirstBytes {
         }
     }
 
-    /// Whether more than one of them is common in texts.
+    /// Returns whether more than one of them is common in texts.
     fn are_common(&self) -> bool {
         match *self {
             FirstBytes::One(_) => false,
@@ -81,7 +82,7 @@ impl FirstBytes {
         !self.are_common() && (needles <= FEW || !self.has_common())
     }
 
-    /// The first place of `hay` at which one of them stands.
+    /// Returns the offset in `hay` of the first of these bytes.
     fn find(&self, hay: &[u8]) -> Option<usize>
         ensures { IsFirstByte (is_among self.now) hay.now result }
     {
@@ -92,7 +93,7 @@ impl FirstBytes {
         }
     }
 
-    /// The first place of `hay` from one on at which one of them stands.
+    /// Returns the first offset in `hay`, from a given one on, that has one of these bytes.
     pub(crate) fn find_from(&self, hay: &[u8], from: usize) -> Option<usize>
         requires { from ≤ length hay.now }
         ensures { IsFirst (Passes (is_among self.now) hay.now) from (length hay.now) result }

@@ -1,4 +1,5 @@
-//! Literals that matches begin with: prefilters, and what they find in contents that lie in pieces.
+//! Literals that matches begin with: prefilters, and where their needles occur in haystacks that
+//! are split into chunks.
 #![tactic(auto)]
 
 mod beginning;

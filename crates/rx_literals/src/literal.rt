@@ -1,4 +1,4 @@
-//! Searches for the needles of a prefilter in a content that lies in pieces.
+//! Finds the needles of a prefilter in a haystack that is split into chunks.
 
 ghost use Rattle.std.specs.Prelude.{◌≡◌, ◌+◌, ◌<◌, ◌≤◌, ◌↔◌, ◌^◌, IsTrue, Some, length, min, slice_get};
 ghost use Rattle.memchr.specs.Find.{OccursAt};
@@ -10,7 +10,7 @@ use crate::prefilter::Prefilter;
 use rx_input::{Cursor, Input};
 use rx_util::Span;
 
-/// The bytes of the span from the position on, as far as the piece that is shown has them.
+/// Returns the bytes of the span from the position to the end of the current chunk.
 #[inline(always)]
 pub(crate) fn left_in_piece<C: Cursor>(input: &Input<C>) -> &[u8]
     ensures part { result.now ≡ between input.now.position
@@ -21,7 +21,7 @@ pub(crate) fn left_in_piece<C: Cursor>(input: &Input<C>) -> &[u8]
     &input.chunk()[input.chunk_pos().min(end)..end]
 }
 
-/// Whether this byte stands at a place of the content.
+/// Returns whether the haystack has this byte at an offset.
 fn has_byte<C: Cursor>(input: &mut Input<C>, at: usize, byte: u8) -> bool
     ensures byte { IsTrue result ↔ (slice_get input.old.cursor.content at ≡ Some byte) }
     ensures same { IsSameContent input.old.cursor input.new.cursor }
@@ -34,7 +34,7 @@ fn has_byte<C: Cursor>(input: &mut Input<C>, at: usize, byte: u8) -> bool
     }
 }
 
-/// Whether a needle, which mustn't be empty, occurs at a place in the span.
+/// Returns whether a needle, which mustn't be empty, occurs at an offset in the span.
 fn occurs_at<C: Cursor>(input: &mut Input<C>, at: usize, needle: &[u8]) -> bool
     requires { 1 ≤ length needle.now }
     ensures occurs { IsTrue result ↔ OccursAt (bytes_to_end input.old) needle.now at }
@@ -53,7 +53,7 @@ fn occurs_at<C: Cursor>(input: &mut Input<C>, at: usize, needle: &[u8]) -> bool
     true
 }
 
-/// What is found at a place.
+/// Returns the occurrence at an offset of the first needle that occurs there.
 fn find_at<C: Cursor>(prefilter: &Prefilter, input: &mut Input<C>, at: usize) -> Option<Span>
     ensures found { FoundAt (bytes_to_end input.old) at prefilter.now result }
     ensures same { IsSameContent input.old.cursor input.new.cursor }
@@ -70,7 +70,7 @@ fn find_at<C: Cursor>(prefilter: &Prefilter, input: &mut Input<C>, at: usize) ->
     None
 }
 
-/// What is found at the least of the places from one up to another, by trying each.
+/// Returns the first occurrence from one offset up to another, by trying each.
 fn try_each<C: Cursor>(
     prefilter: &Prefilter,
     input: &mut Input<C>,
@@ -89,9 +89,9 @@ fn try_each<C: Cursor>(
     None
 }
 
-/// What is found at the least place of the span from the position, which must lie in it, up to the
-/// end of the piece that is shown. Most needles lie in the piece; those that may lie across its end
-/// start at the last places of it.
+/// Returns the first occurrence from the position, which must be in the span, to the end of the
+/// current chunk. Most needles are inside the chunk; those that may continue in the next one start
+/// at the last offsets of it.
 #[inline(always)]
 fn find_in_piece<C: Cursor>(prefilter: &Prefilter, input: &mut Input<C>) -> Option<Span>
     requires { input.old.position ≤ min input.old.asked.span.end input.old.cursor.end }
@@ -103,7 +103,7 @@ fn find_in_piece<C: Cursor>(prefilter: &Prefilter, input: &mut Input<C>) -> Opti
     let at = input.position();
     let hay = left_in_piece(input);
     let len = hay.len();
-    // At so many places each needle that may occur lies in the piece.
+    // At this number of offsets each needle that may occur is inside the chunk.
     let told = if at + len == input.end() {
         len
     } else {
@@ -118,14 +118,16 @@ fn find_in_piece<C: Cursor>(prefilter: &Prefilter, input: &mut Input<C>) -> Opti
     }
 }
 
-/// The least place in the span at which a needle of the prefilter lies whole in it, and the first
-/// needle in the prefilter's order that does there, as where it lies; `None` where there is none.
-/// The content and what is asked for stay as they are. It asks for no memory.
+/// Returns the first occurrence of a needle inside the span, and at that offset of the first needle
+/// in the prefilter's order; `None` if there is none. Haystack and request stay as they are. It
+/// allocates nothing.
 ///
-/// Where there is one needle it takes time in proportion to the span's bytes and pieces; where
-/// there are several, also for each needle at each place where a needle's first byte stands, and if
-/// they have more than three first bytes at each place. At the last places of a piece, fewer than
-/// the longest needle has bytes, each needle is tried too.
+/// # Complexity
+///
+/// With one needle, time proportional to the span's bytes and chunks. With several, each needle is
+/// also tried at each offset that has the first byte of a needle, or at each offset if they begin
+/// with more than three different bytes. At the last offsets of a chunk, fewer than the longest
+/// needle has bytes, each needle is tried too.
 pub fn find<C: Cursor>(prefilter: &Prefilter, input: &mut Input<C>) -> Option<Span>
     ensures found { FoundInSpan prefilter.now input.old result }
     ensures same { IsSameContent input.old.cursor input.new.cursor }
@@ -146,8 +148,8 @@ pub fn find<C: Cursor>(prefilter: &Prefilter, input: &mut Input<C>) -> Option<Sp
     }
 }
 
-/// Where the first needle of the prefilter lies that lies whole in the span at its start; `None`
-/// where there is none. The content and what is asked for stay as they are. It asks for no memory.
+/// Returns the occurrence at the span's start of the first needle that occurs there inside the
+/// span; `None` if there is none. Haystack and request stay as they are. It allocates nothing.
 pub fn prefix<C: Cursor>(prefilter: &Prefilter, input: &mut Input<C>) -> Option<Span>
     ensures found { FoundAtStart prefilter.now input.old result }
     ensures same { IsSameContent input.old.cursor input.new.cursor }

@@ -19,7 +19,7 @@ pub record PutsNumber (n : ℕ) (test : ℕ → Bool) (lists lists' : List (List
   pub each : (q : ℕ) → q < length lists
       → get_or lists' q [] ≡ cond (test q) (with_last (get_or lists q []) n) (get_or lists q [])
 
--- `count` lists, of which each is given by its number
+-- `count` lists, each given by its number
 pub record AreLists (count : ℕ) (list : ℕ → List ℕ) (lists : List (List ℕ)) : Type 0 where
   pub len : length lists ≡ count
   pub each : (q : ℕ) → q < count → get_or lists q [] ≡ list q

@@ -51,12 +51,12 @@ RiseFrom n (range ∷ ranges) = (n ≤ range.0) × (range.0 ≤ range.1) × (ran
 abbrev pub IsCanonical : List Range → Type 0
 IsCanonical ranges = RiseFrom 0 ranges
 
--- the maximal ranges of the set of all scalar values of which P holds
+-- the maximal ranges of the set of all scalar values for which P holds
 pub record IsSetOf (ranges : List Range) (P : ℕ → Type 0) : Type 0 where
   pub canonical : IsCanonical ranges
   pub members : (c : ℕ) → IsScalar c → Holds ranges c ↔ P c
 
--- the scalar values with the same simple case folding as one of which P holds
+-- the scalar values with the same simple case folding as one for which P holds
 abbrev pub FoldsInto : (ℕ → Type 0) → ℕ → Type 0
 FoldsInto P c = (d : ℕ) × IsScalar d × P d × (simple_fold c ≡ simple_fold d)
 

@@ -10,7 +10,7 @@ abbrev pub OneOf : {X : Type 0} → (X → Type 0) → List X → Type 0
 OneOf P [] = ⊥
 OneOf P (x ∷ xs) = P x ⊎ OneOf P xs
 
--- the new ranges have the scalar values of the old ones, and those of which P holds
+-- the new ranges have the scalar values of the old ones, and those for which P holds
 abbrev pub Adds : List Range → List Range → (ℕ → Type 0) → Type 0
 Adds old new P = (c : ℕ) → IsScalar c → Holds new c ↔ (Holds old c ⊎ P c)
 

@@ -10,7 +10,7 @@ use Rattle.rx_steps.specs.Lists.{Asks}
 abbrev pub is_look : walks.Look → Bool
 is_look l = true
 
--- a line assertion; the word assertions are those that ask for characters
+-- a line assertion; a word assertion reads characters
 abbrev pub is_of_lines : walks.Look → Bool
 is_of_lines start_line = true
 is_of_lines end_line = true

@@ -87,9 +87,9 @@ pub record AreUnderWayAll {N : Type 0} (m : Machine (ℕ × ℕ) N) (i : ℕ) (t
   pub so_far : (next : List Started) (more : List (ℕ × ℕ)) → StepsAll m i seen left next more
       → StepsAll m i [] threads (out ++ next) (ends ++ more)
 
--- Nodes are followed, which threads with one start have reached, until others are left: `reached`
--- went into the next list, and the matches of the patterns `ended` ended, of which the best is
--- reported.
+-- The nodes that threads with one start have reached are followed until others are left: those of
+-- `reached` are in the next list then, and matches of the patterns `ended` have ended, the best of
+-- which is reported.
 pub record FollowsAll (p : ByteProgram) (place : Place) (start : ℕ) (left left' : List (ℕ × ℕ))
     (ids ids' : List ℕ) (next next' : List Thread) (met : Option MetEnd) : Type 0 where
   pub reached : List (ℕ × ℕ)

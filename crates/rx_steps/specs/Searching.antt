@@ -1,4 +1,4 @@
--- The search that an input asks for.
+-- The search that an input requests.
 use Rattle.std.specs.Prelude.{◌≡◌, ℕ, ◌<◌, ◌≤◌, zero, suc, Bool, true, false, [], ◌∷◌, length, Option, Some, None, option_map}
 use Rattle.unicode.specs.Perl.{is_word_char}
 use Rattle.rx_util.specs.declared.search.Anchored.{Anchored}

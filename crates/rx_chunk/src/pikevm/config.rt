@@ -28,7 +28,7 @@ impl Model for Config {
 }
 
 impl Config {
-    /// Returns settings of which none is set.
+    /// Returns settings with none set.
     pub fn new() -> Config
         ensures { result ≡ none_set }
     {
