@@ -179,7 +179,8 @@ TOPICS = {
         "makes none",
         [sessions.replace_matches],
         left_out=": matches",
-        in_the_way="with groups the PikeVM reads each match once more",
+        in_the_way="with groups the PikeVM read each match once more, when this was measured; a single thread now reads most "
+        "of them, as the instructions above show",
     ),
     "places": Topic(
         "calls that change many places of a text at once: in 400,000 lines `replace_listed` of all lines beside `replace`, "
